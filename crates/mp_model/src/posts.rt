@@ -1,0 +1,46 @@
+//! The times at which a record wakes its key.
+ghost use Rattle.std.specs.Prelude.{◌≡◌, ◌<◌, ◌++◌, ◌∷◌, [], length};
+
+use crate::Time;
+use arrayvec::ArrayVec;
+use std::marker::Model;
+
+/// At most six times, in order. Contracts see the list of them.
+#[derive(Drop, Debug)]
+pub struct PostList {
+    times: ArrayVec<Time, 6>,
+}
+
+impl Model for PostList {
+    ghost use Rattle.std.specs.Prelude.{ℕ, List};
+
+    ghost Value = { List ℕ };
+
+    ghost view = { λ p. p.times.items };
+}
+
+impl PostList {
+    /// No times.
+    pub fn new() -> PostList
+        ensures { result ≡ [] }
+    {
+        PostList {
+            times: ArrayVec::new(),
+        }
+    }
+
+    /// Adds a time at the end.
+    pub fn push(&mut self, time: Time)
+        requires { length self.old < 6 }
+        ensures { self.new ≡ self.old ++ time ∷ [] }
+    {
+        self.times.push(time);
+    }
+
+    /// The times, in order.
+    pub fn as_slice(&self) -> &[Time]
+        ensures { result.now ≡ self.now }
+    {
+        self.times.as_slice()
+    }
+}
