@@ -13,8 +13,9 @@ mod value;
 
 pub use fields::{Field, Fields};
 pub use group::Group;
+pub use mp_names::Tag;
 pub use posts::PostList;
-pub use record::{Event, Rec, Tag};
+pub use record::{Event, Rec};
 pub use text::Text;
 pub use value::Value;
 

@@ -1,13 +1,8 @@
 //! Events, and the records that they make.
 ghost use Rattle.std.specs.Prelude.{◌≡◌};
 
-use crate::{Time, Value};
+use crate::{Tag, Time, Value};
 use std::alloc::AllocError;
-
-/// The place of a record among those of its time. In the first stage it is (0, index of the event); an output of a group
-/// has (key of the group, its place among the group's outputs).
-#[derive(Clone, Copy, PartialEq, Eq, PartialOrd, Ord, Debug)]
-pub struct Tag(pub u64, pub u64);
 
 /// One event of the event file.
 #[derive(Drop, Debug)]

@@ -1,0 +1,15 @@
+pub mod Lists
+pub mod Orders
+pub mod Mails
+pub mod Owners
+pub mod Reach
+pub mod Listed
+pub mod Steps
+pub mod Hosts
+pub mod Exact
+pub mod Exists
+pub mod Grows
+pub mod Whole
+pub mod Keeps
+pub mod Samples
+pub mod Counting

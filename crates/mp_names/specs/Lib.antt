@@ -1,0 +1,9 @@
+pub mod Names
+pub mod Controls
+pub mod Outlines
+pub mod Logs
+pub mod Locations
+pub mod Frontiers
+pub mod Keeping
+pub mod Laws
+pub mod Samples

@@ -1,0 +1,20 @@
+//! The theory at the bottom of the protocol: the names of a job's things, the outline of a job, the
+//! logs of its workers, what their counts tell, and the theorem that frontiers are exact. It knows no
+//! query, no cell and no value.
+#![tactic(auto)]
+
+mod controls;
+mod kinds;
+mod laws;
+mod locations;
+mod names;
+
+pub use controls::{Control, Move, Shape};
+pub use kinds::Kind;
+pub use laws::{
+    counts_may_cancel, frontiers_are_exact, least_group_is_whole, locations_reach_along_paths,
+    logs_stay_legal, moves_hold_frontiers_back, names_are_counted, owners_follow_controls,
+    sound_outlines_are_there, work_is_listed,
+};
+pub use locations::{Frontier, Loc};
+pub use names::{Name, Tag};
