@@ -1,0 +1,86 @@
+//! Reading and writing numbers.
+ghost use Rattle.std.specs.Prelude.{◌≡◌, ◌≤◌, ◌++◌, OnOk, OnErr};
+ghost use Rattle.std.specs.Char.{is_ascii_digit};
+ghost use Rattle.std.specs.Fmt.{decimal};
+ghost use Rattle.std.specs.List.{list_all};
+ghost use Rattle.std.specs.Option.{SomeIff};
+ghost use Rattle.std.specs.Str.Parse.{AllDigits};
+ghost use Rattle.mp_text.specs.Numbers.{is_number, number_of, value_of};
+
+use std::alloc::AllocError;
+use std::error::Error;
+use std::fmt;
+
+/// What is wrong with a text that should say a number.
+#[derive(Clone, Copy, PartialEq, Eq, Debug)]
+pub enum BadNumber {
+    /// It is empty, or has a byte that is no digit.
+    Digits,
+    /// It is digits alone, and their value is above the greatest that is allowed.
+    Range,
+}
+
+impl fmt::Display for BadNumber {
+    fn fmt<W: fmt::Write>(&self, f: &mut fmt::Formatter<W>) -> fmt::Result {
+        f.write_str(match self {
+            BadNumber::Digits => "not a number",
+            BadNumber::Range => "number out of range",
+        })
+    }
+}
+
+impl Error for BadNumber {}
+
+/// The number that `text` says in decimal digits, of which any count may be leading zeros.
+///
+/// `Digits` comes exactly where `text` is empty or has a byte other than `0` to `9`, and `Range`
+/// exactly where it is digits alone that are worth more than `max`.
+pub fn number(text: &[u8], max: u64) -> Result<u64, BadNumber>
+    ensures { result ≡ number_of text.now max }
+{
+    if !is_digits(text) {
+        return Err(BadNumber::Digits);
+    }
+    value_within(text, max).ok_or(BadNumber::Range)
+}
+
+/// Whether `text` is one or more digits.
+fn is_digits(text: &[u8]) -> bool
+    ensures { result ≡ is_number text.now }
+{
+    !text.is_empty() && all_digits(text)
+}
+
+/// Whether `text` has no byte but digits.
+fn all_digits(text: &[u8]) -> bool
+    ensures { result ≡ list_all is_ascii_digit text.now }
+{
+    text.iter().all(|byte| byte.is_ascii_digit())
+}
+
+/// What digits are worth, or `None` where that is above `max`.
+fn value_within(digits: &[u8], max: u64) -> Option<u64>
+    requires { AllDigits 10 digits.now }
+    ensures { SomeIff result (value_of digits.now ≤ max) (value_of digits.now) }
+{
+    let mut value = 0u64;
+    for digit in digits {
+        value = value
+            .checked_mul(10)?
+            .checked_add(u64::from(*digit - b'0'))?;
+        if value > max {
+            return None;
+        }
+    }
+    Some(value)
+}
+
+/// Appends the decimal text of `n`, without leading zeros. Where there is no memory for it, `out`
+/// stays as it was.
+pub fn put_number(out: &mut Vec<u8>, n: u64) -> Result<(), AllocError>
+    ensures written { OnOk result (out.new.items ≡ out.old.items ++ decimal n) }
+    ensures kept { OnErr result (out.new.items ≡ out.old.items) }
+{
+    let mut buffer = itoa::Buffer::new();
+    out.extend_from_slice(buffer.format(n).as_bytes())
+}
