@@ -1,0 +1,108 @@
+// A depot in memory, whose calls can be told to fail.
+ghost use Rattle.std.specs.Prelude.{◌≡◌, ◌≢◌, ◌+◌, Some, None, is_some, option_copied, OnErr, OnOk};
+ghost use Rattle.mp_outside.specs.Calls.{faults_of, no_calls, with_failure};
+ghost use Rattle.mp_outside.specs.Files.{file_at, with_file};
+ghost use Rattle.mp_outside.specs.Memory.{depot_files, depot_calls, depot_read_faults, depot_write_faults};
+ghost use Rattle.mp_outside.specs.declared.op.Op.{Op as Method};
+
+use crate::failures::Failures;
+use crate::shelf::Shelf;
+use crate::{Depot, Fault, Op};
+use std::alloc::{AllocError, Global};
+
+/// A depot in memory. It tells its files, takes a whole piece at once, and fails only where it was
+/// told to.
+#[derive(Drop)]
+pub struct MemDepot {
+    shelf: Shelf,
+    failures: Failures,
+}
+
+impl MemDepot {
+    /// A depot with no files, none of whose calls fails.
+    pub fn new(alloc: Global) -> MemDepot
+        ensures files { depot_files result ≡ Some (λ _. None) }
+        ensures calls { (op : Method) → depot_calls result op ≡ no_calls }
+    {
+        MemDepot {
+            shelf: Shelf::new(alloc),
+            failures: Failures::new(alloc),
+        }
+    }
+
+    /// Gives the depot a file of this name with these bytes, whether the name was there or not. It
+    /// is no call of `begin` or `append`.
+    pub fn put(&mut self, name: &str, bytes: &[u8]) -> Result<(), AllocError>
+        ensures ok { OnOk result
+            (depot_files self.new ≡ with_file (depot_files self.old) name.now bytes.now) }
+        ensures err { OnErr result (depot_files self.new ≡ depot_files self.old) }
+        ensures calls { (op : Method) → depot_calls self.new op ≡ depot_calls self.old op }
+    {
+        self.shelf.put(name, bytes)
+    }
+
+    /// The bytes of a name, or None where it isn't there.
+    pub fn get(&self, name: &str) -> Option<&[u8]>
+        ensures { option_copied result ≡ file_at (depot_files self.now) name.now }
+    {
+        self.shelf.get(name)
+    }
+
+    /// Makes the nth call of this method fail with `Failed`. Calls are counted from 1, from the
+    /// first that was ever made of that method on this depot; one that was made already stays as it
+    /// was. Several may be told to fail.
+    pub fn fail(&mut self, op: Op, nth: u64) -> Result<(), AllocError>
+        ensures planned { OnOk result
+            (depot_calls self.new op ≡ with_failure (depot_calls self.old op) nth) }
+        ensures others { (other : Method) → other ≢ op →
+            depot_calls self.new other ≡ depot_calls self.old other }
+        ensures err { OnErr result (depot_calls self.new op ≡ depot_calls self.old op) }
+
+        ensures files { depot_files self.new ≡ depot_files self.old }
+        ensures reads { depot_read_faults self.new ≡ depot_read_faults self.old }
+        ensures writes { depot_write_faults self.new ≡ depot_write_faults self.old }
+    {
+        self.failures.fail(op, nth)
+    }
+}
+
+impl Depot for MemDepot {
+    ghost files = { depot_files };
+
+    ghost read_faults = { depot_read_faults };
+
+    ghost write_faults = { depot_write_faults };
+
+    ghost found = { λ before name there after.
+        there ≡ is_some (file_at (depot_files before) name) };
+
+    fn find(&mut self, name: &str) -> Result<bool, Fault> {
+        if self.failures.find.count() {
+            return Err(Fault::Failed);
+        }
+        Ok(self.shelf.get(name).is_some())
+    }
+
+    fn read(&mut self, name: &str, at: u64, into: &mut [u8]) -> Result<usize, Fault> {
+        if self.failures.read.count() {
+            return Err(Fault::Failed);
+        }
+        Ok(self.shelf.read(name, at, into))
+    }
+
+    fn begin(&mut self, name: &str) -> Result<(), Fault> {
+        if self.failures.begin.count() {
+            return Err(Fault::Failed);
+        }
+        self.shelf.put(name, &[])?;
+        Ok(())
+    }
+
+    fn append(&mut self, name: &str, piece: &[u8]) -> Result<usize, Fault> {
+        if self.failures.append.count() {
+            return Err(Fault::Failed);
+        }
+        self.shelf.append(name, piece)?;
+        Ok(piece.len())
+    }
+}

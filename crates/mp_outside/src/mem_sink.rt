@@ -1,0 +1,68 @@
+// A sink in memory, whose writes can be told to fail.
+ghost use Rattle.std.specs.Prelude.{◌≡◌, ◌≢◌, [], Some, OnErr, OnOk};
+ghost use Rattle.mp_outside.specs.Calls.{no_calls, with_failure};
+ghost use Rattle.mp_outside.specs.Memory.{sink_bytes, sink_calls, sink_faults};
+ghost use Rattle.mp_outside.specs.declared.op.Op.{Op as Method};
+
+use crate::failures::Failures;
+use crate::{Fault, Op, Sink};
+use std::alloc::{AllocError, Global};
+
+/// A sink in memory. It tells its bytes, takes a whole piece at once, and fails only where it was
+/// told to.
+#[derive(Drop)]
+pub struct MemSink {
+    bytes: Vec<u8>,
+    failures: Failures,
+}
+
+impl MemSink {
+    /// A sink to which nothing was written, none of whose calls fails.
+    pub fn new(alloc: Global) -> MemSink
+        ensures bytes { sink_bytes result ≡ [] }
+        ensures calls { (op : Method) → sink_calls result op ≡ no_calls }
+    {
+        MemSink {
+            bytes: Vec::new(alloc),
+            failures: Failures::new(alloc),
+        }
+    }
+
+    /// The bytes written so far.
+    pub fn bytes(&self) -> &[u8]
+        ensures { result.now ≡ sink_bytes self.now }
+    {
+        self.bytes.as_slice()
+    }
+
+    /// Makes the nth call of this method fail with `Failed`. Calls are counted from 1, from the
+    /// first that was ever made of that method on this sink; one that was made already stays as it
+    /// was. Several may be told to fail. A sink has the method `Write` alone.
+    pub fn fail(&mut self, op: Op, nth: u64) -> Result<(), AllocError>
+        ensures planned { OnOk result
+            (sink_calls self.new op ≡ with_failure (sink_calls self.old op) nth) }
+        ensures others { (other : Method) → other ≢ op →
+            sink_calls self.new other ≡ sink_calls self.old other }
+        ensures err { OnErr result (sink_calls self.new op ≡ sink_calls self.old op) }
+
+        ensures bytes { sink_bytes self.new ≡ sink_bytes self.old }
+        ensures writes { sink_faults self.new ≡ sink_faults self.old }
+    {
+        self.failures.fail(op, nth)
+    }
+}
+
+impl Sink for MemSink {
+    ghost written = { λ sink. Some (sink_bytes sink) };
+
+    ghost faults = { sink_faults };
+
+    #[tactic(auto, unfolding(crate::specs::Sink::grown))]
+    fn write(&mut self, piece: &[u8]) -> Result<usize, Fault> {
+        if self.failures.write.count() {
+            return Err(Fault::Failed);
+        }
+        self.bytes.extend_from_slice(piece)?;
+        Ok(piece.len())
+    }
+}

@@ -1,0 +1,19 @@
+// A sink for those who write nothing.
+ghost use Rattle.std.specs.Prelude.{◌-◌, ◌^◌, [], Some};
+
+use crate::{Fault, Sink};
+
+/// A sink for those who write nothing, as every worker but the first. It takes no call: each is
+/// answered `Failed`, nothing is ever written, and its count stands at its last value.
+#[derive(Clone, Copy, Debug, Default)]
+pub struct NoSink;
+
+impl Sink for NoSink {
+    ghost written = { λ _. Some [] };
+
+    ghost faults = { λ _. 2 ^ 64 - 1 };
+
+    fn write(&mut self, _piece: &[u8]) -> Result<usize, Fault> {
+        Err(Fault::Failed)
+    }
+}

@@ -1,0 +1,11 @@
+// The methods of a depot and a sink, by which a fake is told which call fails.
+
+/// A method of `Depot` or `Sink`.
+#[derive(Clone, Copy, Debug, PartialEq, Eq)]
+pub enum Op {
+    Find,
+    Read,
+    Begin,
+    Append,
+    Write,
+}
