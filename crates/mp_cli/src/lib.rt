@@ -1,0 +1,21 @@
+//! The command line of megaphone: what the words ask for, done on the files of a depot.
+#![tactic(auto)]
+
+mod answer;
+mod bids;
+mod pieces;
+mod reading;
+mod refusal;
+mod serve;
+mod status;
+#[cfg(test)]
+mod tests;
+mod top;
+mod words;
+mod writing;
+
+pub use status::{Status, lack_memory};
+pub use top::run;
+
+/// How many bytes a file that is read may have: 2^28.
+pub const MAX_BYTES: u64 = 1 << 28;

@@ -1,0 +1,43 @@
+//! The status that a call ends with.
+ghost use Rattle.std.specs.Prelude.{◌≡◌, ◌⊎◌, ◌≤◌, ℕ, take, length, codes};
+ghost use Rattle.mp_outside.specs.Fault.{Rose};
+ghost use Rattle.mp_outside.specs.Sink.{grown};
+ghost use Rattle.mp_cli.specs.Outcome.{line_said, status_of};
+ghost use Rattle.mp_cli.specs.Refused.{outcome_of};
+
+use crate::refusal::Refusal;
+use mp_outside::{Fault, Sink};
+
+/// How a call ended: the status of the process.
+#[derive(Clone, Copy, Debug, PartialEq, Eq)]
+pub struct Status {
+    /// 0 where all is done, else the number of the refusal.
+    pub code: u8,
+}
+
+/// Says why there is no answer. Its status is that of the refusal, but where `said` finds no memory: then it is that of
+/// want of memory.
+pub fn refuse<S: Sink>(refusal: &Refusal, said: &mut S) -> Status
+    ensures code { (result.code ≡ status_of (outcome_of refusal.now)) ⊎ (result.code ≡ 8) }
+    ensures said { (k : ℕ) × (S.written said.new ≡ grown (S.written said.old) (take k (line_said (outcome_of refusal.now)))) × ((length (line_said (outcome_of refusal.now)) ≤ k) ⊎ (Rose (S.faults said.old) (S.faults said.new) ⊎ (result.code ≡ 8))) }
+{
+    match refusal.say(said) {
+        Ok(()) => Status {
+            code: refusal.status(),
+        },
+        Err(Fault::Failed) => Status {
+            code: refusal.status(),
+        },
+        Err(Fault::NoMemory) => Status {
+            code: Refusal::NoMemory.status(),
+        },
+    }
+}
+
+/// Ends a call for which there was no memory before its words were read.
+pub fn lack_memory<S: Sink>(said: &mut S) -> Status
+    ensures code { result.code ≡ 8 }
+    ensures said { (k : ℕ) × (S.written said.new ≡ grown (S.written said.old) (take k (codes "no memory\n"))) }
+{
+    refuse(&Refusal::NoMemory, said)
+}
