@@ -1,0 +1,17 @@
+pub mod Puts
+pub mod Searches
+pub mod Conditions
+pub mod Candidates
+pub mod Turns
+pub mod Keeps
+pub mod Mailboxes
+pub mod Worlds
+pub mod Holding
+pub mod Order
+pub mod Feeders
+pub mod Stuck
+pub mod Full
+pub mod Bounds
+pub mod Places
+pub mod Ends
+pub mod Samples
