@@ -1,0 +1,4 @@
+pub mod Placing
+pub mod Searching
+pub mod Hashing
+pub mod Gaps

@@ -1,0 +1,4 @@
+pub mod Bins
+pub mod Notes
+pub mod Places
+pub mod Laws

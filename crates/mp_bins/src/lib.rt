@@ -1,0 +1,14 @@
+//! Bins of keys, and who owns a bin at each time, as the control records that were noted say.
+#![tactic(auto)]
+
+mod bin;
+mod laws;
+mod owners;
+mod places;
+#[cfg(test)]
+mod tests;
+
+pub use bin::bin_of;
+pub use laws::{bins_are_leading_bits, order_does_not_matter};
+pub use mp_names::{Control, Move, Shape};
+pub use owners::Owners;
