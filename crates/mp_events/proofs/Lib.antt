@@ -1,0 +1,6 @@
+-- The lemmas of this crate.
+mod FieldSteps
+pub mod LegalEvents
+mod LineSteps
+mod Numbers
+mod SoFar

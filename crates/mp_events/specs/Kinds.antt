@@ -1,0 +1,25 @@
+-- The kinds of lines, and the checks of their fields.
+use Rattle.std.specs.Prelude.{ℕ, Option, Some, None, List, [], ◌∷◌, codes, if◌then◌else◌}
+use Rattle.std.specs.Str.{bytes_eq}
+use Rattle.mp_events.specs.declared.checks.FieldCheck.{FieldCheck}
+use Rattle.mp_events.specs.declared.checks.FieldCheck.TheVariants.{NumberUpTo, NameUpTo}
+use Rattle.mp_events.specs.declared.kinds.LineKind.{LineKind}
+use Rattle.mp_events.specs.declared.kinds.LineKind.TheVariants.{Person, Auction, Bid}
+use Rattle.mp_model.specs.declared.limits.TheConstants.{MAX_TIME, MAX_ID, MAX_NAME, MAX_PRICE}
+
+-- the kind that a line's first field says
+abbrev pub kind_of : List ℕ → Option LineKind
+kind_of field =
+    if bytes_eq field (codes "P") then Some Person
+    else (if bytes_eq field (codes "A") then Some Auction
+    else (if bytes_eq field (codes "B") then Some Bid else None))
+
+-- the checks of the fields after the kind, from left to right
+abbrev pub checks_of : LineKind → List FieldCheck
+-- time, id, name, city, state
+checks_of Person = NumberUpTo MAX_TIME ∷ NumberUpTo MAX_ID ∷ NameUpTo MAX_NAME ∷ NameUpTo MAX_NAME ∷ NameUpTo MAX_NAME ∷ []
+-- time, id, seller, category, reserve, expires
+checks_of Auction =
+    NumberUpTo MAX_TIME ∷ NumberUpTo MAX_ID ∷ NumberUpTo MAX_ID ∷ NumberUpTo MAX_ID ∷ NumberUpTo MAX_PRICE ∷ NumberUpTo MAX_TIME ∷ []
+-- time, auction, bidder, price
+checks_of Bid = NumberUpTo MAX_TIME ∷ NumberUpTo MAX_ID ∷ NumberUpTo MAX_ID ∷ NumberUpTo MAX_PRICE ∷ []

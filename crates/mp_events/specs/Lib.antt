@@ -1,0 +1,8 @@
+-- What the contracts of this crate cite.
+pub mod Checks
+pub mod Events
+pub mod Kinds
+pub mod Legal
+pub mod Lines
+pub mod Read
+pub mod Reasons

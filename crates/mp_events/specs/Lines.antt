@@ -1,0 +1,58 @@
+-- The line of an event: the checks that it fails, and the event that it says.
+use Rattle.std.specs.Prelude.{ℕ, ◌+◌, ◌++◌, ◌==◌, Bool, true, Option, Some, None, List, [], ◌∷◌, drop, length, nat_lt}
+use Rattle.std.specs.Option.{option_map}
+use Rattle.std.specs.List.{slice_index_or}
+use Rattle.mp_events.specs.declared.kinds.LineKind.{LineKind}
+use Rattle.mp_events.specs.declared.kinds.LineKind.TheVariants.{Person as PersonLine, Auction as AuctionLine, Bid as BidLine}
+use Rattle.mp_events.specs.declared.refused.EventsReason.{EventsReason}
+use Rattle.mp_events.specs.declared.refused.EventsReason.TheVariants.{Count, Kind, Fields, Order}
+use Rattle.mp_events.specs.Checks.{failures_of_fields}
+use Rattle.mp_events.specs.Kinds.{checks_of, kind_of}
+use Rattle.mp_events.specs.Reasons.{check}
+use Rattle.mp_model.specs.declared.limits.TheConstants.{MAX_EVENTS}
+use Rattle.mp_model.specs.declared.record.Event.{Event}
+use Rattle.mp_model.specs.declared.value.Value.{Value}
+use Rattle.mp_model.specs.declared.value.Value.TheVariants.{Person, Auction, Bid}
+use Rattle.mp_text.specs.Fields.{fields_of}
+use Rattle.mp_text.specs.Numbers.{value_of}
+
+-- the field at a place of a line, from 0, or no bytes where there is none
+abbrev pub field_at : List (List ℕ) → ℕ → List ℕ
+field_at fields place = slice_index_or fields place []
+
+-- the number that this field says
+abbrev pub number_at : List (List ℕ) → ℕ → ℕ
+number_at fields place = value_of (field_at fields place)
+
+-- whether the times of a line are in order: an auction expires after its time
+abbrev pub is_ordered : LineKind → List (List ℕ) → Bool
+is_ordered PersonLine fields = true
+is_ordered AuctionLine fields = nat_lt (number_at fields 1) (number_at fields 6)
+is_ordered BidLine fields = true
+
+-- the checks that a line of this kind fails, in their order
+abbrev pub failures_of_kind : Option LineKind → List (List ℕ) → List EventsReason
+failures_of_kind None fields = Kind ∷ []
+failures_of_kind (Some kind) fields =
+    check (length fields == length (checks_of kind) + 1) Fields
+    ++ failures_of_fields (checks_of kind) (drop 1 fields)
+    ++ check (is_ordered kind fields) Order
+
+-- the checks that a line's fields fail, in their order, where so many events stand before it
+abbrev pub failures_of : ℕ → List (List ℕ) → List EventsReason
+failures_of before fields = check (nat_lt before MAX_EVENTS) Count ++ failures_of_kind (kind_of (field_at fields 0)) fields
+
+-- what a line of this kind says
+abbrev pub value_by : LineKind → List (List ℕ) → Value
+value_by PersonLine fields = Person (number_at fields 2) (field_at fields 3) (field_at fields 4) (field_at fields 5)
+value_by AuctionLine fields =
+    Auction (number_at fields 2) (number_at fields 3) (number_at fields 4) (number_at fields 5) (number_at fields 6)
+value_by BidLine fields = Bid (number_at fields 2) (number_at fields 3) (number_at fields 4)
+
+-- the event of a line of this kind
+abbrev pub event_by : List (List ℕ) → LineKind → Event
+event_by fields kind = record { time = number_at fields 1; value = value_by kind fields }
+
+-- the event that a line says, which fails no check
+abbrev pub event_of : List ℕ → Option Event
+event_of line = option_map (event_by (fields_of line)) (kind_of (field_at (fields_of line) 0))

@@ -1,0 +1,89 @@
+//! Why an event file is refused.
+ghost use Rattle.std.specs.Prelude.{◌≡◌};
+ghost use Rattle.mp_events.specs.Reasons.{reason_text};
+
+use std::alloc::{AllocError, AllocFailed};
+use std::fmt;
+use thiserror::Error;
+
+/// The check that a line fails. A line is checked in the order of these variants; `Number`, `Range` and
+/// `Name` are checks of its fields, which go from left to right. All of them are this project's profile.
+#[derive(Clone, Copy, PartialEq, Eq, Debug)]
+pub enum EventsReason {
+    /// As many events as a file may have stand before the line.
+    Count,
+    /// The first field isn't `P`, `A` or `B`.
+    Kind,
+    /// The line has more or fewer fields than its kind.
+    Fields,
+    /// A field that should say a number is empty or has a byte that is no digit.
+    Number,
+    /// A number is above its greatest value.
+    Range,
+    /// A name is empty or longer than 64 bytes.
+    Name,
+    /// An auction doesn't expire after its time.
+    Order,
+}
+
+impl EventsReason {
+    /// The reason in one word, as the program prints it.
+    pub fn text(self) -> &'static str
+        ensures { result.now ≡ reason_text self }
+    {
+        match self {
+            EventsReason::Count => "count",
+            EventsReason::Kind => "kind",
+            EventsReason::Fields => "fields",
+            EventsReason::Number => "number",
+            EventsReason::Range => "range",
+            EventsReason::Name => "name",
+            EventsReason::Order => "order",
+        }
+    }
+}
+
+impl fmt::Display for EventsReason {
+    ghost use Rattle.std.specs.Prelude.{Some};
+    ghost use Rattle.mp_events.specs.Reasons.{reason_text};
+
+    ghost output = { λ why. Some (reason_text why) };
+
+    fn fmt<W: fmt::Write>(&self, f: &mut fmt::Formatter<W>) -> fmt::Result {
+        f.write_str(self.text())
+    }
+}
+
+/// Why an event file gives no events.
+#[derive(Debug, Drop, Error)]
+pub enum EventsRefused {
+    /// This line, numbered from 1 with blank lines counted, is the first that fails a check, and this
+    /// is the first check that it fails.
+    #[error("line {line}: {why}")]
+    BadLine { line: u64, why: EventsReason },
+    /// Want of memory, which says nothing of the file.
+    #[error("out of memory")]
+    NoMemory,
+}
+
+impl From<AllocError> for EventsRefused {
+    ghost use Rattle.std.specs.Prelude.{◌≡◌};
+    ghost use Rattle.mp_events.specs.declared.refused.EventsRefused.TheVariants.{NoMemory};
+
+    ghost from_gives = { λ _ refused. refused ≡ NoMemory };
+
+    fn from(_error: AllocError) -> EventsRefused {
+        EventsRefused::NoMemory
+    }
+}
+
+impl<T: Drop> From<AllocFailed<T>> for EventsRefused {
+    ghost use Rattle.std.specs.Prelude.{◌≡◌};
+    ghost use Rattle.mp_events.specs.declared.refused.EventsRefused.TheVariants.{NoMemory};
+
+    ghost from_gives = { λ _ refused. refused ≡ NoMemory };
+
+    fn from(_failed: AllocFailed<T>) -> EventsRefused {
+        EventsRefused::NoMemory
+    }
+}
