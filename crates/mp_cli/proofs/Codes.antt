@@ -7,7 +7,7 @@ use Rattle.mp_outside.proofs.SinkLemmas.{grown-nothing}
 use Rattle.mp_cli.specs.declared.TheConstants.{MAX_BYTES}
 use Rattle.mp_cli.specs.Bids.{bids_of, is_empty_config}
 use Rattle.mp_cli.specs.Ends.{ComesWhere, IsLineAt, Says}
-use Rattle.mp_cli.specs.Outcome.{Outcome, Answered, Usage, EventsRefused, ConfigRefused, NoFile, ReadFault, WriteFault, NoMemory, TooLarge, status_of, line_said, with_text, after_config, after_events, called_for, MayCome, IsFault, IsOfCommand}
+use Rattle.mp_cli.specs.Outcome.{Outcome, Answered, Usage, EventsRefused, ConfigRefused, NoFile, ReadFault, WriteFault, NoMemory, TooLarge, status_of, line_said, with_text, after_config, after_events, called_for, MayCome, MayFail, IsOfCommand}
 use Rattle.mp_cli.specs.Words.{Names}
 
 -- want of memory may always come
@@ -42,16 +42,16 @@ called_for-not_usage told names e = with_text-not_usage names.events (file_at to
         either None h = omega arith
         either (Some events) h = with_text-not_usage names.config (file_at told names.config) after_config config h
 
-fault-not_usage : (o : Outcome) → IsFault o → status_of o ≡ 2 → ⊥
-fault-not_usage Answered f e = f
-fault-not_usage Usage f e = f
-fault-not_usage EventsRefused f e = f
-fault-not_usage ConfigRefused f e = f
-fault-not_usage (NoFile name) f e = f
-fault-not_usage ReadFault f e = omega arith
-fault-not_usage WriteFault f e = omega arith
-fault-not_usage NoMemory f e = omega arith
-fault-not_usage (TooLarge name) f e = f
+fault-not_usage : (called o : Outcome) → MayFail called o → status_of o ≡ 2 → ⊥
+fault-not_usage called Answered f e = f
+fault-not_usage called Usage f e = f
+fault-not_usage called EventsRefused f e = f
+fault-not_usage called ConfigRefused f e = f
+fault-not_usage called (NoFile name) f e = f
+fault-not_usage called ReadFault f e = omega arith
+fault-not_usage called WriteFault f e = omega arith
+fault-not_usage called NoMemory f e = omega arith
+fault-not_usage called (TooLarge name) f e = f
 
 of_command-not_usage : (names : Names) (o : Outcome) → IsOfCommand names o → status_of o ≡ 2 → ⊥
 of_command-not_usage names Answered f e = omega arith
@@ -68,7 +68,7 @@ of_command-not_usage names (TooLarge name) f e = omega arith
 command-not_usage : (names : Names) (told : Option Files) (o : Outcome) → MayCome (Some names) told o → status_of o ≡ 2 → ⊥
 command-not_usage names None o may e = of_command-not_usage names o may e
 command-not_usage names (Some files) o (inl is) e = called_for-not_usage (Some files) names (ap status_of (sym is) ∙ e)
-command-not_usage names (Some files) o (inr fault) e = fault-not_usage o fault e
+command-not_usage names (Some files) o (inr fault) e = fault-not_usage _ o fault e
 
 module _ (command : Option Names) (told : Option Files) (o : Outcome) (code : ℕ) (may : MayCome command told o) (is : (code ≡ status_of o) ⊎ (code ≡ 8)) where
   -- the status is that of an outcome that may come

@@ -7,7 +7,7 @@ use Rattle.mp_outside.specs.Files.{Files, file_at, IsThereWith}
 use Rattle.mp_cli.specs.declared.TheConstants.{MAX_BYTES}
 use Rattle.mp_cli.specs.Words.{Names}
 use Rattle.mp_cli.specs.Bids.{bids_of, is_empty_config}
-use Rattle.mp_cli.specs.Outcome.{Outcome, Answered, EventsRefused, ConfigRefused, WriteFault, NoMemory, with_text, after_config, after_events, called_for, MayCome, IsFault}
+use Rattle.mp_cli.specs.Outcome.{Outcome, Answered, EventsRefused, ConfigRefused, WriteFault, NoMemory, with_text, after_config, after_events, called_for, MayCome, MayFail}
 use Rattle.mp_cli.specs.Reading.{IsRead, CannotRead, absent, large, failed, no_memory, RefusedAt, ReadsBids}
 
 -- the bytes of a name that is there with a property, where files are told
@@ -26,14 +26,14 @@ read_goes_on files name text next r =
     rw (h.1, ← h.2, short) refl
 
 -- why a file gave no text is why the checks stop there
-cannot_goes_off : (files : Files) (name : List ℕ) (next : List ℕ → Outcome) (o : Outcome) → CannotRead (Some files) name o → (o ≡ with_text name (file_at (Some files) name) next) ⊎ IsFault o
-cannot_goes_off files name next o (absent none) = inl (rw none refl)
-cannot_goes_off files name next o (large more) =
+cannot_goes_off : (files : Files) (name : List ℕ) (next : List ℕ → Outcome) (called o : Outcome) → CannotRead (Some files) name o → (o ≡ with_text name (file_at (Some files) name) next) ⊎ MayFail called o
+cannot_goes_off files name next called o (absent none) = inl (rw none refl)
+cannot_goes_off files name next called o (large more) =
     let h = held files name (λ (bytes : List ℕ). MAX_BYTES < length bytes) more in
     let long : nat_le (length h.0) MAX_BYTES ≡ false = lt-leb _ _ h.2 in
     inl (rw (h.1, long) refl)
-cannot_goes_off files name next o failed = inr tt
-cannot_goes_off files name next o no_memory = inr tt
+cannot_goes_off files name next called o failed = inr tt
+cannot_goes_off files name next called o no_memory = inr tt
 
 -- the outcome of a file that could not be read, where files aren't told, is of the command
 CannotRead-of_events : (names : Names) (o : Outcome) → CannotRead None names.events o → MayCome (Some names) None o
@@ -52,7 +52,7 @@ CannotRead-of_config names o no_memory = tt
 pub may_from_events : (told : Option Files) (names : Names) (o : Outcome) → RefusedAt told names.events (λ text. bids_of text ≡ None) EventsRefused o → MayCome (Some names) told o
 may_from_events None names o (inl cannot) = CannotRead-of_events names o cannot
 may_from_events None names o (inr bad) = let P : Outcome → Type 0 = λ x. MayCome (Some names) None x in subst P (sym bad.0) tt
-may_from_events (Some files) names o (inl cannot) = cannot_goes_off files names.events _ o cannot
+may_from_events (Some files) names o (inl cannot) = cannot_goes_off files names.events _ _ o cannot
 may_from_events (Some files) names o (inr bad) =
     let e = read_goes_on files names.events bad.1 (λ (text : List ℕ). after_events (bids_of text) (with_text names.config (file_at (Some files) names.config) after_config)) bad.2 in
     inl (bad.0 ∙ sym (e ∙ rw bad.3 refl))
@@ -68,28 +68,33 @@ pub may_from_config : (told : Option Files) (names : Names) (events : List Event
 may_from_config None names events o r (inl cannot) = CannotRead-of_config names o cannot
 may_from_config None names events o r (inr bad) = let P : Outcome → Type 0 = λ x. MayCome (Some names) None x in subst P (sym bad.0) tt
 may_from_config (Some files) names events o r (inl cannot) =
-    let e = after_bids files names events r in rw e (cannot_goes_off files names.config after_config o cannot)
+    let e = after_bids files names events r in rw e (cannot_goes_off files names.config after_config _ o cannot)
 may_from_config (Some files) names events o r (inr bad) =
     let e = after_bids files names events r in
     let f = read_goes_on files names.config bad.1 after_config bad.2 in
     inl (bad.0 ∙ sym (e ∙ f ∙ rw bad.3 refl))
 
--- both were read
-pub may_be_answered : (told : Option Files) (names : Names) (events : List Event) → ReadsBids told names.events events → ((text : List ℕ) × IsRead told names.config text × (is_empty_config text ≡ true)) → MayCome (Some names) told Answered
-may_be_answered None names events r empty = tt
-may_be_answered (Some files) names events r empty =
+-- both were read, so an answer is called for
+answer_called_for : (files : Files) (names : Names) (events : List Event) → ReadsBids (Some files) names.events events → ((text : List ℕ) × IsRead (Some files) names.config text × (is_empty_config text ≡ true)) → called_for (Some files) names ≡ Answered
+answer_called_for files names events r empty =
     let e = after_bids files names events r in
     let f = read_goes_on files names.config empty.0 after_config empty.1 in
-    inl (sym (e ∙ f ∙ rw empty.2 refl))
+    e ∙ f ∙ rw empty.2 refl
 
--- a fault may come at any time
-pub may_fail : (told : Option Files) (names : Names) (o : Outcome) → (o ≡ WriteFault) ⊎ (o ≡ NoMemory) → MayCome (Some names) told o
-may_fail None names o (inl e) = let P : Outcome → Type 0 = λ x. MayCome (Some names) None x in subst P (sym e) tt
-may_fail None names o (inr e) = let P : Outcome → Type 0 = λ x. MayCome (Some names) None x in subst P (sym e) tt
-may_fail (Some files) names o (inl e) = inr (subst IsFault (sym e) tt)
-may_fail (Some files) names o (inr e) = inr (subst IsFault (sym e) tt)
+-- the writing failed
+fails_writing : (called o : Outcome) → called ≡ Answered → (o ≡ WriteFault) ⊎ (o ≡ NoMemory) → MayFail called o
+fails_writing called o answered (inl e) = subst (MayFail called) (sym e) answered
+fails_writing called o answered (inr e) = subst (MayFail called) (sym e) tt
+
+-- where nothing is told, a fault of the writing is of the command
+fails_untold : (names : Names) (o : Outcome) → (o ≡ WriteFault) ⊎ (o ≡ NoMemory) → MayCome (Some names) None o
+fails_untold names o (inl e) = let P : Outcome → Type 0 = λ x. MayCome (Some names) None x in subst P (sym e) tt
+fails_untold names o (inr e) = let P : Outcome → Type 0 = λ x. MayCome (Some names) None x in subst P (sym e) tt
 
 -- what comes of the writing
 pub may_end : {T R : Type 0} (outcome : R → Outcome) (result : Result T R) (told : Option Files) (names : Names) (events : List Event) → ReadsBids told names.events events → ((text : List ℕ) × IsRead told names.config text × (is_empty_config text ≡ true)) → IfErr result (λ r. (outcome r ≡ WriteFault) ⊎ (outcome r ≡ NoMemory)) → MatchResult result (λ _. MayCome (Some names) told Answered) (λ r. MayCome (Some names) told (outcome r))
-may_end outcome (Ok x) told names events bids config fault = may_be_answered told names events bids config
-may_end outcome (Err r) told names events bids config fault = may_fail told names (outcome r) fault
+may_end outcome (Ok x) None names events bids config fault = tt
+may_end outcome (Ok x) (Some files) names events bids config fault = inl (sym (answer_called_for files names events bids config))
+may_end outcome (Err r) None names events bids config fault = fails_untold names (outcome r) fault
+may_end outcome (Err r) (Some files) names events bids config fault =
+    inr (fails_writing _ (outcome r) (answer_called_for files names events bids config) fault)

@@ -48,7 +48,7 @@ pub record Says (old new : Option (List ℕ)) (IsLine : List ℕ → Type 0) (el
   pub grew : new ≡ grown old (take count line)
   pub whole : (length line ≤ count) ⊎ else_so
 
--- Words that are no command end with this status, and nothing else does; want of memory may come in its place
+-- the status comes where its cause is, and nowhere else; want of memory may come in its place
 abbrev pub ComesWhere : ℕ → ℕ → Type 0 → Type 0
 ComesWhere status code cause = (code ≡ status → cause) × (cause → (code ≡ status) ⊎ (code ≡ 8))
 

@@ -59,12 +59,13 @@ abbrev pub called_for : Option Files → Names → Outcome
 called_for told names =
     with_text names.events (file_at told names.events) (λ text. after_events (bids_of text) (with_text names.config (file_at told names.config) after_config))
 
--- a fault of the outside, or want of memory
-abbrev pub IsFault : Outcome → Type 0
-IsFault ReadFault = Unit {0}
-IsFault WriteFault = Unit {0}
-IsFault NoMemory = Unit {0}
-IsFault _ = ⊥
+-- A fault of the outside, or want of memory, may come in place of what is called for. The writing may fail only where an
+-- answer is called for
+abbrev pub MayFail : Outcome → Outcome → Type 0
+MayFail called ReadFault = Unit {0}
+MayFail called WriteFault = called ≡ Answered
+MayFail called NoMemory = Unit {0}
+MayFail called _ = ⊥
 
 -- an outcome of a command: a name that it speaks of is that of the events or of the configuration
 abbrev pub IsOfCommand : Names → Outcome → Type 0
@@ -74,8 +75,8 @@ IsOfCommand names (TooLarge name) = (name ≡ names.events) ⊎ (name ≡ names.
 IsOfCommand names _ = Unit {0}
 
 -- The outcomes that may come. Words that are no command end as usage. Where the depot tells its files, a command ends as
--- these call for, or by a fault
+-- these call for, or fails
 abbrev pub MayCome : Option Names → Option Files → Outcome → Type 0
 MayCome None told outcome = (outcome ≡ Usage) ⊎ (outcome ≡ NoMemory)
 MayCome (Some names) told outcome =
-    MatchOption told (IsOfCommand names outcome) (λ _. (outcome ≡ called_for told names) ⊎ IsFault outcome)
+    MatchOption told (IsOfCommand names outcome) (λ _. (outcome ≡ called_for told names) ⊎ MayFail (called_for told names) outcome)

@@ -118,17 +118,12 @@ fn words_refused(rt: HostRuntime) -> Result<(), Fail> {
 }
 
 #[test]
-fn files_missing(rt: HostRuntime) -> Result<(), Fail> {
+fn files_missing_or_unreadable(rt: HostRuntime) -> Result<(), Fail> {
     let mut depot = files(rt.alloc(), THREE_BIDS, b"")?;
     let events = "megaphone run --query q1 --events x --config c --out o";
     ends_as(&rt, &mut depot, events, 5, "no file x\n", None)?;
     let config = "megaphone run --query q1 --events e --config y --out o";
     ends_as(&rt, &mut depot, config, 5, "no file y\n", None)?;
-    Ok(())
-}
-
-#[test]
-fn files_unreadable(rt: HostRuntime) -> Result<(), Fail> {
     for (op, nth) in [(Op::Read, 1), (Op::Find, 2)] {
         let mut depot = files(rt.alloc(), THREE_BIDS, b"")?;
         depot.fail(op, nth)?;
