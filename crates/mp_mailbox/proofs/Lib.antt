@@ -1,0 +1,3 @@
+pub mod NameLists
+pub mod Queued
+pub mod Cases

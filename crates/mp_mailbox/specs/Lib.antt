@@ -1,0 +1,4 @@
+pub mod Names
+pub mod Standing
+pub mod Queues
+pub mod Plain

@@ -1,0 +1,34 @@
+-- What a post stands for before and after a call, on the edge of the call and on the others.
+-- `stands from to pushed popped`: from a worker to a worker these names were pushed with Ok, and these were popped.
+use Rattle.std.specs.Prelude.{◌≢◌, ◌⊎◌, ℕ, List, ◌++◌}
+use Rattle.mp_mailbox.specs.Names.{Distinct}
+
+module _ {N : Type 0} (stands : ℕ → ℕ → List N → List N → Type 0) where
+  -- it stands for some lists on this edge
+  abbrev pub Stands : ℕ → ℕ → Type 0
+  Stands from to = (pushed : List N) × (popped : List N) × stands from to pushed popped
+
+  -- these names can be pushed on this edge: none of them was pushed there before
+  abbrev pub IsFresh : ℕ → ℕ → List N → Type 0
+  IsFresh from to names = (pushed : List N) × (popped : List N) × stands from to pushed popped × Distinct (pushed ++ names)
+
+  -- none of these names was popped on this edge before
+  abbrev pub PopsNew : ℕ → ℕ → List N → Type 0
+  PopsNew from to names = (pushed popped : List N) → stands from to pushed popped → Distinct (popped ++ names)
+
+module _ {N : Type 0} (old new : ℕ → ℕ → List N → List N → Type 0) where
+  -- these names were pushed on this edge
+  abbrev pub AddsPushed : ℕ → ℕ → List N → Type 0
+  AddsPushed from to names = (pushed popped : List N) → old from to pushed popped → Distinct (pushed ++ names) → new from to (pushed ++ names) popped
+
+  -- these names were popped on this edge
+  abbrev pub AddsPopped : ℕ → ℕ → List N → Type 0
+  AddsPopped from to names = (pushed popped : List N) → old from to pushed popped → new from to pushed (popped ++ names)
+
+  -- nothing was pushed or popped on this edge
+  abbrev pub KeepsEdge : ℕ → ℕ → Type 0
+  KeepsEdge from to = (pushed popped : List N) → old from to pushed popped → new from to pushed popped
+
+  -- nothing was pushed or popped on any edge but this one
+  abbrev pub KeepsOthers : ℕ → ℕ → Type 0
+  KeepsOthers from to = (other_from other_to : ℕ) → (other_from ≢ from) ⊎ (other_to ≢ to) → KeepsEdge other_from other_to

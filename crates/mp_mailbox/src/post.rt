@@ -1,0 +1,88 @@
+//! What a message and a post are.
+ghost use Rattle.std.specs.Prelude.{◌≡◌, ℕ, ◌<◌, List, OnOk, OnErr, IfErr, IfSome, IfNone};
+ghost use Rattle.mp_mailbox.specs.Standing.{IsFresh, Stands, AddsPushed, AddsPopped, PopsNew, KeepsEdge, KeepsOthers};
+
+/// A message has names, and goes along one edge, from one worker to another. Which job it belongs to is
+/// a matter of its type (this project's profile).
+pub trait Named {
+    /// What a name is. No value of it is made.
+    type Name;
+
+    // What the message is called, mostly by one name.
+    ghost names: { Self → List Self.Name };
+
+    // The worker that sends it.
+    ghost from: { Self → ℕ };
+
+    // The worker that receives it.
+    ghost to: { Self → ℕ };
+}
+
+/// The answer of a push into a full queue.
+#[derive(Debug, Drop)]
+pub struct Full<M> {
+    /// The message, which was not pushed.
+    pub message: M,
+}
+
+/// Queues between workers, one for each ordered pair of them (this project's profile).
+///
+/// A post doesn't store its past. In contracts it stands, on each edge, for the names that were pushed
+/// with `Ok` and the names that were popped, as a relation: it may stand for several such lists where
+/// it sees one end alone.
+pub trait Post<M: Named> {
+    // The number of workers.
+    ghost workers: { Self → ℕ };
+
+    // This worker's ends are here: the ends at which it pushes and those at which it pops.
+    ghost serves: { Self → ℕ → Type 0 };
+
+    // From a worker to a worker, these names were pushed with `Ok`, and these were popped.
+    ghost stands: { Self → ℕ → ℕ → List M.Name → List M.Name → Type 0 };
+
+    // What `Ok` tells of the queue from a worker to a worker, at the push's step.
+    ghost had_room: { Self → ℕ → ℕ → Type 0 };
+
+    // What `Full` tells of it.
+    ghost was_full: { Self → ℕ → ℕ → Type 0 };
+
+    // What `None` tells of it, at the pop's step.
+    ghost was_empty: { Self → ℕ → ℕ → Type 0 };
+
+    /// Pushes a message behind all that wait on its edge, or hands it back where the queue was full.
+    /// Takes no memory.
+    fn push(&mut self, from: u32, to: u32, message: M) -> Result<(), Full<M>>
+        requires workers { (from < workers self.old) × (to < workers self.old) }
+        requires serves { serves self.old from }
+        requires edge { (M.from message ≡ from) × (M.to message ≡ to) }
+        requires fresh { IsFresh (stands self.old) from to (M.names message) }
+
+        ensures room { OnOk result (had_room self.old from to) }
+        ensures ok { OnOk result (AddsPushed (stands self.old) (stands self.new) from to (M.names message)) }
+
+        ensures full { OnErr result (was_full self.old from to) }
+        ensures back { IfErr result (λ f. f.message ≡ message) }
+        ensures err { OnErr result (KeepsEdge (stands self.old) (stands self.new) from to) }
+
+        ensures others { KeepsOthers (stands self.old) (stands self.new) from to }
+        ensures same_workers { workers self.new ≡ workers self.old }
+        ensures same_ends { (worker : ℕ) → serves self.old worker → serves self.new worker };
+
+    /// Pops the message that was pushed first of those that wait on the edge, or answers `None` where
+    /// none waited. Takes no memory.
+    fn pop(&mut self, from: u32, to: u32) -> Option<M>
+        requires workers { (from < workers self.old) × (to < workers self.old) }
+        requires serves { serves self.old to }
+        requires stands { Stands (stands self.old) from to }
+
+        ensures edge { IfSome result (λ m. (M.from m ≡ from) × (M.to m ≡ to)) }
+        ensures some { IfSome result (λ m. AddsPopped (stands self.old) (stands self.new) from to (M.names m)) }
+        ensures once { IfSome result (λ m. PopsNew (stands self.old) from to (M.names m)) }
+
+        ensures empty { IfNone result (was_empty self.old from to) }
+        ensures none { IfNone result (KeepsEdge (stands self.old) (stands self.new) from to) }
+
+        ensures others { KeepsOthers (stands self.old) (stands self.new) from to }
+        ensures same_workers { workers self.new ≡ workers self.old }
+        ensures same_ends { (worker : ℕ) → serves self.old worker → serves self.new worker };
+}

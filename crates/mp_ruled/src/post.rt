@@ -1,0 +1,91 @@
+//! The ends of one worker.
+ghost use Rattle.std.specs.Prelude.{◌≡◌};
+ghost use Rattle.mp_ruled.specs.Posts.{HasEnds};
+
+use crate::receiver::ReceiverEnd;
+use crate::sender::SenderEnd;
+use mp_mailbox::{Full, Named, Post};
+use std::marker::Model;
+use std::sync::Wait;
+
+/// The ends of one worker, a sender and a receiver for each worker, and the runtime by which their queues
+/// wait. It serves that worker alone, and may go to its thread. Contracts see the ends.
+#[derive(Drop)]
+pub struct RuledPost<M: Named, R> {
+    rt: R,
+    worker: u32,
+    senders: Vec<SenderEnd<M>>,
+    receivers: Vec<ReceiverEnd<M>>,
+}
+
+impl<M: Named, R> Model for RuledPost<M, R> {
+    ghost use Rattle.mp_ruled.specs.Posts.{PostState, HasEnds};
+
+    ghost Value = { PostState M };
+
+    ghost view = { λ p. record { worker = p.worker; senders = p.senders.items; receivers = p.receivers.items } };
+
+    ghost invariant = { λ p. HasEnds p.worker p.senders.items p.receivers.items };
+}
+
+impl<M: Named + Drop, R: Wait> Post<M> for RuledPost<M, R> {
+    ghost use Rattle.std.specs.Prelude.{◌≡◌, length};
+    ghost use Rattle.mp_ruled.specs.Posts.{RuledStands, SenderHadRoom, SenderWasFull, ReceiverWasEmpty};
+
+    ghost workers = { λ p. length p.senders };
+
+    ghost serves = { λ p worker. worker ≡ p.worker };
+
+    ghost stands = { RuledStands M.names };
+
+    ghost had_room = { SenderHadRoom };
+
+    ghost was_full = { SenderWasFull };
+
+    ghost was_empty = { ReceiverWasEmpty };
+
+    fn push(&mut self, _from: u32, to: u32, message: M) -> Result<(), Full<M>> {
+        self.senders[to as usize].push(&self.rt, message)
+    }
+
+    fn pop(&mut self, from: u32, _to: u32) -> Option<M> {
+        self.receivers[from as usize].pop(&self.rt)
+    }
+}
+
+impl<M: Named, R> RuledPost<M, R> {
+    /// The post of these ends: at each worker's number the end that pushes to it, and the end that pops
+    /// from it.
+    pub fn new(
+        rt: R,
+        worker: u32,
+        senders: Vec<SenderEnd<M>>,
+        receivers: Vec<ReceiverEnd<M>>,
+    ) -> RuledPost<M, R>
+        requires { HasEnds worker senders.items receivers.items }
+        ensures { result ≡ record { worker = worker; senders = senders.items; receivers = receivers.items } }
+    {
+        RuledPost {
+            rt,
+            worker,
+            senders,
+            receivers,
+        }
+    }
+}
+
+impl<M: Named, R: Drop> RuledPost<M, R> {
+    /// The ends.
+    pub fn into_ends(self) -> (Vec<SenderEnd<M>>, Vec<ReceiverEnd<M>>)
+        ensures senders { result.0.items ≡ self.senders }
+        ensures receivers { result.1.items ≡ self.receivers }
+    {
+        let RuledPost {
+            rt: _,
+            worker: _,
+            senders,
+            receivers,
+        } = self;
+        (senders, receivers)
+    }
+}

@@ -1,0 +1,5 @@
+pub mod Places
+pub mod Keeps
+pub mod Dealing
+pub mod Turns
+pub mod Gathering

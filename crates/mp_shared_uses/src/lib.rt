@@ -1,0 +1,21 @@
+//! Callers of the seat lock and of mailboxes, as a crate above writes them.
+#![tactic(auto)]
+
+mod clerk;
+mod counts;
+mod crossing;
+mod lines;
+mod numbers;
+mod posts;
+
+pub use clerk::Clerk;
+pub use counts::{Counts, count_in_two};
+pub use crossing::{
+    post_there_and_back, receiver_there_and_back, seat_there_and_back, sender_there_and_back,
+};
+pub use lines::{pop_told, relay};
+pub use numbers::{Number, receive, receive_all, send, send_all};
+pub use posts::{relay_by_posts, two_posts};
+
+#[cfg(test)]
+mod tests;
