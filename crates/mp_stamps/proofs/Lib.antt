@@ -1,0 +1,4 @@
+pub mod Places
+pub mod Updating
+pub mod Opening
+pub mod Paths
