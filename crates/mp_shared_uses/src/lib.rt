@@ -15,7 +15,7 @@ pub use crossing::{
 };
 pub use lines::{pop_told, relay};
 pub use numbers::{Number, receive, receive_all, send, send_all};
-pub use posts::{relay_by_posts, two_posts};
+pub use posts::two_posts;
 
 #[cfg(test)]
 mod tests;

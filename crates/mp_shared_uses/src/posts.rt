@@ -1,13 +1,11 @@
-//! Numbers from one thread to another, by the posts of two workers.
-ghost use Rattle.std.specs.Prelude.{◌≡◌, ◌<◌, [], length, IfOk};
+//! The posts of two workers.
+ghost use Rattle.std.specs.Prelude.{◌<◌, [], IfOk};
 ghost use Rattle.mp_ruled.specs.Posts.{IsNewPost, RuledStands};
 ghost use Rattle.mp_shared_uses.specs.Numbers.{value_list};
 
-use crate::numbers::{Number, receive_all, send_all};
+use crate::numbers::Number;
 use mp_ruled::{RuledPost, ruled_posts};
 use std::alloc::{AllocError, Global};
-use std::sync::Wait;
-use std::thread::{Threads, join};
 
 /// The posts of worker 0 and worker 1.
 pub fn two_posts<R: Copy + Drop>(
@@ -29,28 +27,4 @@ pub fn two_posts<R: Copy + Drop>(
         unreachable!()
     };
     Ok((first, second))
-}
-
-/// As many numbers as come of those below `count`, from one thread to another.
-pub fn relay_by_posts<R: Threads + Wait + Copy + Drop + Send + Sync>(
-    rt: R,
-    alloc: Global,
-    count: u32,
-    depth: u32,
-) -> Result<Vec<u64>, AllocError>
-    requires depth { 0 < depth }
-{
-    let (first, second) = two_posts(rt, alloc, depth)?;
-    let into = Vec::with_capacity(alloc, count as usize)?;
-    let shared = &rt;
-    let (_first, (_second, got)) = join(
-        shared,
-        move ||
-            requires { (0 ≡ first.worker) × (1 < length first.senders) × RuledStands value_list first 0 1 [] [] }
-        { send_all(shared, first, u64::from(count)) },
-        move ||
-            requires { (1 ≡ second.worker) × (1 < length second.senders) × RuledStands value_list second 0 1 [] into.items }
-        { receive_all(shared, second, into, count as usize) },
-    );
-    Ok(got)
 }

@@ -1,14 +1,17 @@
-//! The worked examples, by shared parts and by plain ones.
-ghost use Rattle.std.specs.Prelude.{◌≡◌, ◌+◌, ◌<◌, ◌≤◌, [], IsSome, Some, slice_get, slice_set, List, ℕ};
+//! The worked examples of the seat lock and of mailboxes between threads.
+ghost use Rattle.std.specs.Prelude.{◌≡◌, ◌+◌, ◌<◌, ◌≤◌, [], IsSome, Some, length, slice_get, slice_set, List, ℕ};
+ghost use Rattle.mp_ruled.specs.Posts.{RuledStands};
 ghost use Rattle.mp_seat.specs.Seats.{IsIdle, resting};
+ghost use Rattle.mp_shared_uses.specs.Numbers.{value_list};
 
 use super::*;
 use mp_mailbox::Post;
 use mp_seat::{Rows, Seat, SeatLock};
-use std::alloc::AllocError;
+use std::alloc::{AllocError, Global};
 use std::process::Abort;
-use std::sync::Arc;
+use std::sync::{Arc, Wait};
 use std::test::*;
+use std::thread::{Threads, join};
 
 #[test]
 fn thousand_exchanges(rt: HostRuntime) -> Result<(), Fail> {
@@ -16,6 +19,30 @@ fn thousand_exchanges(rt: HostRuntime) -> Result<(), Fail> {
     assert_eq!(rt; counts.left(), 1000);
     assert_eq!(rt; counts.raised(), 2000);
     Ok(())
+}
+
+// As many numbers as come of those below `count`, from one thread to another, by the posts of two workers.
+fn relay_by_posts<R: Threads + Wait + Copy + Drop + Send + Sync>(
+    rt: R,
+    alloc: Global,
+    count: u32,
+    depth: u32,
+) -> Result<Vec<u64>, AllocError>
+    requires depth { 0 < depth }
+{
+    let (first, second) = two_posts(rt, alloc, depth)?;
+    let into = Vec::with_capacity(alloc, count as usize)?;
+    let shared = &rt;
+    let (_first, (_second, got)) = join(
+        shared,
+        move ||
+            requires { (0 ≡ first.worker) × (1 < length first.senders) × RuledStands value_list first 0 1 [] [] }
+        { send_all(shared, first, u64::from(count)) },
+        move ||
+            requires { (1 ≡ second.worker) × (1 < length second.senders) × RuledStands value_list second 0 1 [] into.items }
+        { receive_all(shared, second, into, count as usize) },
+    );
+    Ok(got)
 }
 
 #[test]
