@@ -1,1 +1,9 @@
+-- What the contracts of this crate cite.
+pub mod Answers
+pub mod Ascending
 pub mod Entry
+pub mod Facts
+pub mod Folds
+pub mod Legal
+pub mod QueryLaws
+pub mod Stages

@@ -1,10 +1,13 @@
-//! Values, events, records and groups: what a dataflow carries.
+//! Values, events, records and groups: what a dataflow carries; what a query is; and the definitions from events to the
+//! bytes of the answer.
 #![tactic(auto)]
 
 mod fields;
 mod group;
 pub mod limits;
+mod naming;
 mod posts;
+mod query;
 mod record;
 #[cfg(test)]
 mod tests;
@@ -13,9 +16,11 @@ mod value;
 
 pub use fields::{Field, Fields};
 pub use group::Group;
-pub use mp_names::Tag;
+pub use mp_names::{Control, Name, Shape, Tag};
+pub use naming::Naming;
 pub use posts::PostList;
-pub use record::{Event, Rec};
+pub use query::Query;
+pub use record::{Event, Output, Place, Rec};
 pub use text::Text;
 pub use value::Value;
 

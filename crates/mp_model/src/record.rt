@@ -1,4 +1,4 @@
-//! Events, and the records that they make.
+//! Events, the records that they make, and the outputs of groups.
 ghost use Rattle.std.specs.Prelude.{◌≡◌};
 
 use crate::{Tag, Time, Value};
@@ -18,6 +18,22 @@ pub struct Rec {
     pub key: u64,
     pub tag: Tag,
     pub value: Value,
+}
+
+/// One output of a group, with the group's time.
+#[derive(Drop, Debug)]
+pub struct Output {
+    pub time: Time,
+    /// The key of the group, and the output's place among those of the group.
+    pub tag: Tag,
+    pub value: Value,
+}
+
+/// Where a row stands in the answer: rows ascend by time, and then by tag.
+#[derive(Clone, Copy, PartialEq, Eq, PartialOrd, Ord, Debug)]
+pub struct Place {
+    pub time: Time,
+    pub tag: Tag,
 }
 
 impl Clone for Rec {
