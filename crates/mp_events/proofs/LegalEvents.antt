@@ -15,7 +15,7 @@ use Rattle.mp_events.specs.declared.refused.EventsReason.TheVariants.{Count, Fie
 use Rattle.mp_events.specs.Checks.{failures_of_field, failures_of_fields}
 use Rattle.mp_events.specs.Events.{events_of, events_on, failures_from, filled, unless_failed}
 use Rattle.mp_events.specs.Kinds.{checks_of, kind_of}
-use Rattle.mp_events.specs.Legal.{EventIsLegal, IsName}
+use Rattle.mp_model.specs.Legal.{EventIsLegal, IsName}
 use Rattle.mp_events.specs.Lines.{event_by, event_of, failures_of, failures_of_kind, field_at, is_ordered, number_at}
 use Rattle.mp_events.specs.Reasons.{check}
 use Rattle.mp_model.specs.declared.limits.TheConstants.{MAX_EVENTS, MAX_ID, MAX_NAME, MAX_PRICE, MAX_TIME}

@@ -2,7 +2,6 @@
 pub mod Checks
 pub mod Events
 pub mod Kinds
-pub mod Legal
 pub mod Lines
 pub mod Read
 pub mod Reasons

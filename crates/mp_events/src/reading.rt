@@ -1,7 +1,7 @@
 //! The events of a whole file.
 ghost use Rattle.std.specs.Prelude.{◌≡◌, ◌≤◌, All, Ok, Err, IfOk, IfErr, vec_len};
 ghost use Rattle.mp_events.specs.Events.{IfBadLine, events_of};
-ghost use Rattle.mp_events.specs.Legal.{EventIsLegal};
+ghost use Rattle.mp_model.specs.Legal.{EventIsLegal};
 ghost use Rattle.mp_model.specs.declared.limits.TheConstants.{MAX_EVENTS};
 
 use crate::EventsRefused;
