@@ -1,5 +1,5 @@
 -- Timelines and folds, each key by itself: what a stage makes of its records.
-use Rattle.std.specs.Prelude.{ℕ, ◌≡◌, ◌==◌, ◌++◌, Bool, true, List, [], ◌∷◌, filter, fold, map}
+use Rattle.std.specs.Prelude.{ℕ, ◌≡◌, ◌==◌, ◌++◌, Bool, true, List, [], ◌∷◌, filter, fold, map, nat_lt, take_while}
 use Rattle.std.specs.List.{enumerate_from, flat_map, list_any}
 use Rattle.mp_model.specs.declared.record.Output.{Output}
 use Rattle.mp_model.specs.declared.record.Rec.{Rec}
@@ -45,9 +45,13 @@ module _ {Cell : Type 0} where
   abbrev pub timeline : QueryFacts Cell → ℕ → ℕ → List Rec → List Entry
   timeline q j k rs = entries_of q j k (of_key k rs)
 
-  -- the cell after these groups
-  abbrev pub cell_after : QueryFacts Cell → ℕ → Cell → List Entry → Cell
-  cell_after q j cell entries = fold (q.step j) cell entries
+  -- the cell that these groups make of a cell
+  abbrev pub fold_of : QueryFacts Cell → ℕ → Cell → List Entry → Cell
+  fold_of q j cell entries = fold (q.step j) cell entries
+
+  -- the cell of a key just before a time
+  abbrev pub cell_before : QueryFacts Cell → ℕ → List Rec → ℕ → ℕ → Cell
+  cell_before q j rs k t = fold_of q j (q.fresh j) (take_while (λ e. nat_lt e.time t) (timeline q j k rs))
 
   -- what these groups give, one after the other
   abbrev pub outputs_along : QueryFacts Cell → ℕ → Cell → List Entry → List Output

@@ -1,4 +1,5 @@
 -- What the contracts of this crate cite.
+pub mod Always
 pub mod Answers
 pub mod Ascending
 pub mod Entry

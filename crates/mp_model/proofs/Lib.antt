@@ -1,0 +1,3 @@
+pub mod LastTimes
+pub mod LegalRecords
+pub mod Lists
