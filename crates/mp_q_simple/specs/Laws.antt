@@ -5,7 +5,7 @@ use Rattle.std.proofs.Common.{ap, arith}
 use Rattle.mp_model.specs.declared.record.Rec.{Rec}
 use Rattle.mp_model.specs.declared.value.Value.{Value}
 use Rattle.mp_model.specs.QueryLaws.{HasStages, PostsAreLater, LaterStagesPostNothing, OutputsHaveKeys, MostIsEnough, FreshStaysFresh, SumsFit}
-use Rattle.mp_q_simple.specs.Always.{always_fits}
+use Rattle.mp_model.specs.Always.{always_fits}
 use Rattle.mp_q_simple.specs.Bids.{bids_by, rows_of}
 
 -- one more row at most

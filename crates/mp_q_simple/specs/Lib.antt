@@ -1,5 +1,4 @@
 -- What the contracts of this crate cite, and the proofs of the laws.
-pub mod Always
 pub mod Bids
 pub mod Laws
 pub mod Q1
