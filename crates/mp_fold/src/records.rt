@@ -1,0 +1,90 @@
+//! The records that events and outputs make.
+ghost use Rattle.std.specs.Prelude.{◌≡◌, ◌≤◌, ◌++◌, ◌∷◌, All, IfOk, OnOk, [], List};
+ghost use Rattle.std.specs.List.{filter_map};
+ghost use Rattle.std.specs.Option.{option_to_list};
+ghost use Rattle.mp_model.specs.declared.limits.TheConstants.{LAST_TIME};
+ghost use Rattle.mp_model.specs.Stages.{input_records, record_of, record_of_output};
+
+use mp_model::{Event, Output, Query, Rec, Tag};
+use std::alloc::{AllocError, Global};
+
+/// The records that the events make in stage 0, by the index of their event.
+pub fn input_records<Q: Query>(
+    alloc: Global,
+    query: &Q,
+    events: &[Event],
+) -> Result<Vec<Rec>, AllocError>
+    requires { All (λ e. e.time ≤ LAST_TIME) events.now }
+    ensures { IfOk result (λ v. v.items ≡ input_records (Q.facts (Q.rules query.now)) events.now) }
+{
+    let mut recs = Vec::new(alloc);
+    for (index, event) in events.iter().enumerate() {
+        push_record(query, index as u64, event, &mut recs)?;
+    }
+    Ok(recs)
+}
+
+/// Adds the record of the event of this index, if its value has a key in stage 0.
+fn push_record<Q: Query>(
+    query: &Q,
+    index: u64,
+    event: &Event,
+    recs: &mut Vec<Rec>,
+) -> Result<(), AllocError>
+    requires { event.now.time ≤ LAST_TIME }
+    ensures { OnOk result (recs.new.items ≡ recs.old.items ++ option_to_list (record_of (Q.facts (Q.rules query.now)) index event.now)) }
+{
+    match query.key(0, event.time, &event.value) {
+        Some(key) => {
+            recs.push(Rec {
+                time: event.time,
+                key,
+                tag: Tag(0, index),
+                value: event.value.clone()?,
+            })?;
+            Ok(())
+        }
+        None => Ok(()),
+    }
+}
+
+/// The records that the outputs of the stage before make in a later stage.
+pub fn output_records<Q: Query>(
+    alloc: Global,
+    query: &Q,
+    stage: u32,
+    outputs: &[Output],
+) -> Result<Vec<Rec>, AllocError>
+    requires { All (λ o. o.time ≤ LAST_TIME) outputs.now }
+    ensures { IfOk result (λ v. v.items ≡ filter_map (record_of_output (Q.facts (Q.rules query.now)) stage) outputs.now) }
+{
+    let mut recs = Vec::new(alloc);
+    for output in outputs {
+        push_output_record(query, stage, output, &mut recs)?;
+    }
+    Ok(recs)
+}
+
+/// Adds the record of an output, if its value has a key in this stage.
+fn push_output_record<Q: Query>(
+    query: &Q,
+    stage: u32,
+    output: &Output,
+    recs: &mut Vec<Rec>,
+) -> Result<(), AllocError>
+    requires { output.now.time ≤ LAST_TIME }
+    ensures { OnOk result (recs.new.items ≡ recs.old.items ++ option_to_list (record_of_output (Q.facts (Q.rules query.now)) stage output.now)) }
+{
+    match query.key(stage, output.time, &output.value) {
+        Some(key) => {
+            recs.push(Rec {
+                time: output.time,
+                key,
+                tag: output.tag,
+                value: output.value.clone()?,
+            })?;
+            Ok(())
+        }
+        None => Ok(()),
+    }
+}
