@@ -1,1 +1,3 @@
--- What the contracts of this crate cite.
+-- What the contracts of this crate's tests cite.
+pub mod Sample
+pub mod SampleLaws

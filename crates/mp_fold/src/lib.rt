@@ -15,4 +15,4 @@ mod timeline;
 
 pub use answer::answer_pieces;
 pub use lines::put_line;
-pub use stages::{answer_rows, stage_outputs, stage_records};
+pub use stages::{answer_rows, stage_records};

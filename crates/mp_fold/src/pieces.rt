@@ -48,16 +48,20 @@ impl Pieces {
         put_line(&mut self.last, place, value)
     }
 
+    /// Ends the piece that is being written, if there is one.
     fn finish_piece(&mut self) -> Result<(), AllocError>
         ensures { OnOk result (self.new ≡ self.old) }
     {
+        if self.last.is_empty() {
+            return Ok(());
+        }
         let next = Vec::new(*self.last.allocator());
         let piece = mem::replace(&mut self.last, next);
         self.finished.push(piece)?;
         Ok(())
     }
 
-    /// The pieces, in order.
+    /// The pieces, in order. None is empty.
     pub fn finish(self) -> Result<Vec<Vec<u8>>, AllocError>
         ensures { IfOk result (λ v. flat_map (λ p. p.items) v.items ≡ self) }
     {
@@ -66,7 +70,9 @@ impl Pieces {
             last,
             time: _,
         } = self;
-        finished.push(last)?;
+        if !last.is_empty() {
+            finished.push(last)?;
+        }
         Ok(finished)
     }
 }

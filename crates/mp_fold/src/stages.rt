@@ -46,8 +46,8 @@ pub fn stage_records<Q: Query>(
 }
 
 /// What a stage gives of these records, key by key. No record is later than 2^47 + 43,200, and the sums and counts of each
-/// key fit their types. The one error is want of memory.
-pub fn stage_outputs<Q: Query>(
+/// key fit their types.
+fn stage_outputs<Q: Query>(
     alloc: Global,
     query: &Q,
     stage: u32,
