@@ -1,5 +1,3 @@
 -- The lemmas of this crate.
-pub mod LastTimes
-pub mod LegalRecords
-pub mod Lists
+mod Cuts
 mod Outputs

@@ -2,7 +2,7 @@
 use Rattle.std.proofs.Common.{append_assoc}
 use Rattle.std.specs.Fmt.{decimal}
 use Rattle.mp_model.specs.Answers.{fields_in, text_of}
-use Rattle.mp_fold.proofs.Lists.{join_with_byte-cons}
+use Rattle.mp_fold.proofs.Cuts.{join_with_byte-cons}
 use Rattle.mp_fold.proofs.lines.put_line.Goals as goal
 
 pub returns : goal.returns

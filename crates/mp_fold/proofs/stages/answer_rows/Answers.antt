@@ -1,6 +1,6 @@
 -- There is a last stage, and no time of it is too late.
 use Rattle.std.proofs.Common.{◌-◌, arith}
-use Rattle.mp_fold.proofs.LastTimes.{records_in_time}
+use Rattle.mp_model.proofs.LastTimes.{records_in_time}
 use Rattle.mp_fold.proofs.stages.answer_rows.Goals as goal
 
 pub overflow_sub-last : goal.overflow_sub-last

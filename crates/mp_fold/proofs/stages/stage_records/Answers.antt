@@ -1,5 +1,5 @@
 -- No time of a stage is too late.
-use Rattle.mp_fold.proofs.LastTimes.{records_in_time, stage_outputs_in_time}
+use Rattle.mp_model.proofs.LastTimes.{records_in_time, stage_outputs_in_time}
 use Rattle.mp_fold.proofs.stages.stage_records.Goals as goal
 
 pub stage_outputs-requires-clause-times : goal.stage_outputs-requires-clause-times
