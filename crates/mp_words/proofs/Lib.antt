@@ -1,0 +1,4 @@
+pub mod Numbers
+pub mod Shapes
+pub mod Faults
+pub mod Powers

@@ -1,0 +1,7 @@
+-- One bit set, up to 256.
+use Rattle.std.proofs.Common.{rules, arith}
+use Rattle.mp_words.proofs.Powers.{power}
+use Rattle.mp_words.proofs.values.bins_named.Goals as goal
+
+pub returns-then-is_power_of_two-clause-within : goal.returns-then-is_power_of_two-clause-within
+returns-then-is_power_of_two-clause-within c = power c.in_ok-bins.bins (grind (arith, c.in_ok-bins.ensures.within)) (search rules)

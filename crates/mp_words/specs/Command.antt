@@ -1,0 +1,32 @@
+-- The command set, as plain data that clap's definitions read.
+use Rattle.std.specs.Prelude.{true, Some, List, [], ◌∷◌, ℕ, codes}
+use Rattle.clap.specs.Words.{App, Rule, Shape, new_app, new_rule, with_subcommand}
+use Rattle.clap.specs.Simple.{new_shape, on_top}
+use Rattle.clap.specs.declared.builder.action.ArgAction.TheVariants.{Set}
+
+-- an option `--name` that takes one value
+abbrev pub valued : List ℕ → Rule
+valued name = record (new_rule name) { long = Some name; action = Some Set }
+
+-- one that has to be there
+abbrev pub needed : List ℕ → Rule
+needed name = record (valued name) { required = true }
+
+-- one whose value is `value` where it isn't there
+abbrev pub defaulted : List ℕ → List ℕ → Rule
+defaulted name value = record (valued name) { defaults = value ∷ [] }
+
+-- `run` with its seven options
+abbrev pub run_shape : Shape
+run_shape = record (new_shape (codes "run")) {
+  rules = needed (codes "query") ∷ needed (codes "events") ∷ needed (codes "config") ∷ needed (codes "out")
+      ∷ defaulted (codes "workers") (codes "1") ∷ defaulted (codes "bins") (codes "16") ∷ defaulted (codes "depth") (codes "64") ∷ [];
+}
+
+-- no option of the program itself, none for help or the version, no command `help`, and a subcommand has to be there
+abbrev pub bare : Shape → Shape
+bare s = record s { disable_help_flag = true; disable_version_flag = true; disable_help_subcommand = true; subcommand_required = true }
+
+-- the program, whose one subcommand is `run`
+unfoldable pub command_app : App
+command_app = with_subcommand (on_top bare (new_app (codes "megaphone"))) run_shape

@@ -1,0 +1,262 @@
+//! Tables of words that are taken and of words that are refused.
+use super::*;
+use std::alloc::{AllocError, Global};
+use std::process::Abort;
+use std::test::Fail;
+
+const ASKED: RunOptions<'static> = RunOptions {
+    query: QueryName::Q1,
+    events: "e",
+    config: "c",
+    out: "o",
+    workers: 1,
+    bins: 16,
+    depth: 64,
+};
+
+/// The words of a line, cut at blanks: two blanks side by side make an empty word.
+fn cut(alloc: Global, line: &str) -> Result<Vec<String>, AllocError> {
+    let mut words = Vec::new(alloc);
+    for word in line.split(' ') {
+        words.push(String::from_str(alloc, word)?)?;
+    }
+    Ok(words)
+}
+
+/// Parses the words of a line, and compares the answer.
+fn parses_as<R: AllocGlobal + Abort>(
+    rt: &R,
+    line: &str,
+    want: Result<RunOptions<'_>, WordsRefused>,
+) -> Result<(), AllocError> {
+    let words = cut(rt.alloc(), line)?;
+    assert_eq!(rt; parse(rt.alloc(), words.as_slice()), want, "{line}");
+    Ok(())
+}
+
+#[test]
+fn options_come_in_any_order(rt: HostRuntime) -> Result<(), Fail> {
+    let full = RunOptions {
+        query: QueryName::Q2,
+        bins: 32,
+        depth: 5,
+        ..ASKED
+    };
+    let rows = [
+        ("m run --query q1 --events e --config c --out o", ASKED),
+        (
+            "./megaphone run --out o --config c --events e --query q1",
+            ASKED,
+        ),
+        (" run --query q1 --events e --config c --out o", ASKED),
+        (
+            "m run --query q2 --events e --config c --out o --workers 1 --bins 32 --depth 5",
+            full,
+        ),
+        (
+            "m run --depth 5 --out o --bins 32 --config c --workers 1 --events e --query q2",
+            full,
+        ),
+    ];
+    for (line, want) in rows {
+        parses_as(&rt, line, Ok(want))?;
+    }
+    Ok(())
+}
+
+#[test]
+fn clap_decides_the_words(rt: HostRuntime) -> Result<(), Fail> {
+    let rows = [
+        ("m run --query=q1 --events=e --config=c --out=o", ASKED),
+        ("m run --query q1 --events e --config c --out o --", ASKED),
+        (
+            "m run --query q1 --events - --config c --out o",
+            RunOptions {
+                events: "-",
+                ..ASKED
+            },
+        ),
+        (
+            "m run --query q1 --events=--out --config c --out o",
+            RunOptions {
+                events: "--out",
+                ..ASKED
+            },
+        ),
+        (
+            "m run --query q1 --events a=b --config=a=b --out o",
+            RunOptions {
+                events: "a=b",
+                config: "a=b",
+                ..ASKED
+            },
+        ),
+        (
+            "m run --query q1 --events run --config q1 --out o",
+            RunOptions {
+                events: "run",
+                config: "q1",
+                ..ASKED
+            },
+        ),
+    ];
+    for (line, want) in rows {
+        parses_as(&rt, line, Ok(want))?;
+    }
+    Ok(())
+}
+
+#[test]
+fn names_may_be_empty_or_coincide(rt: HostRuntime) -> Result<(), Fail> {
+    let empty = RunOptions {
+        events: "",
+        ..ASKED
+    };
+    let rows = [
+        ("m run --query q1 --events  --config c --out o", empty),
+        ("m run --query q1 --events= --config c --out o", empty),
+        (
+            "m run --query q1 --events x --config x --out o",
+            RunOptions {
+                events: "x",
+                config: "x",
+                ..ASKED
+            },
+        ),
+    ];
+    for (line, want) in rows {
+        parses_as(&rt, line, Ok(want))?;
+    }
+    let rows = [
+        "m run --query q1 --events o --config c --out o",
+        "m run --query q1 --events e --config o --out o",
+        "m run --query q1 --events o --config o --out o",
+        "m run --query q1 --events  --config c --out ",
+    ];
+    for line in rows {
+        parses_as(&rt, line, Err(WordsRefused::Usage))?;
+    }
+    Ok(())
+}
+
+#[test]
+fn numbers_have_limits(rt: HostRuntime) -> Result<(), Fail> {
+    let rows = [
+        ("--workers 001", ASKED),
+        ("--bins 1", RunOptions { bins: 1, ..ASKED }),
+        ("--bins 0256", RunOptions { bins: 256, ..ASKED }),
+        ("--depth 1", RunOptions { depth: 1, ..ASKED }),
+        (
+            "--depth 1024",
+            RunOptions {
+                depth: 1024,
+                ..ASKED
+            },
+        ),
+    ];
+    for (more, want) in rows {
+        let line = format!(in rt.alloc(); "m run --query q1 --events e --config c --out o {more}")?;
+        parses_as(&rt, line.as_str(), Ok(want))?;
+    }
+    let rows = [
+        "--workers 0",
+        "--workers 2",
+        "--workers 007",
+        "--workers x",
+        "--workers ",
+        "--workers +1",
+        "--workers -1",
+        "--workers=-1",
+        "--workers 18446744073709551617",
+        "--bins 3",
+        "--bins 0",
+        "--bins 512",
+        "--bins 257",
+        "--bins 16.",
+        "--depth 0",
+        "--depth 1025",
+        "--depth 4294967297",
+    ];
+    for more in rows {
+        let line = format!(in rt.alloc(); "m run --query q1 --events e --config c --out o {more}")?;
+        parses_as(&rt, line.as_str(), Err(WordsRefused::Usage))?;
+    }
+    Ok(())
+}
+
+#[test]
+fn words_refused(rt: HostRuntime) -> Result<(), Fail> {
+    let rows = [
+        "m",
+        "",
+        "run",
+        "m run",
+        "m walk --query q1 --events e --config c --out o",
+        "m ru --query q1 --events e --config c --out o",
+        "m --query q1 --events e --config c --out o",
+        "m --query q1 run --events e --config c --out o",
+        "m -- run --query q1 --events e --config c --out o",
+        "m run run --query q1 --events e --config c --out o",
+        "m run --query q9 --events e --config c --out o",
+        "m run --query Q1 --events e --config c --out o",
+        "m run --query q --events e --config c --out o",
+        "m run --query  --events e --config c --out o",
+        "m run --events e --config c --out o",
+        "m run --query q1 --config c --out o",
+        "m run --query q1 --events e --out o",
+        "m run --query q1 --events e --config c",
+        "m run --query q1 --query q1 --events e --config c --out o",
+        "m run --query q1 --events e --config c --out o --out=p",
+        "m run --query q1 --events e --config c --out o --bins 1 --bins 1",
+        "m run --query q1 --events e --config c --out",
+        "m run --query q1 --events e --out --config c",
+        "m run --query q1 --events e --config c --out --",
+        "m run --query q1 --events -e --config c --out o",
+        "m run --query q1 --events e --config c --out o p",
+        "m run --query q1 --events e --config c --out o -- p",
+        "m run --query q1 --events e --config c --out o ",
+        "m run --query q1 --events e --config c --out o -",
+        "m run --query q1 --events e --config c --out o --seed 0",
+        "m run --query q1 --events e --config c --outfile o",
+        "m run --query q1 --event e --config c --out o",
+        "m run -query q1 --events e --config c --out o",
+    ];
+    for line in rows {
+        parses_as(&rt, line, Err(WordsRefused::Usage))?;
+    }
+    let none: Vec<String> = Vec::new(rt.alloc());
+    assert_eq!(rt;
+        parse(rt.alloc(), none.as_slice()),
+        Err(WordsRefused::Usage)
+    );
+    Ok(())
+}
+
+#[test]
+fn help_and_version_are_unknown_words(rt: HostRuntime) -> Result<(), Fail> {
+    let words = ["--help", "-h", "help", "--version", "-V", "version"];
+    for word in words {
+        let line = format!(in rt.alloc(); "m {word}")?;
+        parses_as(&rt, line.as_str(), Err(WordsRefused::Usage))?;
+        let line = format!(in rt.alloc(); "m help {word}")?;
+        parses_as(&rt, line.as_str(), Err(WordsRefused::Usage))?;
+        let line = format!(in rt.alloc(); "m {word} run --query q1 --events e --config c --out o")?;
+        parses_as(&rt, line.as_str(), Err(WordsRefused::Usage))?;
+        let line = format!(in rt.alloc(); "m run --query q1 --events e --config c --out o {word}")?;
+        parses_as(&rt, line.as_str(), Err(WordsRefused::Usage))?;
+    }
+    Ok(())
+}
+
+#[test]
+fn refusals_have_a_text(rt: HostRuntime) -> Result<(), Fail> {
+    assert_eq!(rt;
+        WordsRefused::Usage.to_string(rt.alloc())?.as_str(),
+        "no command"
+    );
+    assert_eq!(rt;
+        WordsRefused::NoMemory.to_string(rt.alloc())?.as_str(),
+        "no memory"
+    );
+    Ok(())
+}

@@ -1,0 +1,75 @@
+//! The values of the options, checked one by one.
+ghost use Rattle.std.specs.Prelude.{◌≡◌, IfSome, option_map, option_and_then};
+ghost use Rattle.clap.specs.Words.{first_of, found_of, rows_of};
+ghost use Rattle.mp_words.specs.Limits.{IsUpTo, IsBinCount, AreWithinLimits};
+ghost use Rattle.mp_words.specs.declared.limits.TheConstants.{MAX_BINS};
+ghost use Rattle.mp_words.specs.Values.{query_of, number_up_to, power_up_to, options_in, options_of};
+
+use crate::limits::{MAX_BINS, MAX_DEPTH, MAX_WORKERS};
+use crate::options::{QueryName, RunOptions};
+use clap::ArgMatches;
+use mp_text::number;
+
+/// What the options of `run` ask for, or `None` where a value isn't allowed.
+pub fn run_options<'a>(matches: &ArgMatches<'a>) -> Option<RunOptions<'a>>
+    ensures asked { option_map options_in result ≡ options_of (rows_of (found_of matches.now)) }
+    ensures within { IfSome result AreWithinLimits }
+{
+    let options = RunOptions {
+        query: query_named(text(matches, "query")?)?,
+        events: text(matches, "events")?,
+        config: text(matches, "config")?,
+        out: text(matches, "out")?,
+        workers: number_within(text(matches, "workers")?, MAX_WORKERS)?,
+        bins: bins_named(text(matches, "bins")?)?,
+        depth: number_within(text(matches, "depth")?, MAX_DEPTH)?,
+    };
+    if options.out == options.events || options.out == options.config {
+        None
+    } else {
+        Some(options)
+    }
+}
+
+/// The value of an option, as text.
+fn text<'a>(matches: &ArgMatches<'a>, name: &str) -> Option<&'a str>
+    ensures { option_map (λ s. s.now) result ≡ first_of name.now (rows_of (found_of matches.now)) }
+{
+    matches.get_str(name)
+}
+
+/// The query of this name.
+fn query_named(name: &str) -> Option<QueryName>
+    ensures { result ≡ query_of name.now }
+{
+    match name {
+        "q1" => Some(QueryName::Q1),
+        "q2" => Some(QueryName::Q2),
+        _ => None,
+    }
+}
+
+/// The number from 1 to `most` that a text says.
+#[tactic(auto, using(crate::proofs::Numbers::within))]
+fn number_within(text: &str, most: u32) -> Option<u32>
+    ensures value { result ≡ number_up_to most text.now }
+    ensures within { IfSome result (IsUpTo most) }
+{
+    match number(text.as_bytes(), u64::from(most)) {
+        Ok(number) if number > 0 => Some(number as u32),
+        _ => None,
+    }
+}
+
+/// The power of two up to the greatest count of bins that a text says.
+fn bins_named(text: &str) -> Option<u32>
+    ensures value { result ≡ power_up_to MAX_BINS text.now }
+    ensures within { IfSome result IsBinCount }
+{
+    let bins = number_within(text, MAX_BINS)?;
+    if bins.is_power_of_two() {
+        Some(bins)
+    } else {
+        None
+    }
+}
