@@ -2,6 +2,7 @@
 #![tactic(auto)]
 
 use mp_cli::{lack_memory, run};
+use mp_gate::OpenGate;
 use mp_outside::{HostDepot, HostOut};
 use std::env;
 use std::io::{self, ErrorKind};
@@ -20,7 +21,7 @@ fn main(rt: HostRuntime) -> ExitCode {
         Err(_) => Vec::new(rt.alloc()),
     };
     let mut depot = HostDepot::new(&rt);
-    let status = run(&rt, words.as_slice(), &mut depot, &mut said);
+    let status = run(&rt, words.as_slice(), &mut depot, &mut said, &OpenGate);
     ExitCode::from(status.code)
 }
 

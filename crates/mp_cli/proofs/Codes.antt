@@ -1,20 +1,23 @@
 -- What the status of a refusal tells.
-use Rattle.std.proofs.Common.{ℕ, ◌≡◌, ◌≤◌, ◌⊎◌, inl, inr, Bool, true, false, Option, Some, None, IsSome, List, [], length, take, cond, refl, sym, ap, ◌∙◌, arith}
+use Rattle.std.proofs.Common.{ℕ, ◌≡◌, ◌≤◌, ◌⊎◌, inl, inr, Bool, true, false, Option, Some, None, IsSome, Result, Ok, Err, option_map, List, [], length, take, cond, refl, sym, ap, ◌∙◌, arith}
 use Rattle.std.specs.Prelude.{nat_le}
 use Rattle.mp_outside.specs.Files.{Files, file_at}
 use Rattle.mp_outside.specs.Sink.{grown}
 use Rattle.mp_outside.proofs.SinkLemmas.{grown-nothing}
 use Rattle.mp_cli.specs.declared.TheConstants.{MAX_BYTES}
-use Rattle.mp_cli.specs.Bids.{bids_of, is_empty_config}
+use Rattle.mp_events.specs.declared.refused.EventsReason.{EventsReason}
+use Rattle.mp_events.specs.Events.{events_of}
+use Rattle.mp_cli.specs.Config.{bad_line_of}
+use Rattle.mp_model.specs.declared.record.Event.{Event}
 use Rattle.mp_cli.specs.Ends.{ComesWhere, IsLineAt, Says}
-use Rattle.mp_cli.specs.Outcome.{Outcome, Answered, Usage, EventsRefused, ConfigRefused, NoFile, ReadFault, WriteFault, NoMemory, TooLarge, status_of, line_said, with_text, after_config, after_events, called_for, MayCome, MayFail, IsOfCommand}
-use Rattle.mp_cli.specs.Words.{Names}
+use Rattle.mp_cli.specs.Outcome.{Outcome, Answered, Usage, EventsRefused, ConfigRefused, NoFile, ReadFault, WriteFault, NoMemory, TooLarge, status_of, line_said, with_text, unless_refused, events_refusal, refusal_of_config, refusal_of_events, after_config, after_events, called_for, MayCome, MayFail, IsOfCommand}
+use Rattle.mp_words.specs.Values.{Options}
 
 -- want of memory may always come
-pub may_lack_memory : (command : Option Names) (told : Option Files) → MayCome command told NoMemory
+pub may_lack_memory : (command : Option Options) (told : Option Files) → MayCome command told NoMemory
 may_lack_memory None told = inr refl
-may_lack_memory (Some names) None = tt
-may_lack_memory (Some names) (Some files) = inr tt
+may_lack_memory (Some asked) None = tt
+may_lack_memory (Some asked) (Some files) = inr tt
 
 -- what files call for is no usage
 with_text-not_usage : (name : List ℕ) (found : Option (List ℕ)) (next : List ℕ → Outcome) → ((text : List ℕ) → status_of (next text) ≡ 2 → ⊥) → status_of (with_text name found next) ≡ 2 → ⊥
@@ -25,52 +28,52 @@ with_text-not_usage name (Some text) next no_next e = either (nat_le (length tex
     either true is = no_next text is
     either false is = omega arith
 
-called_for-not_usage : (told : Option Files) (names : Names) → status_of (called_for told names) ≡ 2 → ⊥
-called_for-not_usage told names e = with_text-not_usage names.events (file_at told names.events) _ after_text e
+called_for-not_usage : (told : Option Files) (asked : Options) → status_of (called_for told asked) ≡ 2 → ⊥
+called_for-not_usage told asked e = with_text-not_usage asked.events (file_at told asked.events) _ after_text e
   where
     config : (text : List ℕ) → status_of (after_config text) ≡ 2 → ⊥
-    config text is = either (is_empty_config text) is
+    config text is = either (bad_line_of text) is
       where
-        either : (empty : Bool) → status_of (cond empty Answered ConfigRefused) ≡ 2 → ⊥
-        either true h = omega arith
-        either false h = omega arith
-
-    after_text : (text : List ℕ) → status_of (after_events (bids_of text) (with_text names.config (file_at told names.config) after_config)) ≡ 2 → ⊥
-    after_text text is = either (bids_of text) is
-      where
-        either : (bids : Option _) → status_of (after_events bids (with_text names.config (file_at told names.config) after_config)) ≡ 2 → ⊥
+        either : (bad : Option ℕ) → status_of (unless_refused (option_map ConfigRefused bad) Answered) ≡ 2 → ⊥
+        either (Some line) h = omega arith
         either None h = omega arith
-        either (Some events) h = with_text-not_usage names.config (file_at told names.config) after_config config h
+
+    after_text : (text : List ℕ) → status_of (after_events (with_text asked.config (file_at told asked.config) after_config) text) ≡ 2 → ⊥
+    after_text text is = either (events_of text) is
+      where
+        either : (events : Result (List Event) (ℕ × EventsReason)) → status_of (unless_refused (events_refusal events) (with_text asked.config (file_at told asked.config) after_config)) ≡ 2 → ⊥
+        either (Err bad) h = omega arith
+        either (Ok events) h = with_text-not_usage asked.config (file_at told asked.config) after_config config h
 
 fault-not_usage : (called o : Outcome) → MayFail called o → status_of o ≡ 2 → ⊥
 fault-not_usage called Answered f e = f
 fault-not_usage called Usage f e = f
-fault-not_usage called EventsRefused f e = f
-fault-not_usage called ConfigRefused f e = f
+fault-not_usage called (EventsRefused line why) f e = f
+fault-not_usage called (ConfigRefused line) f e = f
 fault-not_usage called (NoFile name) f e = f
 fault-not_usage called ReadFault f e = omega arith
 fault-not_usage called WriteFault f e = omega arith
 fault-not_usage called NoMemory f e = omega arith
 fault-not_usage called (TooLarge name) f e = f
 
-of_command-not_usage : (names : Names) (o : Outcome) → IsOfCommand names o → status_of o ≡ 2 → ⊥
-of_command-not_usage names Answered f e = omega arith
-of_command-not_usage names Usage f e = f
-of_command-not_usage names EventsRefused f e = omega arith
-of_command-not_usage names ConfigRefused f e = omega arith
-of_command-not_usage names (NoFile name) f e = omega arith
-of_command-not_usage names ReadFault f e = omega arith
-of_command-not_usage names WriteFault f e = omega arith
-of_command-not_usage names NoMemory f e = omega arith
-of_command-not_usage names (TooLarge name) f e = omega arith
+of_command-not_usage : (asked : Options) (o : Outcome) → IsOfCommand asked o → status_of o ≡ 2 → ⊥
+of_command-not_usage asked Answered f e = omega arith
+of_command-not_usage asked Usage f e = f
+of_command-not_usage asked (EventsRefused line why) f e = omega arith
+of_command-not_usage asked (ConfigRefused line) f e = omega arith
+of_command-not_usage asked (NoFile name) f e = omega arith
+of_command-not_usage asked ReadFault f e = omega arith
+of_command-not_usage asked WriteFault f e = omega arith
+of_command-not_usage asked NoMemory f e = omega arith
+of_command-not_usage asked (TooLarge name) f e = omega arith
 
 -- a command ends otherwise than as usage
-command-not_usage : (names : Names) (told : Option Files) (o : Outcome) → MayCome (Some names) told o → status_of o ≡ 2 → ⊥
-command-not_usage names None o may e = of_command-not_usage names o may e
-command-not_usage names (Some files) o (inl is) e = called_for-not_usage (Some files) names (ap status_of (sym is) ∙ e)
-command-not_usage names (Some files) o (inr fault) e = fault-not_usage _ o fault e
+command-not_usage : (asked : Options) (told : Option Files) (o : Outcome) → MayCome (Some asked) told o → status_of o ≡ 2 → ⊥
+command-not_usage asked None o may e = of_command-not_usage asked o may e
+command-not_usage asked (Some files) o (inl is) e = called_for-not_usage (Some files) asked (ap status_of (sym is) ∙ e)
+command-not_usage asked (Some files) o (inr fault) e = fault-not_usage _ o fault e
 
-module _ (command : Option Names) (told : Option Files) (o : Outcome) (code : ℕ) (may : MayCome command told o) (is : (code ≡ status_of o) ⊎ (code ≡ 8)) where
+module _ (command : Option Options) (told : Option Files) (o : Outcome) (code : ℕ) (may : MayCome command told o) (is : (code ≡ status_of o) ⊎ (code ≡ 8)) where
   -- the status is that of an outcome that may come
   pub outcome_at : (x : Outcome) × MayCome command told x × (status_of x ≡ code)
   outcome_at = pick is
@@ -88,41 +91,41 @@ module _ (command : Option Names) (told : Option Files) (o : Outcome) (code : �
       pick (inr e) = absurd (not_memory (sym at ∙ e))
 
 -- words that are no command end as usage
-pub usage_at : (command : Option Names) (told : Option Files) (o : Outcome) (code : ℕ) → MayCome command told o → (code ≡ status_of o) ⊎ (code ≡ 8) → ComesWhere 2 code (command ≡ None)
+pub usage_at : (command : Option Options) (told : Option Files) (o : Outcome) (code : ℕ) → MayCome command told o → (code ≡ status_of o) ⊎ (code ≡ 8) → ComesWhere 2 code (command ≡ None)
 usage_at None told o code may is = (λ _. refl, λ _. pick may is)
   where
     pick : (o ≡ Usage) ⊎ (o ≡ NoMemory) → (code ≡ status_of o) ⊎ (code ≡ 8) → (code ≡ 2) ⊎ (code ≡ 8)
     pick m (inr e) = inr e
     pick (inl u) (inl e) = inl (e ∙ ap status_of u)
     pick (inr n) (inl e) = inr (e ∙ ap status_of n)
-usage_at (Some names) told o code may is =
-    (λ e. absurd (command-not_usage names told o may (status_at (Some names) told o code may is 2 e (λ h. omega arith))), λ e. cc)
+usage_at (Some asked) told o code may is =
+    (λ e. absurd (command-not_usage asked told o may (status_at (Some asked) told o code may is 2 e (λ h. omega arith))), λ e. cc)
 
 -- well-formed input is answered, but for faults
-pub complete_at : (command : Option Names) (told : Option Files) (o : Outcome) (code : ℕ) (reads writes : Type 0) → MayCome command told o → (code ≡ status_of o) ⊎ (code ≡ 8) → (status_of o ≡ 6 → reads) → (status_of o ≡ 7 → writes)
-    → (names : Names) → command ≡ Some names → IsSome told → called_for told names ≡ Answered → (reads → ⊥) → (writes → ⊥) → (code ≡ 0) ⊎ (code ≡ 8)
-complete_at command told o code reads writes may (inr e) read write names is some answered no_reads no_writes = inr e
-complete_at None told o code reads writes may (inl e) read write names is some answered no_reads no_writes = cc
-complete_at (Some given) None o code reads writes may (inl e) read write names is some answered no_reads no_writes = cc
-complete_at (Some given) (Some files) o code reads writes (inl called) (inl e) read write names is some answered no_reads no_writes =
-    let same : given ≡ names = cc in
+pub complete_at : (command : Option Options) (told : Option Files) (o : Outcome) (code : ℕ) (reads writes : Type 0) → MayCome command told o → (code ≡ status_of o) ⊎ (code ≡ 8) → (status_of o ≡ 6 → reads) → (status_of o ≡ 7 → writes)
+    → (asked : Options) → command ≡ Some asked → IsSome told → called_for told asked ≡ Answered → (reads → ⊥) → (writes → ⊥) → (code ≡ 0) ⊎ (code ≡ 8)
+complete_at command told o code reads writes may (inr e) read write asked is some answered no_reads no_writes = inr e
+complete_at None told o code reads writes may (inl e) read write asked is some answered no_reads no_writes = cc
+complete_at (Some given) None o code reads writes may (inl e) read write asked is some answered no_reads no_writes = cc
+complete_at (Some given) (Some files) o code reads writes (inl called) (inl e) read write asked is some answered no_reads no_writes =
+    let same : given ≡ asked = cc in
     inl (e ∙ ap status_of (called ∙ ap (called_for (Some files)) same ∙ answered))
-complete_at (Some given) (Some files) ReadFault code reads writes (inr fault) (inl e) read write names is some answered no_reads no_writes = absurd (no_reads (read refl))
-complete_at (Some given) (Some files) WriteFault code reads writes (inr fault) (inl e) read write names is some answered no_reads no_writes = absurd (no_writes (write refl))
-complete_at (Some given) (Some files) NoMemory code reads writes (inr fault) (inl e) read write names is some answered no_reads no_writes = inr e
-complete_at (Some given) (Some files) Answered code reads writes (inr fault) (inl e) read write names is some answered no_reads no_writes = absurd fault
-complete_at (Some given) (Some files) Usage code reads writes (inr fault) (inl e) read write names is some answered no_reads no_writes = absurd fault
-complete_at (Some given) (Some files) EventsRefused code reads writes (inr fault) (inl e) read write names is some answered no_reads no_writes = absurd fault
-complete_at (Some given) (Some files) ConfigRefused code reads writes (inr fault) (inl e) read write names is some answered no_reads no_writes = absurd fault
-complete_at (Some given) (Some files) (NoFile name) code reads writes (inr fault) (inl e) read write names is some answered no_reads no_writes = absurd fault
-complete_at (Some given) (Some files) (TooLarge name) code reads writes (inr fault) (inl e) read write names is some answered no_reads no_writes = absurd fault
+complete_at (Some given) (Some files) ReadFault code reads writes (inr fault) (inl e) read write asked is some answered no_reads no_writes = absurd (no_reads (read refl))
+complete_at (Some given) (Some files) WriteFault code reads writes (inr fault) (inl e) read write asked is some answered no_reads no_writes = absurd (no_writes (write refl))
+complete_at (Some given) (Some files) NoMemory code reads writes (inr fault) (inl e) read write asked is some answered no_reads no_writes = inr e
+complete_at (Some given) (Some files) Answered code reads writes (inr fault) (inl e) read write asked is some answered no_reads no_writes = absurd fault
+complete_at (Some given) (Some files) Usage code reads writes (inr fault) (inl e) read write asked is some answered no_reads no_writes = absurd fault
+complete_at (Some given) (Some files) (EventsRefused line why) code reads writes (inr fault) (inl e) read write asked is some answered no_reads no_writes = absurd fault
+complete_at (Some given) (Some files) (ConfigRefused line) code reads writes (inr fault) (inl e) read write asked is some answered no_reads no_writes = absurd fault
+complete_at (Some given) (Some files) (NoFile name) code reads writes (inr fault) (inl e) read write asked is some answered no_reads no_writes = absurd fault
+complete_at (Some given) (Some files) (TooLarge name) code reads writes (inr fault) (inl e) read write asked is some answered no_reads no_writes = absurd fault
 
 -- what the sink may say at this status
-abbrev pub MaySay : Option Names → Option Files → ℕ → List ℕ → Type 0
+abbrev pub MaySay : Option Options → Option Files → ℕ → List ℕ → Type 0
 MaySay command told status line = (code : ℕ) × ((code ≡ status) ⊎ (status ≡ 8)) × IsLineAt command told code line
 
 -- nothing is said where there is an answer
-pub says_nothing_at : (command : Option Names) (told : Option Files) (written : Option (List ℕ)) (else_so : Type 0) → MayCome command told Answered → Says written written (MaySay command told 0) else_so
+pub says_nothing_at : (command : Option Options) (told : Option Files) (written : Option (List ℕ)) (else_so : Type 0) → MayCome command told Answered → Says written written (MaySay command told 0) else_so
 says_nothing_at command told written else_so may = record {
   line = [];
   is = (0, inl refl, record { outcome = Answered; may = may; status = refl; said = refl });
@@ -132,7 +135,7 @@ says_nothing_at command told written else_so may = record {
 }
 
 -- the line of a refusal is said, or a part of it
-pub says_line_at : (command : Option Names) (told : Option Files) (o : Outcome) (code : ℕ) (old new : Option (List ℕ)) (faults : Type 0) → MayCome command told o → (code ≡ status_of o) ⊎ (code ≡ 8)
+pub says_line_at : (command : Option Options) (told : Option Files) (o : Outcome) (code : ℕ) (old new : Option (List ℕ)) (faults : Type 0) → MayCome command told o → (code ≡ status_of o) ⊎ (code ≡ 8)
     → ((k : ℕ) × (new ≡ grown old (take k (line_said o))) × ((length (line_said o) ≤ k) ⊎ (faults ⊎ (code ≡ 8)))) → Says old new (MaySay command told code) (faults ⊎ (code ≡ 8))
 says_line_at command told o code old new faults may is said = record {
   line = line_said o;

@@ -1,14 +1,16 @@
 -- Which outcomes may come.
-use Rattle.std.proofs.Common.{Result, Ok, Err, IfErr, MatchResult, ℕ, ◌≡◌, ◌<◌, ◌⊎◌, inl, inr, true, false, Option, Some, None, List, length, refl, sym, subst, ◌∙◌}
+use Rattle.std.proofs.Common.{Result, Ok, Err, IfErr, MatchResult, ℕ, ◌≡◌, ◌<◌, ◌⊎◌, inl, inr, true, false, Option, Some, None, List, length, refl, sym, subst, ◌∙◌, option_map}
 use Rattle.std.specs.Prelude.{nat_le, IsSomeAnd}
 use Rattle.std.proofs.lemmas.Bool.{le-leb, lt-leb}
 use Rattle.mp_model.specs.declared.record.Event.{Event}
 use Rattle.mp_outside.specs.Files.{Files, file_at, IsThereWith}
 use Rattle.mp_cli.specs.declared.TheConstants.{MAX_BYTES}
-use Rattle.mp_cli.specs.Words.{Names}
-use Rattle.mp_cli.specs.Bids.{bids_of, is_empty_config}
-use Rattle.mp_cli.specs.Outcome.{Outcome, Answered, EventsRefused, ConfigRefused, WriteFault, NoMemory, with_text, after_config, after_events, called_for, MayCome, MayFail}
-use Rattle.mp_cli.specs.Reading.{IsRead, CannotRead, absent, large, failed, no_memory, RefusedAt, ReadsBids}
+use Rattle.mp_events.specs.Events.{events_of}
+use Rattle.mp_words.specs.Values.{Options}
+use Rattle.mp_cli.specs.Config.{bad_line_of}
+use Rattle.mp_events.specs.declared.refused.EventsReason.{EventsReason}
+use Rattle.mp_cli.specs.Outcome.{Outcome, Answered, ConfigRefused, EventsRefused, events_refusal, WriteFault, NoMemory, with_text, refusal_of_config, refusal_of_events, after_config, after_events, called_for, MayCome, MayFail}
+use Rattle.mp_cli.specs.Reading.{IsRead, CannotRead, absent, large, failed, no_memory, ReadsConfig, ReadsEvents, RefusedBy}
 
 -- the bytes of a name that is there with a property, where files are told
 pub held : (files : Files) (name : List ℕ) (Has : List ℕ → Type 0) → IsThereWith (Some files) name Has → (bytes : List ℕ) × (file_at (Some files) name ≡ Some bytes) × Has bytes
@@ -36,50 +38,70 @@ cannot_goes_off files name next called o failed = inr tt
 cannot_goes_off files name next called o no_memory = inr tt
 
 -- the outcome of a file that could not be read, where files aren't told, is of the command
-CannotRead-of_events : (names : Names) (o : Outcome) → CannotRead None names.events o → MayCome (Some names) None o
-CannotRead-of_events names o (absent none) = inl refl
-CannotRead-of_events names o (large more) = inl refl
-CannotRead-of_events names o failed = tt
-CannotRead-of_events names o no_memory = tt
+CannotRead-of_events : (asked : Options) (o : Outcome) → CannotRead None asked.events o → MayCome (Some asked) None o
+CannotRead-of_events asked o (absent none) = inl refl
+CannotRead-of_events asked o (large more) = inl refl
+CannotRead-of_events asked o failed = tt
+CannotRead-of_events asked o no_memory = tt
 
-CannotRead-of_config : (names : Names) (o : Outcome) → CannotRead None names.config o → MayCome (Some names) None o
-CannotRead-of_config names o (absent none) = inr refl
-CannotRead-of_config names o (large more) = inr refl
-CannotRead-of_config names o failed = tt
-CannotRead-of_config names o no_memory = tt
+CannotRead-of_config : (asked : Options) (o : Outcome) → CannotRead None asked.config o → MayCome (Some asked) None o
+CannotRead-of_config asked o (absent none) = inr refl
+CannotRead-of_config asked o (large more) = inr refl
+CannotRead-of_config asked o failed = tt
+CannotRead-of_config asked o no_memory = tt
+
+-- where nothing is told, each refusal of the events is of the command
+events_untold : (asked : Options) (text : List ℕ) (o : Outcome) → refusal_of_events text ≡ Some o → MayCome (Some asked) None o
+events_untold asked text o e = either (events_of text) e
+  where
+    either : (events : Result (List Event) (ℕ × EventsReason)) → events_refusal events ≡ Some o → MayCome (Some asked) None o
+    either (Err bad) h =
+        let P : Outcome → Type 0 = λ x. MayCome (Some asked) None x in
+        let is : EventsRefused bad.0 bad.1 ≡ o = cc in subst P is tt
+    either (Ok events) h = cc
+
+-- and so is each refusal of the configuration
+config_untold : (asked : Options) (text : List ℕ) (o : Outcome) → refusal_of_config text ≡ Some o → MayCome (Some asked) None o
+config_untold asked text o e = either (bad_line_of text) e
+  where
+    either : (bad : Option ℕ) → option_map ConfigRefused bad ≡ Some o → MayCome (Some asked) None o
+    either (Some line) h =
+        let P : Outcome → Type 0 = λ x. MayCome (Some asked) None x in
+        let is : ConfigRefused line ≡ o = cc in subst P is tt
+    either None h = cc
 
 -- the events were refused
-pub may_from_events : (told : Option Files) (names : Names) (o : Outcome) → RefusedAt told names.events (λ text. bids_of text ≡ None) EventsRefused o → MayCome (Some names) told o
-may_from_events None names o (inl cannot) = CannotRead-of_events names o cannot
-may_from_events None names o (inr bad) = let P : Outcome → Type 0 = λ x. MayCome (Some names) None x in subst P (sym bad.0) tt
-may_from_events (Some files) names o (inl cannot) = cannot_goes_off files names.events _ _ o cannot
-may_from_events (Some files) names o (inr bad) =
-    let e = read_goes_on files names.events bad.1 (λ (text : List ℕ). after_events (bids_of text) (with_text names.config (file_at (Some files) names.config) after_config)) bad.2 in
-    inl (bad.0 ∙ sym (e ∙ rw bad.3 refl))
+pub may_from_events : (told : Option Files) (asked : Options) (o : Outcome) → RefusedBy told asked.events refusal_of_events o → MayCome (Some asked) told o
+may_from_events None asked o (inl cannot) = CannotRead-of_events asked o cannot
+may_from_events None asked o (inr bad) = events_untold asked bad.0 o bad.2
+may_from_events (Some files) asked o (inl cannot) = cannot_goes_off files asked.events _ _ o cannot
+may_from_events (Some files) asked o (inr bad) =
+    let e = read_goes_on files asked.events bad.0 (after_events (with_text asked.config (file_at (Some files) asked.config) after_config)) bad.1 in
+    inl (sym (e ∙ rw bad.2 refl))
 
 -- with the events read, what the configuration calls for
-after_bids : (files : Files) (names : Names) (events : List Event) → ReadsBids (Some files) names.events events → called_for (Some files) names ≡ with_text names.config (file_at (Some files) names.config) after_config
-after_bids files names events r =
-    let e = read_goes_on files names.events r.0 (λ (text : List ℕ). after_events (bids_of text) (with_text names.config (file_at (Some files) names.config) after_config)) r.1 in
+after_reading : (files : Files) (asked : Options) (events : List Event) → ReadsEvents (Some files) asked.events events → called_for (Some files) asked ≡ with_text asked.config (file_at (Some files) asked.config) after_config
+after_reading files asked events r =
+    let e = read_goes_on files asked.events r.0 (after_events (with_text asked.config (file_at (Some files) asked.config) after_config)) r.1 in
     e ∙ rw r.2 refl
 
 -- the configuration was refused
-pub may_from_config : (told : Option Files) (names : Names) (events : List Event) (o : Outcome) → ReadsBids told names.events events → RefusedAt told names.config (λ text. is_empty_config text ≡ false) ConfigRefused o → MayCome (Some names) told o
-may_from_config None names events o r (inl cannot) = CannotRead-of_config names o cannot
-may_from_config None names events o r (inr bad) = let P : Outcome → Type 0 = λ x. MayCome (Some names) None x in subst P (sym bad.0) tt
-may_from_config (Some files) names events o r (inl cannot) =
-    let e = after_bids files names events r in rw e (cannot_goes_off files names.config after_config _ o cannot)
-may_from_config (Some files) names events o r (inr bad) =
-    let e = after_bids files names events r in
-    let f = read_goes_on files names.config bad.1 after_config bad.2 in
-    inl (bad.0 ∙ sym (e ∙ f ∙ rw bad.3 refl))
+pub may_from_config : (told : Option Files) (asked : Options) (events : List Event) (o : Outcome) → ReadsEvents told asked.events events → RefusedBy told asked.config refusal_of_config o → MayCome (Some asked) told o
+may_from_config None asked events o r (inl cannot) = CannotRead-of_config asked o cannot
+may_from_config None asked events o r (inr bad) = config_untold asked bad.0 o bad.2
+may_from_config (Some files) asked events o r (inl cannot) =
+    let e = after_reading files asked events r in rw e (cannot_goes_off files asked.config after_config _ o cannot)
+may_from_config (Some files) asked events o r (inr bad) =
+    let e = after_reading files asked events r in
+    let f = read_goes_on files asked.config bad.0 after_config bad.1 in
+    inl (sym (e ∙ f ∙ rw bad.2 refl))
 
--- both were read, so an answer is called for
-answer_called_for : (files : Files) (names : Names) (events : List Event) → ReadsBids (Some files) names.events events → ((text : List ℕ) × IsRead (Some files) names.config text × (is_empty_config text ≡ true)) → called_for (Some files) names ≡ Answered
-answer_called_for files names events r empty =
-    let e = after_bids files names events r in
-    let f = read_goes_on files names.config empty.0 after_config empty.1 in
-    e ∙ f ∙ rw empty.2 refl
+-- with both read, an answer is called for
+answer_called_for : (files : Files) (asked : Options) (events : List Event) → ReadsEvents (Some files) asked.events events → ReadsConfig (Some files) asked.config → called_for (Some files) asked ≡ Answered
+answer_called_for files asked events r config =
+    let e = after_reading files asked events r in
+    let f = read_goes_on files asked.config config.0 after_config config.1 in
+    e ∙ f ∙ rw config.2 refl
 
 -- the writing failed
 fails_writing : (called o : Outcome) → called ≡ Answered → (o ≡ WriteFault) ⊎ (o ≡ NoMemory) → MayFail called o
@@ -87,14 +109,14 @@ fails_writing called o answered (inl e) = subst (MayFail called) (sym e) answere
 fails_writing called o answered (inr e) = subst (MayFail called) (sym e) tt
 
 -- where nothing is told, a fault of the writing is of the command
-fails_untold : (names : Names) (o : Outcome) → (o ≡ WriteFault) ⊎ (o ≡ NoMemory) → MayCome (Some names) None o
-fails_untold names o (inl e) = let P : Outcome → Type 0 = λ x. MayCome (Some names) None x in subst P (sym e) tt
-fails_untold names o (inr e) = let P : Outcome → Type 0 = λ x. MayCome (Some names) None x in subst P (sym e) tt
+fails_untold : (asked : Options) (o : Outcome) → (o ≡ WriteFault) ⊎ (o ≡ NoMemory) → MayCome (Some asked) None o
+fails_untold asked o (inl e) = let P : Outcome → Type 0 = λ x. MayCome (Some asked) None x in subst P (sym e) tt
+fails_untold asked o (inr e) = let P : Outcome → Type 0 = λ x. MayCome (Some asked) None x in subst P (sym e) tt
 
 -- what comes of the writing
-pub may_end : {T R : Type 0} (outcome : R → Outcome) (result : Result T R) (told : Option Files) (names : Names) (events : List Event) → ReadsBids told names.events events → ((text : List ℕ) × IsRead told names.config text × (is_empty_config text ≡ true)) → IfErr result (λ r. (outcome r ≡ WriteFault) ⊎ (outcome r ≡ NoMemory)) → MatchResult result (λ _. MayCome (Some names) told Answered) (λ r. MayCome (Some names) told (outcome r))
-may_end outcome (Ok x) None names events bids config fault = tt
-may_end outcome (Ok x) (Some files) names events bids config fault = inl (sym (answer_called_for files names events bids config))
-may_end outcome (Err r) None names events bids config fault = fails_untold names (outcome r) fault
-may_end outcome (Err r) (Some files) names events bids config fault =
-    inr (fails_writing _ (outcome r) (answer_called_for files names events bids config) fault)
+pub may_end : {T R : Type 0} (outcome : R → Outcome) (result : Result T R) (told : Option Files) (asked : Options) (events : List Event) → ReadsEvents told asked.events events → ReadsConfig told asked.config → IfErr result (λ r. (outcome r ≡ WriteFault) ⊎ (outcome r ≡ NoMemory)) → MatchResult result (λ _. MayCome (Some asked) told Answered) (λ r. MayCome (Some asked) told (outcome r))
+may_end outcome (Ok x) None asked events read config fault = tt
+may_end outcome (Ok x) (Some files) asked events read config fault = inl (sym (answer_called_for files asked events read config))
+may_end outcome (Err r) None asked events read config fault = fails_untold asked (outcome r) fault
+may_end outcome (Err r) (Some files) asked events read config fault =
+    inr (fails_writing _ (outcome r) (answer_called_for files asked events read config) fault)

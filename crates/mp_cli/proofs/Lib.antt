@@ -3,5 +3,3 @@ mod Coming
 mod Ending
 mod Joined
 mod Parts
-mod SoFar
-mod Shorts

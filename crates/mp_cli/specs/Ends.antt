@@ -1,40 +1,40 @@
 -- What is promised of the end of a call.
-use Rattle.std.specs.Prelude.{ℕ, ◌≡◌, ◌≢◌, ◌⊎◌, ◌≤◌, Option, Some, None, List, take, length, IfSome}
+use Rattle.std.specs.Prelude.{ℕ, ◌≡◌, ◌≢◌, ◌⊎◌, ◌≤◌, Option, Some, None, Ok, List, take, length, IfSome}
 use Rattle.mp_model.specs.declared.record.Event.{Event}
 use Rattle.mp_outside.specs.Files.{Files, file_at}
 use Rattle.mp_outside.specs.Sink.{grown}
-use Rattle.mp_cli.specs.Answer.{one_thread_answer}
-use Rattle.mp_cli.specs.Bids.{bids_of}
-use Rattle.mp_cli.specs.Words.{Names}
+use Rattle.mp_events.specs.Events.{events_of}
+use Rattle.mp_words.specs.Values.{Options}
+use Rattle.mp_cli.specs.Queries.{answer_of}
 use Rattle.mp_cli.specs.Outcome.{Outcome, MayCome, status_of, line_said}
 
--- the event file holds these bids
-pub record HasBids (told : Option Files) (name : List ℕ) (events : List Event) : Type 0 where
+-- the event file holds these events
+pub record HasEvents (told : Option Files) (name : List ℕ) (events : List Event) : Type 0 where
   pub text : List ℕ
   pub held : file_at told name ≡ Some text
-  pub said : bids_of text ≡ Some events
+  pub said : events_of text ≡ Ok events
 
--- the name after `--out` holds exactly the one-thread answer to the events
-abbrev pub IsAnswered : Option Files → Option Files → Names → Type 0
-IsAnswered old new names =
-    (events : List Event) × HasBids old names.events events × (file_at new names.out ≡ Some (one_thread_answer events))
+-- the name after `--out` holds exactly the query's one-thread answer to the events
+abbrev pub IsAnswered : Option Files → Option Files → Options → Type 0
+IsAnswered old new asked =
+    (events : List Event) × HasEvents old asked.events events × (file_at new asked.out ≡ Some (answer_of asked.query events))
 
 -- the name after `--out` is as it was, or holds the first bytes of the answer
-abbrev pub IsAnsweredInPart : Option Files → Option Files → Names → Type 0
-IsAnsweredInPart old new names =
-    (file_at new names.out ≡ file_at old names.out)
-    ⊎ ((events : List Event) × (k : ℕ) × HasBids old names.events events × (file_at new names.out ≡ Some (take k (one_thread_answer events))))
+abbrev pub IsAnsweredInPart : Option Files → Option Files → Options → Type 0
+IsAnsweredInPart old new asked =
+    (file_at new asked.out ≡ file_at old asked.out)
+    ⊎ ((events : List Event) × (k : ℕ) × HasEvents old asked.events events × (file_at new asked.out ≡ Some (take k (answer_of asked.query events))))
 
 -- the statuses at which the files are as they were
 abbrev pub IsRefusal : ℕ → Type 0
 IsRefusal code = (code ≡ 2) ⊎ ((code ≡ 3) ⊎ ((code ≡ 4) ⊎ ((code ≡ 5) ⊎ ((code ≡ 6) ⊎ (code ≡ 9)))))
 
 -- the name is not that after `--out`
-abbrev pub IsOther : Option Names → List ℕ → Type 0
-IsOther command name = IfSome command (λ names. name ≢ names.out)
+abbrev pub IsOther : Option Options → List ℕ → Type 0
+IsOther command name = IfSome command (λ asked. name ≢ asked.out)
 
 -- the line of an outcome that may come, which has this status
-pub record IsLineAt (command : Option Names) (told : Option Files) (code : ℕ) (line : List ℕ) : Type 0 where
+pub record IsLineAt (command : Option Options) (told : Option Files) (code : ℕ) (line : List ℕ) : Type 0 where
   pub outcome : Outcome
   pub may : MayCome command told outcome
   pub status : status_of outcome ≡ code
@@ -53,6 +53,6 @@ abbrev pub ComesWhere : ℕ → ℕ → Type 0 → Type 0
 ComesWhere status code cause = (code ≡ status → cause) × (cause → (code ≡ status) ⊎ (code ≡ 8))
 
 -- the name is that of the events or of the configuration
-abbrev pub IsInput : Option Names → List ℕ → Type 0
+abbrev pub IsInput : Option Options → List ℕ → Type 0
 IsInput None name = ⊥
-IsInput (Some names) name = (name ≡ names.events) ⊎ (name ≡ names.config)
+IsInput (Some asked) name = (name ≡ asked.events) ⊎ (name ≡ asked.config)

@@ -1,7 +1,6 @@
-pub mod Answer
-pub mod Bids
+pub mod Config
 pub mod Ends
 pub mod Outcome
+pub mod Queries
 pub mod Reading
 pub mod Refused
-pub mod Words

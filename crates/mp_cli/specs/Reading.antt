@@ -1,9 +1,10 @@
 -- What comes of reading a named file.
-use Rattle.std.specs.Prelude.{ℕ, ◌≡◌, ◌<◌, ◌≤◌, ◌⊎◌, Option, None, Some, List, length}
+use Rattle.std.specs.Prelude.{ℕ, ◌≡◌, ◌<◌, ◌≤◌, ◌⊎◌, Option, None, Some, Ok, List, length}
 use Rattle.mp_model.specs.declared.record.Event.{Event}
+use Rattle.mp_events.specs.Events.{events_of}
 use Rattle.mp_outside.specs.Files.{Files, file_at, IsThereWith}
-use Rattle.mp_cli.specs.Bids.{bids_of}
 use Rattle.mp_cli.specs.declared.TheConstants.{MAX_BYTES}
+use Rattle.mp_cli.specs.Config.{bad_line_of}
 use Rattle.mp_cli.specs.Outcome.{Outcome, NoFile, TooLarge, ReadFault, NoMemory}
 
 -- the text is the file's, where files are told, and no longer than is allowed
@@ -18,11 +19,15 @@ pub data CannotRead (told : Option Files) (name : List ℕ) : Outcome → Type 0
   failed : CannotRead told name ReadFault
   no_memory : CannotRead told name NoMemory
 
--- why a file was refused: it gave no text, or one that is bad for the reason `why`
-abbrev pub RefusedAt : Option Files → List ℕ → (List ℕ → Type 0) → Outcome → Outcome → Type 0
-RefusedAt told name IsBad why outcome =
-    CannotRead told name outcome ⊎ ((outcome ≡ why) × (text : List ℕ) × IsRead told name text × IsBad text)
+-- why a file was refused: it gave no text, or one that is refused so
+abbrev pub RefusedBy : Option Files → List ℕ → (List ℕ → Option Outcome) → Outcome → Type 0
+RefusedBy told name refusal outcome =
+    CannotRead told name outcome ⊎ ((text : List ℕ) × IsRead told name text × (refusal text ≡ Some outcome))
 
--- the event file was read, and holds these bids
-abbrev pub ReadsBids : Option Files → List ℕ → List Event → Type 0
-ReadsBids told name events = (text : List ℕ) × IsRead told name text × (bids_of text ≡ Some events)
+-- the event file was read, and says these events
+abbrev pub ReadsEvents : Option Files → List ℕ → List Event → Type 0
+ReadsEvents told name events = (text : List ℕ) × IsRead told name text × (events_of text ≡ Ok events)
+
+-- the configuration was read, and has no bad line
+abbrev pub ReadsConfig : Option Files → List ℕ → Type 0
+ReadsConfig told name = (text : List ℕ) × IsRead told name text × (bad_line_of text ≡ None)

@@ -1,9 +1,6 @@
 //! The command line of megaphone: what the words ask for, done on the files of a depot.
 #![tactic(auto)]
 
-mod answer;
-mod bids;
-mod pieces;
 mod reading;
 mod refusal;
 mod serve;
@@ -11,7 +8,6 @@ mod status;
 #[cfg(test)]
 mod tests;
 mod top;
-mod words;
 mod writing;
 
 pub use status::{Status, lack_memory};

@@ -1,10 +1,13 @@
 //! Why a command gives no answer, and the line that says so.
-ghost use Rattle.std.specs.Prelude.{◌≡◌, ◌≤◌, ◌++◌, ◌⊎◌, ℕ, take, length, codes, OnOk, OnErr};
+ghost use Rattle.std.specs.Prelude.{◌≡◌, ◌++◌, ℕ, codes, take, OnOk, OnErr};
+ghost use Rattle.std.specs.Fmt.{decimal};
+ghost use Rattle.std.specs.List.{flat_map};
 ghost use Rattle.mp_outside.specs.Fault.{Rose};
 ghost use Rattle.mp_outside.specs.Sink.{grown};
 ghost use Rattle.mp_cli.specs.Refused.{outcome_of};
-ghost use Rattle.mp_cli.specs.Outcome.{line_said, status_of};
+ghost use Rattle.mp_cli.specs.Outcome.{line_said, number_in, status_of};
 
+use mp_events::EventsReason;
 use mp_outside::{Fault, Sink, write_piece};
 
 /// Why a command gives no answer.
@@ -12,10 +15,10 @@ use mp_outside::{Fault, Sink, write_piece};
 pub enum Refusal<'a> {
     /// The words are no command.
     Usage,
-    /// The event file has a line that is no bid, or too many lines.
-    EventsRefused,
-    /// The configuration has a line that isn't blank.
-    ConfigRefused,
+    /// The event file has a first bad line.
+    EventsRefused { line: u64, why: EventsReason },
+    /// The configuration has a first line that isn't blank.
+    ConfigRefused { line: u64 },
     /// The file of this name isn't there.
     NoFile(&'a str),
     /// A find or a read failed.
@@ -35,8 +38,8 @@ impl<'a> Refusal<'a> {
     {
         match self {
             Refusal::Usage => 2,
-            Refusal::EventsRefused => 3,
-            Refusal::ConfigRefused => 4,
+            Refusal::EventsRefused { .. } => 3,
+            Refusal::ConfigRefused { .. } => 4,
             Refusal::NoFile(_) => 5,
             Refusal::ReadFault => 6,
             Refusal::WriteFault => 7,
@@ -45,19 +48,31 @@ impl<'a> Refusal<'a> {
         }
     }
 
-    /// The words of its line, and the name that follows them where there is one.
-    fn words(&self) -> (&'static str, &'a str)
-        ensures { line_said (outcome_of self.now) ≡ result.0.now ++ result.1.now ++ codes "\n" }
+    /// The number of the line that it speaks of, and 0 where it speaks of none.
+    fn line_number(&self) -> u64
+        ensures { result ≡ number_in (outcome_of self.now) }
     {
         match self {
-            Refusal::Usage => ("usage: megaphone run|replay|check|make|demo", ""),
-            Refusal::EventsRefused => ("events refused", ""),
-            Refusal::ConfigRefused => ("config refused", ""),
-            Refusal::NoFile(name) => ("no file ", *name),
-            Refusal::ReadFault => ("read fault", ""),
-            Refusal::WriteFault => ("write fault", ""),
-            Refusal::NoMemory => ("no memory", ""),
-            Refusal::TooLarge(name) => ("too large: ", *name),
+            Refusal::EventsRefused { line, .. } => *line,
+            Refusal::ConfigRefused { line } => *line,
+            _ => 0,
+        }
+    }
+
+    /// The words of its line, in four parts. `digits` says the number of the line that it speaks of.
+    fn words<'b>(&'b self, digits: &'b str) -> (&'b str, &'b str, &'b str, &'b str)
+        requires { digits.now ≡ decimal (number_in (outcome_of self.now)) }
+        ensures { line_said (outcome_of self.now) ≡ result.0.now ++ (result.1.now ++ (result.2.now ++ (result.3.now ++ codes "\n"))) }
+    {
+        match self {
+            Refusal::Usage => ("usage: megaphone run|replay|check|make|demo", "", "", ""),
+            Refusal::EventsRefused { why, .. } => ("events line ", digits, ": ", why.text()),
+            Refusal::ConfigRefused { .. } => ("config line ", digits, ": ", "kind"),
+            Refusal::NoFile(name) => ("no file ", *name, "", ""),
+            Refusal::ReadFault => ("read fault", "", "", ""),
+            Refusal::WriteFault => ("write fault", "", "", ""),
+            Refusal::NoMemory => ("no memory", "", "", ""),
+            Refusal::TooLarge(name) => ("too large: ", *name, "", ""),
         }
     }
 
@@ -67,19 +82,21 @@ impl<'a> Refusal<'a> {
         ensures part { OnErr result ((k : ℕ) × (S.written said.new ≡ grown (S.written said.old) (take k (line_said (outcome_of self.now))))) }
         ensures failed { result ≡ Err Fault.Failed → Rose (S.faults said.old) (S.faults said.new) }
     {
-        let (words, name) = self.words();
-        say_line(said, words, name)
+        let mut digits = itoa::Buffer::new();
+        let (before, subject, between, reason) = self.words(digits.format(self.line_number()));
+        let parts = [before, subject, between, reason, "\n"];
+        say_parts(said, parts.as_slice())
     }
 }
 
-/// Writes a line: words, then a name.
-fn say_line<S: Sink>(said: &mut S, words: &str, name: &str) -> Result<(), Fault>
-    ensures whole { OnOk result (S.written said.new ≡ grown (S.written said.old) (words.now ++ name.now ++ codes "\n")) }
-    ensures part { OnErr result ((k : ℕ) × (S.written said.new ≡ grown (S.written said.old) (take k (words.now ++ name.now ++ codes "\n")))) }
+/// Writes the parts of a line, one after the other.
+fn say_parts<S: Sink>(said: &mut S, parts: &[&str]) -> Result<(), Fault>
+    ensures whole { OnOk result (S.written said.new ≡ grown (S.written said.old) (flat_map (λ part. part.now) parts.now)) }
+    ensures part { OnErr result ((k : ℕ) × (S.written said.new ≡ grown (S.written said.old) (take k (flat_map (λ part. part.now) parts.now)))) }
     ensures failed { result ≡ Err Fault.Failed → Rose (S.faults said.old) (S.faults said.new) }
 {
-    write_piece(said, words.as_bytes())?;
-    write_piece(said, name.as_bytes())?;
-    write_piece(said, b"\n")?;
+    for part in parts {
+        write_piece(said, part.as_bytes())?;
+    }
     Ok(())
 }

@@ -1,5 +1,6 @@
 //! Worked examples on files in memory.
 use crate::run;
+use mp_gate::OpenGate;
 use mp_outside::{MemDepot, MemSink, Op};
 use std::alloc::{AllocError, Global};
 use std::process::Abort;
@@ -7,7 +8,11 @@ use std::test::Fail;
 
 const Q1: &str = "megaphone run --query q1 --events e --config c --out o";
 
+const Q2: &str = "megaphone run --query q2 --events e --config c --out o";
+
 const THREE_BIDS: &[u8] = b"B|5|7|2|100\nB|3|7|1|250\nB|5|2|9|99\n";
+
+const THREE_ROWS: &[u8] = b"3|7|1|222\n5|2|9|88\n5|7|2|89\n";
 
 const USAGE: &str = "usage: megaphone run|replay|check|make|demo\n";
 
@@ -39,34 +44,82 @@ fn ends_as<R: AllocGlobal + Abort>(
 ) -> Result<(), AllocError> {
     let words = cut(rt.alloc(), line)?;
     let mut said = MemSink::new(rt.alloc());
-    let ended = run(rt, words.as_slice(), depot, &mut said);
+    let ended = run(rt, words.as_slice(), depot, &mut said, &OpenGate);
     assert_eq!(rt; ended.code, status, "{line}");
     assert_eq!(rt; said.bytes(), says.as_bytes(), "{line}");
     assert_eq!(rt; depot.get("o"), answer, "{line}");
     Ok(())
 }
 
-#[test]
-fn three_bids(rt: HostRuntime) -> Result<(), Fail> {
-    let mut depot = files(rt.alloc(), THREE_BIDS, b"")?;
-    let answer = b"3|7|1|222\n5|2|9|88\n5|7|2|89\n".as_slice();
-    ends_as(&rt, &mut depot, Q1, 0, "", Some(answer))?;
-    Ok(())
+/// Runs the words of a line on these events and an empty configuration, and compares the answer.
+fn answers<R: AllocGlobal + Abort>(
+    rt: &R,
+    line: &str,
+    events: &[u8],
+    answer: &[u8],
+) -> Result<(), AllocError> {
+    let mut depot = files(rt.alloc(), events, b"")?;
+    ends_as(rt, &mut depot, line, 0, "", Some(answer))
+}
+
+/// Runs q1 on these events and this configuration, which are refused with this status and line.
+fn refuses<R: AllocGlobal + Abort>(
+    rt: &R,
+    events: &[u8],
+    config: &[u8],
+    status: u8,
+    says: &str,
+) -> Result<(), AllocError> {
+    let mut depot = files(rt.alloc(), events, config)?;
+    ends_as(rt, &mut depot, Q1, status, says, None)
+}
+
+/// These bytes so many times, one after the other.
+fn repeated(alloc: Global, bytes: &[u8], times: u32) -> Result<Vec<u8>, AllocError> {
+    let mut all = Vec::new(alloc);
+    for _ in 0..times {
+        all.extend_from_slice(bytes)?;
+    }
+    Ok(all)
 }
 
 #[test]
-fn words_in_any_order(rt: HostRuntime) -> Result<(), Fail> {
-    let mut depot = files(rt.alloc(), THREE_BIDS, b"")?;
-    let line = "m run --out o --config c --events e --query q1";
-    let answer = b"3|7|1|222\n5|2|9|88\n5|7|2|89\n".as_slice();
-    ends_as(&rt, &mut depot, line, 0, "", Some(answer))?;
+fn three_bids(rt: HostRuntime) -> Result<(), Fail> {
+    for line in [
+        Q1,
+        "m run --out o --config c --events e --query q1",
+        "m run --query=q1 --events=e --config=c --out=o --",
+        "m run --query q1 --events e --config c --out o --workers 1 --bins 256 --depth 1024",
+        "m run --query q1 --events e --config c --out o --workers 01 --bins 1 --depth 001",
+    ] {
+        answers(&rt, line, THREE_BIDS, THREE_ROWS)?;
+    }
     Ok(())
 }
 
 #[test]
 fn empty_events(rt: HostRuntime) -> Result<(), Fail> {
-    let mut depot = files(rt.alloc(), b"", b"")?;
-    ends_as(&rt, &mut depot, Q1, 0, "", Some(b"".as_slice()))?;
+    for events in [b"".as_slice(), b"\n\n\r\n"] {
+        answers(&rt, Q1, events, b"")?;
+        answers(&rt, Q2, events, b"")?;
+    }
+    Ok(())
+}
+
+#[test]
+fn every_123rd_auction(rt: HostRuntime) -> Result<(), Fail> {
+    let bids = b"B|1|0|1|10\nB|1|123|1|20\nB|1|124|1|30\n";
+    answers(&rt, Q2, bids, b"1|0|10\n1|123|20\n")?;
+    let others = b"P|1|2|Ann|Reno|OR\nA|5|1|1|1|1|6\nB|2|246|1|20\n";
+    answers(&rt, Q2, others, b"2|246|20\n")?;
+    Ok(())
+}
+
+#[test]
+fn carriage_returns(rt: HostRuntime) -> Result<(), Fail> {
+    refuses(&rt, b"B|1|7|2|100\r\n\r\nx", b"", 3, "events line 3: kind\n")?;
+    answers(&rt, Q1, b"B|1|7|2|100\r\n\r\n", b"1|7|2|89\n")?;
+    answers(&rt, Q1, b"B|1|7|2|100\r", b"1|7|2|89\n")?;
     Ok(())
 }
 
@@ -74,25 +127,57 @@ fn empty_events(rt: HostRuntime) -> Result<(), Fail> {
 fn leading_zeros_and_blank_lines(rt: HostRuntime) -> Result<(), Fail> {
     let mut depot = files(rt.alloc(), b"\n\r\nB|3|7|1|000100\n", b"\n\r\n\n")?;
     ends_as(&rt, &mut depot, Q1, 0, "", Some(b"3|7|1|89\n".as_slice()))?;
-    depot.put("e", b"\n\n\r\n")?;
-    ends_as(&rt, &mut depot, Q1, 0, "", Some(b"".as_slice()))?;
+    Ok(())
+}
+
+#[test]
+fn first_bad_line(rt: HostRuntime) -> Result<(), Fail> {
+    for (events, says) in [
+        (
+            b"B|1|1|1|1\nB|1|1|1|1\nB|1|1|1|1\nB|1|1|1|1\nB|1|1|1|1\nB|1|1|1|1\nP|1|2|Ann|Reno\n".as_slice(),
+            "events line 7: fields\n",
+        ),
+        (b"B|1|2|3|\n", "events line 1: number\n"),
+        (b"B|1|2|3\n", "events line 1: fields\n"),
+        (b"A|5|1|1|1|1|5\n", "events line 1: order\n"),
+        (b"P|1|1||b|c\n", "events line 1: name\n"),
+        (b"B|1|1|1|1000000000001\n", "events line 1: range\n"),
+        (b"B|140737488355329|7|2|1\n", "events line 1: range\n"),
+        (b"B|5|281474976710657|2|1\n", "events line 1: range\n"),
+        (b"\nB|5|7|2|100\nb|5|7|2|100\n", "events line 3: kind\n"),
+    ] {
+        refuses(&rt, events, b"", 3, says)?;
+    }
+    answers(&rt, Q1, b"B|1|2|3|45", b"1|2|3|40\n")?;
+    answers(&rt, Q1, b"B|1|2|3|4", b"1|2|3|3\n")?;
+    Ok(())
+}
+
+#[test]
+fn config_refused(rt: HostRuntime) -> Result<(), Fail> {
+    refuses(&rt, THREE_BIDS, b"\n\nM|5|0|0|0\n", 4, "config line 3: kind\n")?;
+    refuses(&rt, b"x", b"M|5|0|0|0\n", 3, "events line 1: kind\n")?;
+    Ok(())
+}
+
+#[test]
+fn greatest_file(rt: HostRuntime) -> Result<(), Fail> {
+    let mut events = repeated(rt.alloc(), b"B|1|1|1|1000000000000\n", 250_000)?;
+    let rows = repeated(rt.alloc(), b"1|1|1|890000000000\n", 250_000)?;
+    answers(&rt, Q1, events.as_slice(), rows.as_slice())?;
+    events.extend_from_slice(b"B|1|1|1|1\n")?;
+    refuses(&rt, events.as_slice(), b"", 3, "events line 250001: count\n")?;
     Ok(())
 }
 
 #[test]
 fn append_fails(rt: HostRuntime) -> Result<(), Fail> {
-    let mut depot = files(rt.alloc(), THREE_BIDS, b"")?;
-    depot.fail(Op::Append, 2)?;
     let part = b"3|7|1|222\n".as_slice();
-    ends_as(&rt, &mut depot, Q1, 7, "write fault\n", Some(part))?;
-    Ok(())
-}
-
-#[test]
-fn begin_fails(rt: HostRuntime) -> Result<(), Fail> {
-    let mut depot = files(rt.alloc(), THREE_BIDS, b"")?;
-    depot.fail(Op::Begin, 1)?;
-    ends_as(&rt, &mut depot, Q1, 7, "write fault\n", None)?;
+    for (op, nth, answer) in [(Op::Append, 2, Some(part)), (Op::Begin, 1, None)] {
+        let mut depot = files(rt.alloc(), THREE_BIDS, b"")?;
+        depot.fail(op, nth)?;
+        ends_as(&rt, &mut depot, Q1, 7, "write fault\n", answer)?;
+    }
     Ok(())
 }
 
@@ -106,11 +191,13 @@ fn words_refused(rt: HostRuntime) -> Result<(), Fail> {
         "megaphone run --query q9 --events e --config c --out o",
         "megaphone run --query q1 --events e --config c --out e",
         "megaphone run --query q1 --events e --config c --out c",
-        "megaphone run --query q1 --events e --config c --out -",
-        "megaphone run --query q1 --events e --config c --out=o",
-        "megaphone run --query q1 --events e --config c --out o --",
         "megaphone run --query q1 --events e --config c",
         "megaphone run --query q1 --events e --events e --out o",
+        "megaphone run --query q1 --events e --config c --out o --bins 3",
+        "megaphone run --query q1 --events e --config c --out o --workers 2",
+        "megaphone run --query q1 --events e --config c --out o --report r",
+        "megaphone run --query q1 --events e --config c --out o --help",
+        "megaphone help",
     ] {
         ends_as(&rt, &mut depot, line, 2, USAGE, None)?;
     }
@@ -133,37 +220,13 @@ fn files_missing_or_unreadable(rt: HostRuntime) -> Result<(), Fail> {
 }
 
 #[test]
-fn events_refused(rt: HostRuntime) -> Result<(), Fail> {
-    for events in [
-        b"A|5|1|1|1|1|9\n".as_slice(),
-        b"B|5|7|2\n".as_slice(),
-        b"B|5|7|2|1000000000001\n".as_slice(),
-        b"B|140737488355329|7|2|1\n".as_slice(),
-        b"B|5|281474976710657|2|1\n".as_slice(),
-        b"B|5|7||1\n".as_slice(),
-        b"B|5|7|2|100\nx".as_slice(),
-    ] {
-        let mut depot = files(rt.alloc(), events, b"")?;
-        ends_as(&rt, &mut depot, Q1, 3, "events refused\n", None)?;
-    }
-    Ok(())
-}
-
-#[test]
-fn config_refused(rt: HostRuntime) -> Result<(), Fail> {
-    let mut depot = files(rt.alloc(), THREE_BIDS, b"\n\nM|5|0|0|0\n")?;
-    ends_as(&rt, &mut depot, Q1, 4, "config refused\n", None)?;
-    Ok(())
-}
-
-#[test]
 fn a_failing_output_leaves_the_status(rt: HostRuntime) -> Result<(), Fail> {
     let mut depot = files(rt.alloc(), b"x", b"")?;
     let mut said = MemSink::new(rt.alloc());
-    said.fail(Op::Write, 2)?;
+    said.fail(Op::Write, 3)?;
     let words = cut(rt.alloc(), Q1)?;
-    let ended = run(&rt, words.as_slice(), &mut depot, &mut said);
+    let ended = run(&rt, words.as_slice(), &mut depot, &mut said, &OpenGate);
     assert_eq!(rt; ended.code, 3);
-    assert_eq!(rt; said.bytes(), b"events refused".as_slice());
+    assert_eq!(rt; said.bytes(), b"events line 1".as_slice());
     Ok(())
 }

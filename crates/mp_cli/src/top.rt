@@ -2,26 +2,32 @@
 ghost use Rattle.std.specs.Prelude.{◌≡◌, ◌⊎◌, ℕ, List, Some, None, IsSome, false, map, string_bytes, OnSome, IfSome};
 ghost use Rattle.mp_outside.specs.Fault.{Rose};
 ghost use Rattle.mp_outside.specs.Files.{file_at, SameFiles};
+ghost use Rattle.mp_words.specs.Values.{Options};
+ghost use Rattle.mp_words.specs.Words.{command_in};
 ghost use Rattle.mp_cli.specs.Ends.{ComesWhere, IsAnswered, IsAnsweredInPart, IsInput, IsLineAt, IsOther, IsRefusal, Says};
 ghost use Rattle.mp_cli.specs.Outcome.{Answered, Outcome, MayCome, called_for, status_of};
-ghost use Rattle.mp_cli.specs.Words.{command_in, Names};
 
 use crate::serve::serve;
 use crate::status::{Status, refuse};
+use mp_gate::Gate;
 use mp_outside::{Depot, Sink};
 
 /// Does what the words of the command line ask for, on the files of a depot. `words` begins with the program's name. A
 /// refusal says one line on `said`.
 ///
-/// The command is `run` with `--query q1`, `--events`, `--config` and `--out`, each once and followed by its value. Its
-/// statuses are this project's profile: 0 answered; 2 the words are no command; 3 the event file has a line that is no
-/// bid, or too many lines; 4 the configuration has a line that isn't blank; 5 a file isn't there; 6 a find or a read
-/// failed; 7 a begin or an append failed; 8 want of memory; 9 a file has more than 2^28 bytes.
-pub fn run<D: Depot, S: Sink, R: AllocGlobal>(
+/// The command is `run` with `--query` (`q1` or `q2`), `--events`, `--config` and `--out`, and perhaps `--workers` (1),
+/// `--bins` (16, a power of two up to 256) and `--depth` (64, up to 1024). Its statuses are this project's profile: 0
+/// answered; 2 the words are no command; 3 the event file has a bad line; 4 the configuration has a line that isn't blank;
+/// 5 a file isn't there; 6 a find or a read failed; 7 a begin or an append failed; 8 want of memory; 9 a file has more than
+/// 2^28 bytes. The refusals 3 and 4 say the number of the first bad line and the first check that it fails.
+///
+/// Workers pass the gate before each step. There are none yet: the answer is made on one thread.
+pub fn run<D: Depot, S: Sink, G: Gate + Sync, R: AllocGlobal>(
     rt: &R,
     words: &[String],
     depot: &mut D,
     said: &mut S,
+    _gate: &G,
 ) -> Status
     // Words that are no command are refused, and no others.
     ensures usage { ComesWhere 2 result.code (command_in words.now ≡ None) }
@@ -31,7 +37,7 @@ pub fn run<D: Depot, S: Sink, R: AllocGlobal>(
     ensures read_fault { result.code ≡ 6 → Rose (D.read_faults depot.old) (D.read_faults depot.new) }
     ensures write_fault { result.code ≡ 7 → Rose (D.write_faults depot.old) (D.write_faults depot.new) }
     // Well-formed input is answered, but for a fault of the depot or want of memory.
-    ensures complete { (names : Names) → command_in words.now ≡ Some names → IsSome (D.files depot.old) → called_for (D.files depot.old) names ≡ Answered
+    ensures complete { (asked : Options) → command_in words.now ≡ Some asked → IsSome (D.files depot.old) → called_for (D.files depot.old) asked ≡ Answered
         → ¬ (Rose (D.read_faults depot.old) (D.read_faults depot.new)) → ¬ (Rose (D.write_faults depot.old) (D.write_faults depot.new)) → (result.code ≡ 0) ⊎ (result.code ≡ 8) }
 
     // The answer theorem: what a run that answers 0 wrote is exactly the one-thread answer to the events.

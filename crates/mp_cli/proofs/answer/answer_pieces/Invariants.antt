@@ -1,8 +1,0 @@
--- The lines so far, with those of the rows that are left, are the answer.
-use Rattle.std.proofs.Common.{◌≡◌, ◌++◌}
-use Rattle.std.specs.List.{flat_map}
-use Rattle.mp_cli.specs.Answer.{line_of, one_thread_answer}
-use Rattle.mp_cli.proofs.answer.answer_pieces.Given as goal
-
-abbrev pub invariant-loop-place : goal.invariant-loop-place
-invariant-loop-place l = l.pieces ++ flat_map line_of l.place-iterator ≡ one_thread_answer l.events
