@@ -1,0 +1,5 @@
+pub mod Ascents
+pub mod Gathering
+pub mod Legality
+pub mod Members
+pub mod Sharing

@@ -1,0 +1,25 @@
+-- What a job holds.
+use Rattle.std.specs.Prelude.{◌≡◌, ℕ, List, map}
+use Rattle.std.specs.List.{range_with_len}
+use Rattle.mp_names.specs.declared.controls.Control.{Control}
+use Rattle.mp_names.specs.declared.controls.Shape.{Shape}
+use Rattle.mp_model.specs.declared.record.Event.{Event}
+use Rattle.mp_model.specs.Facts.{QueryFacts, JobFacts}
+use Rattle.mp_job.specs.Legal.{JobIsLegal}
+use Rattle.mp_job.specs.Records.{share_of}
+use Rattle.mp_job.specs.Times.{times_of}
+
+-- what is told of a job that is made of these
+abbrev pub job_of : List ℕ → List Event → List Control → Shape → JobFacts
+job_of rules events controls shape = record { rules = rules; events = events; controls = controls; shape = shape }
+
+module _ {Cell : Type 0} where
+  -- the shares of all workers, by their numbers
+  abbrev pub shares_of : QueryFacts Cell → List Event → ℕ → List (List ℕ)
+  shares_of q events workers = map (share_of q events workers) (range_with_len 0 workers)
+
+  -- a legal job, with its shares and its times
+  pub record HoldsParts (q : QueryFacts Cell) (job : JobFacts) (shares : List (List ℕ)) (times : List ℕ) : Type 0 where
+    pub legal : JobIsLegal q job
+    pub shares_are : shares ≡ shares_of q job.events job.shape.workers
+    pub times_are : times ≡ times_of q job.events job.controls

@@ -1,0 +1,16 @@
+-- The times at which something happens.
+use Rattle.std.specs.Prelude.{ℕ, ◌++◌, List, map}
+use Rattle.mp_names.specs.declared.controls.Control.{Control}
+use Rattle.mp_model.specs.declared.record.Event.{Event}
+use Rattle.mp_model.specs.Ascending.{ascending}
+use Rattle.mp_model.specs.Facts.{QueryFacts}
+use Rattle.mp_model.specs.Folds.{times_in}
+use Rattle.mp_model.specs.Stages.{input_records}
+
+-- the times of control records
+abbrev pub control_times : List Control → List ℕ
+control_times controls = map (λ c. c.time) controls
+
+-- the times of the records of stage 0, of their posts and of the control records, ascending and each once
+abbrev pub times_of : {Cell : Type 0} → QueryFacts Cell → List Event → List Control → List ℕ
+times_of q events controls = ascending (times_in q 0 (input_records q events) ++ control_times controls)
