@@ -1,7 +1,5 @@
 -- What follows for a legal job.
-use Rattle.std.proofs.Common.{◌≡◌, ℕ, ◌+◌, ◌<◌, Option, None, Some, List, [], ◌∷◌, All, option_map, slice_get, refl, subst, sym}
-use Rattle.std.specs.List.{enumerate_from, filter_map, cons_option}
-use Rattle.std.proofs.lemmas.List.Elements.{All-cons, All-head, All-tail, All-nil}
+use Rattle.std.proofs.Common.{◌≡◌, ℕ, ◌<◌, Option, None, Some, List, All, option_map, slice_get, subst, sym}
 use Rattle.std.proofs.lemmas.Nat.{pow_pos}
 use Rattle.std.proofs.lemmas.Option.{get_or_from_slice_get, option_and_then_some, slice_get_within}
 use Rattle.mp_model.specs.declared.record.Event.{Event}
@@ -9,7 +7,7 @@ use Rattle.mp_model.specs.declared.record.Rec.{Rec}
 use Rattle.mp_model.specs.Facts.{JobFacts, QueryFacts}
 use Rattle.mp_model.specs.Legal.{EventIsLegal, EventsAreLegal}
 use Rattle.mp_model.specs.QueryLaws.{HasStages, RecordIsLegal}
-use Rattle.mp_model.specs.Stages.{input_records, record_of}
+use Rattle.mp_model.specs.Stages.{record_of}
 use Rattle.mp_bins.specs.Notes.{IsShape}
 use Rattle.mp_job.specs.Legal.{JobIsLegal}
 use Rattle.mp_job.specs.Records.{record_at}
@@ -29,19 +27,6 @@ module _ {Cell : Type 0} (q : QueryFacts Cell) where
     where
       get : (events : List Event) (i : ℕ) (e : Event) → All EventIsLegal events → slice_get events i ≡ Some e → EventIsLegal e
       get events i e all there = rw (get_or_from_slice_get events i e e there) at (all i e (slice_get_within events i e there))
-
-  -- so are all records that the events make
-  pub records_are_legal : (events : List Event) → EventsAreLegal events → All RecordIsLegal (input_records q events)
-  records_are_legal events legal = from 0 events legal.each
-    where
-      more : (o : Option Rec) (rs : List Rec) → ((r : Rec) → o ≡ Some r → RecordIsLegal r) → All RecordIsLegal rs → All RecordIsLegal (cons_option o rs)
-      more None rs h all = all
-      more (Some r) rs h all = All-cons RecordIsLegal r rs (h r refl) all
-
-      from : (i : ℕ) (es : List Event) → All EventIsLegal es → All RecordIsLegal (filter_map (λ p. record_of q p.0 p.1) (enumerate_from i es))
-      from i [] all = All-nil RecordIsLegal
-      from i (e ∷ es) all =
-          more (record_of q i e) (filter_map (λ p. record_of q p.0 p.1) (enumerate_from (i + 1) es)) (λ r is. record_is_legal i e r (All-head EventIsLegal e es all) is) (from (i + 1) es (All-tail EventIsLegal e es all))
 
   -- there is a worker, a bin and a stage
   pub shape_is_some : (job : JobFacts) → HasStages q → JobIsLegal q job → IsShape job.shape

@@ -1,0 +1,15 @@
+pub mod Found
+pub mod FilterMaps
+pub mod Enumerated
+pub mod Pairs
+pub mod PairsMade
+pub mod Named
+pub mod Tests
+pub mod Tags
+pub mod Outputs
+pub mod Records
+pub mod Posts
+pub mod Stages
+pub mod Soundness
+pub mod Telling
+pub mod Timelines

@@ -1,0 +1,28 @@
+//! What the outline of every legal job of a query keeps to, each law the contract of a function that does nothing.
+ghost use Rattle.mp_names.specs.Outlines.{OutlineIsSound};
+ghost use Rattle.mp_model.specs.Facts.{JobFacts};
+ghost use Rattle.mp_job.specs.Legal.{JobIsLegal};
+ghost use Rattle.mp_outline.specs.JobOutline.{outline_of};
+ghost use Rattle.mp_outline.specs.Laws.{GroupsAreOnTimelines, NamesTellInputs, NamesTellRecords, RecordsFollowTags, RowsFollowTags, WakesAreTimelines};
+
+use mp_model::Query;
+
+/// The outline of every legal job of a query is sound, so all that is proved of the protocol holds for it.
+pub fn outlines_are_sound<Q: Query>()
+    ensures { (job : JobFacts) → JobIsLegal (Q.facts job.rules) job → OutlineIsSound (outline_of (Q.facts job.rules) job) }
+{}
+
+/// The name of a record tells which one it is: in stage 0 that of the event at its tag's index; in each stage no two
+/// have one time and tag. Records and answer rows of one time stand in the order of their tags.
+pub fn names_tell_records<Q: Query>()
+    ensures inputs { (job : JobFacts) → JobIsLegal (Q.facts job.rules) job → NamesTellInputs (Q.facts job.rules) job }
+    ensures one { (job : JobFacts) → NamesTellRecords (Q.facts job.rules) job }
+    ensures records_in_order { (job : JobFacts) → RecordsFollowTags (Q.facts job.rules) job }
+    ensures rows_in_order { (job : JobFacts) → RowsFollowTags (Q.facts job.rules) job }
+{}
+
+/// The groups of an outline are those on the timelines of its keys, and are woken where those are.
+pub fn groups_are_on_timelines<Q: Query>()
+    ensures groups { (job : JobFacts) → JobIsLegal (Q.facts job.rules) job → GroupsAreOnTimelines (Q.facts job.rules) job }
+    ensures wakes { (job : JobFacts) → JobIsLegal (Q.facts job.rules) job → WakesAreTimelines (Q.facts job.rules) job }
+{}
