@@ -117,7 +117,13 @@ fn every_123rd_auction(rt: HostRuntime) -> Result<(), Fail> {
 
 #[test]
 fn carriage_returns(rt: HostRuntime) -> Result<(), Fail> {
-    refuses(&rt, b"B|1|7|2|100\r\n\r\nx", b"", 3, "events line 3: kind\n")?;
+    refuses(
+        &rt,
+        b"B|1|7|2|100\r\n\r\nx",
+        b"",
+        3,
+        "events line 3: kind\n",
+    )?;
     answers(&rt, Q1, b"B|1|7|2|100\r\n\r\n", b"1|7|2|89\n")?;
     answers(&rt, Q1, b"B|1|7|2|100\r", b"1|7|2|89\n")?;
     Ok(())
@@ -155,7 +161,13 @@ fn first_bad_line(rt: HostRuntime) -> Result<(), Fail> {
 
 #[test]
 fn config_refused(rt: HostRuntime) -> Result<(), Fail> {
-    refuses(&rt, THREE_BIDS, b"\n\nM|5|0|0|0\n", 4, "config line 3: kind\n")?;
+    refuses(
+        &rt,
+        THREE_BIDS,
+        b"\n\nM|5|0|0|0\n",
+        4,
+        "config line 3: kind\n",
+    )?;
     refuses(&rt, b"x", b"M|5|0|0|0\n", 3, "events line 1: kind\n")?;
     Ok(())
 }
@@ -166,7 +178,13 @@ fn greatest_file(rt: HostRuntime) -> Result<(), Fail> {
     let rows = repeated(rt.alloc(), b"1|1|1|890000000000\n", 250_000)?;
     answers(&rt, Q1, events.as_slice(), rows.as_slice())?;
     events.extend_from_slice(b"B|1|1|1|1\n")?;
-    refuses(&rt, events.as_slice(), b"", 3, "events line 250001: count\n")?;
+    refuses(
+        &rt,
+        events.as_slice(),
+        b"",
+        3,
+        "events line 250001: count\n",
+    )?;
     Ok(())
 }
 

@@ -30,6 +30,6 @@ loop-part-preserved g c =
     let i = c.loop-part.part-index in
     let here = all_of_next _ _ _ _ _ c.loop-part.invariant.written written in record {
       written = here ∙ ap (λ (ys : List ℕ). grown (g.S.Sink.written c.args.said.now) ys)
-      (sym (joined-take (λ part. part.now) parts i _ c.loop-part-test.true (get_or_default parts i _ _ c.loop-part-test.true)));
+          (sym (joined-take (λ part. part.now) parts i _ c.loop-part-test.true (get_or_default parts i _ _ c.loop-part-test.true)));
       faults = omega (arith, c.write_piece.ensures.writes, c.loop-part.invariant.faults);
     }
