@@ -4,7 +4,7 @@ pub mod Enumerated
 pub mod Pairs
 pub mod PairsMade
 pub mod Named
-pub mod Tests
+pub mod Numbers
 pub mod Tags
 pub mod Outputs
 pub mod Records
@@ -13,3 +13,4 @@ pub mod Stages
 pub mod Soundness
 pub mod Telling
 pub mod Timelines
+pub mod Groups

@@ -1,5 +1,5 @@
 -- What stands among the outputs of a stage, and in which order.
-use Rattle.std.proofs.Common.{◌≡◌, ℕ, ◌<◌, ◌==◌, List, [], ◌∷◌, ◌++◌, true, map, flat_map, filter, Contains, refl, sym, ap, ◌∙◌, subst, inl, inr, ⊎_elim, arith}
+use Rattle.std.proofs.Common.{◌≡◌, ℕ, ◌<◌, ◌==◌, List, [], ◌∷◌, map, Contains, refl, sym, ap, ◌∙◌, subst, inl, inr, ⊎_elim, arith}
 use Rattle.std.specs.List.{enumerate_from}
 use Rattle.std.proofs.lemmas.Bool.{eq-eqb, eqb-true}
 use Rattle.std.proofs.lemmas.List.Elements.{Contains-append_cases}
@@ -12,10 +12,10 @@ use Rattle.mp_model.specs.Facts.{QueryFacts}
 use Rattle.mp_model.specs.Folds.{entry_at, keys_of, of_key, outputs_along, outputs_at, outputs_of, stage_outputs, timeline, times_in}
 use Rattle.mp_job.proofs.Ascents.{ascending-Contains, Contains-ascending, Rises-ascending}
 use Rattle.mp_job.proofs.Members.{nothing_in_nil, Contains-filter, Contains-flat_map, Contains-here, Contains-later, Contains-map, filter-Contains, flat_map-Contains, map-Contains}
+use Rattle.mp_outline.specs.Laws.{OutputsInOrder}
 use Rattle.mp_outline.proofs.Found.{found, found_there}
 use Rattle.mp_outline.proofs.Pairs.{Pairs, Pairs-Rises, Pairs-append}
 use Rattle.mp_outline.proofs.PairsMade.{Pairs-flat_map, Pairs-map, places_rise}
-use Rattle.mp_outline.proofs.Tags.{OutputsInOrder}
 
 -- The outputs of one group
 
@@ -63,7 +63,7 @@ module _ {Cell : Type 0} (q : QueryFacts Cell) (j : ℕ) where
       map-Contains (entry_at q j k own) (ascending times) (entry_at q j k own t) (found_there (λ s. entry_at q j k own s ≡ entry_at q j k own t) (ascending times) t (ascending-Contains times t of_records) refl)
 
   -- the times of a timeline rise
-  timeline_rises : (k : ℕ) (rs : List Rec) → Pairs (λ e f. e.time < f.time) (timeline q j k rs)
+  pub timeline_rises : (k : ℕ) (rs : List Rec) → Pairs (λ e f. e.time < f.time) (timeline q j k rs)
   timeline_rises k rs =
       let own = of_key k rs in
       Pairs-map (λ (s t : ℕ). s < t) (λ (e f : Entry). e.time < f.time) (entry_at q j k own) (λ s t l. l) (ascending (times_in q j own)) (Pairs-Rises (ascending (times_in q j own)) (Rises-ascending (times_in q j own)))

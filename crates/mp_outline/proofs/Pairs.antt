@@ -1,8 +1,9 @@
 -- What holds between each element of a list and all later ones.
-use Rattle.std.proofs.Common.{◌≡◌, ◌⊎◌, ℕ, zero, suc, ◌<◌, List, [], ◌∷◌, ◌++◌, length, get_or, AllPairs, Contains, sym, ◌∙◌, subst, inl, inr, ⊎_elim, arith}
+use Rattle.std.proofs.Common.{◌≡◌, ◌⊎◌, ℕ, zero, suc, ◌<◌, Bool, List, [], ◌∷◌, ◌++◌, get_or, filter, AllPairs, Contains, sym, ◌∙◌, subst, inl, inr, ⊎_elim, arith}
+use Rattle.std.proofs.lemmas.Bool.{cond_both}
 use Rattle.std.proofs.lemmas.List.Elements.{Contains-append_cases, Contains-get_or}
 use Rattle.mp_job.proofs.Ascents.{Rises}
-use Rattle.mp_job.proofs.Members.{nothing_in_nil, Contains-here, Contains-later, Contains-cases}
+use Rattle.mp_job.proofs.Members.{nothing_in_nil, Contains-filter, Contains-here, Contains-later, Contains-cases}
 
 module _ {X : Type 0} where
   -- R holds between each element and all later ones
@@ -13,6 +14,25 @@ module _ {X : Type 0} where
   pub Pairs-weaker : (R S : X → X → Type 0) → ((x y : X) → R x y → S x y) → (xs : List X) → Pairs R xs → Pairs S xs
   Pairs-weaker R S k [] h = tt
   Pairs-weaker R S k (x ∷ xs) h = ((λ y i. k x y (h.0 y i)), Pairs-weaker R S k xs h.1)
+
+  -- it is enough that R holds between elements of the list
+  pub Pairs-within : (R S : X → X → Type 0) (xs : List X) → ((x y : X) → Contains xs x → Contains xs y → R x y → S x y) → Pairs R xs → Pairs S xs
+  Pairs-within R S [] k h = tt
+  Pairs-within R S (x ∷ xs) k h = (
+    (λ y i. k x y (Contains-here x xs) (Contains-later x y xs i) (h.0 y i)),
+    Pairs-within R S xs (λ y z i j r. k y z (Contains-later x y xs i) (Contains-later x z xs j) r) h.1,
+  )
+
+  pub Pairs-filter : (R : X → X → Type 0) (p : X → Bool) (xs : List X) → Pairs R xs → Pairs R (filter p xs)
+  Pairs-filter R p [] h = tt
+  Pairs-filter R p (x ∷ xs) h =
+      cond_both
+      (p x)
+      (x ∷ filter p xs)
+      (filter p xs)
+      (Pairs R)
+      (λ e. ((λ y i. h.0 y (Contains-filter p xs y i).0), Pairs-filter R p xs h.1))
+      (λ e. Pairs-filter R p xs h.1)
 
   pub Pairs-append : (R : X → X → Type 0) (xs ys : List X) → Pairs R xs → Pairs R ys → ((x y : X) → Contains xs x → Contains ys y → R x y) → Pairs R (xs ++ ys)
   Pairs-append R [] ys h k c = k

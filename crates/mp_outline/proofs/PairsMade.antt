@@ -1,5 +1,5 @@
 -- What holds between the elements of a list holds between what is made of them, in this order.
-use Rattle.std.proofs.Common.{◌≡◌, ℕ, ◌+◌, ◌<◌, Option, Some, None, List, [], ◌∷◌, ◌++◌, map, flat_map, Contains, refl, subst, arith}
+use Rattle.std.proofs.Common.{◌≡◌, ℕ, ◌+◌, ◌<◌, Option, Some, None, List, [], ◌∷◌, map, flat_map, Contains, refl, subst, arith}
 use Rattle.std.specs.List.{cons_option, enumerate_from, filter_map}
 use Rattle.mp_job.proofs.Members.{Contains-flat_map, Contains-map}
 use Rattle.mp_outline.proofs.Found.{found}

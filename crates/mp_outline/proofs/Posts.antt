@@ -1,5 +1,5 @@
 -- The posts of a record: they are told by its name, and are later than it.
-use Rattle.std.proofs.Common.{◌≡◌, ℕ, zero, suc, ◌<◌, Option, Some, List, [], ◌∷◌, All, Contains, refl, sym, ap, subst, ⊎_elim, arith}
+use Rattle.std.proofs.Common.{◌≡◌, ℕ, zero, suc, ◌<◌, Option, List, [], ◌∷◌, Contains, sym, ap, subst, ⊎_elim, arith}
 use Rattle.std.specs.Option.{option_map_or}
 use Rattle.std.proofs.lemmas.List.Elements.{All-contains}
 use Rattle.mp_model.specs.declared.limits.TheConstants.{LAST_TIME}

@@ -1,5 +1,5 @@
 -- What stands among the records of a stage, and in which order.
-use Rattle.std.proofs.Common.{◌≡◌, ℕ, zero, suc, ◌+◌, ◌<◌, Option, Some, None, List, option_map, option_and_then, slice_get, AllPairs, Contains, refl, sym, ap, ◌∙◌, subst, subst₂, inr, ⊎_elim, ◌⊎◌, arith, zero-add}
+use Rattle.std.proofs.Common.{◌≡◌, ℕ, zero, suc, ◌<◌, Option, Some, None, List, option_map, option_and_then, slice_get, Contains, sym, ap, ◌∙◌, subst, subst₂, inr, ⊎_elim, ◌⊎◌, arith, zero-add}
 use Rattle.std.specs.List.{enumerate_from}
 use Rattle.std.proofs.lemmas.Option.{none-some, option_and_then_some, same_Some}
 use Rattle.mp_names.specs.declared.names.Tag.{Tag}
@@ -10,13 +10,13 @@ use Rattle.mp_model.specs.Facts.{QueryFacts}
 use Rattle.mp_model.specs.Folds.{stage_outputs}
 use Rattle.mp_model.specs.Stages.{input_records, record_of, record_of_output, stage_records}
 use Rattle.mp_job.specs.Records.{record_at}
-use Rattle.mp_outline.specs.Laws.{TagIsBefore}
+use Rattle.mp_outline.specs.Laws.{OutputsInOrder, RecordsInOrder, TagIsBefore}
 use Rattle.mp_outline.proofs.FilterMaps.{made, maker}
 use Rattle.mp_outline.proofs.Enumerated.{placed_at, stands_placed}
-use Rattle.mp_outline.proofs.Pairs.{AllPairs-Pairs, Pairs, Pairs-two, Pairs-weaker}
+use Rattle.mp_outline.proofs.Pairs.{Pairs, Pairs-two, Pairs-weaker}
 use Rattle.mp_outline.proofs.PairsMade.{Pairs-filter_map, places_rise}
 use Rattle.mp_outline.proofs.Outputs.{HasGroup, output_is, stage_outputs_in_order}
-use Rattle.mp_outline.proofs.Tags.{OutputsInOrder, RecordsInOrder, tag_irreflexive}
+use Rattle.mp_outline.proofs.Tags.{tag_irreflexive}
 
 -- the tag of the record of an event holds the event's index, whatever the key is
 event_tag : (key : Option ℕ) (i : ℕ) (e : Event) (r : Rec) → option_map (λ k. record { time = e.time; key = k; tag = record { 0 = 0; 1 = i }; value = e.value }) key ≡ Some r → r.tag ≡ record { 0 = 0; 1 = i }

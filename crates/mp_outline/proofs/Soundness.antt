@@ -1,5 +1,5 @@
 -- The outline of a legal job is sound.
-use Rattle.std.proofs.Common.{◌≡◌, ℕ, zero, suc, ◌+◌, ◌-◌, ◌*◌, ◌^◌, ◌%◌, ◌<◌, ◌≤◌, ◌==◌, nat_lt, true, List, [], length, map, Contains, refl, sym, ap, ◌∙◌, subst, arith, mod-lt, div-lt_iff_lt-mul, mul-lt-mul_of_pos_right, mul_comm}
+use Rattle.std.proofs.Common.{◌≡◌, ℕ, suc, ◌-◌, ◌*◌, ◌^◌, ◌<◌, nat_lt, true, [], length, map, Contains, refl, sym, ap, ◌∙◌, subst, arith, mod-lt, div-lt_iff_lt-mul, mul-lt-mul_of_pos_right, mul_comm}
 use Rattle.std.proofs.lemmas.Bool.{cond_both, eq-eqb}
 use Rattle.std.proofs.lemmas.Nat.{pow_pos}
 use Rattle.mp_names.specs.declared.names.Name.{Name}
@@ -16,13 +16,14 @@ use Rattle.mp_model.specs.QueryLaws.{HasStages, LaterStagesPostNothing, PostsAre
 use Rattle.mp_model.specs.Stages.{answer_rows, input_records, stage_records}
 use Rattle.mp_job.specs.Legal.{JobIsLegal}
 use Rattle.mp_outline.specs.JobOutline.{name_of_record, name_of_row, outline_of, record_names, row_names}
+use Rattle.mp_outline.specs.Laws.{OutputsInOrder, RecordsInOrder}
 use Rattle.mp_outline.proofs.Named.{In_named, named_by_index, named_once}
-use Rattle.mp_outline.proofs.Outputs.{HasGroup, output_is, stage_outputs_in_order}
+use Rattle.mp_outline.proofs.Outputs.{output_is, stage_outputs_in_order}
 use Rattle.mp_outline.proofs.Pairs.{Pairs-weaker}
 use Rattle.mp_outline.proofs.Posts.{post_is_later}
 use Rattle.mp_outline.proofs.Records.{ByIndex, given, inputs_by_index, records_in_order, same_record}
 use Rattle.mp_outline.proofs.Stages.{group_named, post_named, record_named, same_parts}
-use Rattle.mp_outline.proofs.Tags.{OutputsInOrder, RecordsInOrder, tag_irreflexive}
+use Rattle.mp_outline.proofs.Tags.{tag_irreflexive}
 
 -- The bin of a key is one of the bins
 bin_is_inside : (k bins : ℕ) → IsBinCount bins → bin_of_key k bins < bins

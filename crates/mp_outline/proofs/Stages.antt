@@ -1,5 +1,5 @@
 -- What stands in the lists of the outline of a job.
-use Rattle.std.proofs.Common.{◌≡◌, ℕ, zero, suc, ◌<◌, ◌==◌, nat_lt, true, List, [], ◌∷◌, map, Contains, sym, ap, subst, ⊎_elim, arith}
+use Rattle.std.proofs.Common.{◌≡◌, ℕ, ◌<◌, ◌==◌, nat_lt, true, List, map, Contains, sym, ap, subst, ⊎_elim}
 use Rattle.std.specs.List.{list_any}
 use Rattle.std.proofs.lemmas.Bool.{lt-ltb, ltb-true}
 use Rattle.mp_names.specs.declared.names.Name.{Name}
@@ -13,11 +13,11 @@ use Rattle.mp_model.specs.Facts.{JobFacts, QueryFacts}
 use Rattle.mp_model.specs.QueryLaws.{LaterStagesPostNothing}
 use Rattle.mp_model.specs.Stages.{stage_records}
 use Rattle.mp_job.proofs.Members.{Contains-cases}
-use Rattle.mp_outline.specs.JobOutline.{name_of_record, outline_of, posts_of, record_names}
+use Rattle.mp_outline.specs.JobOutline.{name_of_record, outline_of, record_names}
 use Rattle.mp_outline.proofs.Named.{if_In, In_if, In_named, named_In}
 use Rattle.mp_outline.proofs.Outputs.{HasGroup}
 use Rattle.mp_outline.proofs.Posts.{posts_are}
-use Rattle.mp_outline.proofs.Tests.{any_Contains, Contains_any}
+use Rattle.mp_outline.proofs.Numbers.{any_Contains, Contains_any}
 
 -- names of records that are the same have the same parts
 

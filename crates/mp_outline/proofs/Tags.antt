@@ -1,17 +1,7 @@
 -- Tags in order.
-use Rattle.std.proofs.Common.{◌≡◌, ℕ, ◌<◌, ap, ⊎_elim, arith}
+use Rattle.std.proofs.Common.{◌≡◌, ◌<◌, ap, ⊎_elim, arith}
 use Rattle.mp_names.specs.declared.names.Tag.{Tag}
-use Rattle.mp_model.specs.declared.record.Output.{Output}
-use Rattle.mp_model.specs.declared.record.Rec.{Rec}
 use Rattle.mp_outline.specs.Laws.{TagIsBefore}
-
--- of two outputs with one time the first has the lesser tag
-abbrev pub OutputsInOrder : Output → Output → Type 0
-OutputsInOrder o p = o.time ≡ p.time → TagIsBefore o.tag p.tag
-
--- and of two records
-abbrev pub RecordsInOrder : Rec → Rec → Type 0
-RecordsInOrder r s = r.time ≡ s.time → TagIsBefore r.tag s.tag
 
 -- no tag is before itself
 pub tag_irreflexive : (a b : Tag) → TagIsBefore a b → a ≡ b → ⊥

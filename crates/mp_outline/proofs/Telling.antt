@@ -1,16 +1,15 @@
 -- What names tell of the records of stage 0.
-use Rattle.std.proofs.Common.{◌≡◌, ◌↔◌, ℕ, ◌<◌, Option, None, Some, IsSomeAnd, Contains, refl, sym, ap, subst, arith}
+use Rattle.std.proofs.Common.{◌≡◌, ℕ, ◌<◌, Option, None, Some, IsSomeAnd, refl, sym, subst, arith}
 use Rattle.mp_names.specs.declared.names.Name.TheVariants.{Rec as RecName}
 use Rattle.mp_names.specs.declared.names.Tag.{Tag}
 use Rattle.mp_names.specs.Names.{In}
-use Rattle.mp_names.proofs.Lists.{same_tag}
 use Rattle.mp_model.specs.declared.record.Rec.{Rec}
 use Rattle.mp_model.specs.Facts.{JobFacts, QueryFacts}
 use Rattle.mp_model.specs.QueryLaws.{HasStages}
 use Rattle.mp_job.specs.Legal.{JobIsLegal}
 use Rattle.mp_job.specs.Records.{record_at}
 use Rattle.mp_outline.specs.JobOutline.{record_names}
-use Rattle.mp_outline.specs.Laws.{NamesTellInputs}
+use Rattle.mp_outline.specs.Laws.{HasParts, NamesTellInputs}
 use Rattle.mp_outline.proofs.Records.{input_is, input_stands}
 use Rattle.mp_outline.proofs.Stages.{name_stands, record_named, same_parts}
 
@@ -19,22 +18,18 @@ there_is : {X : Type 0} (o : Option X) (P : X → Type 0) → IsSomeAnd o P → 
 there_is None P h = absurd h
 there_is (Some x) P h = (x, refl, h)
 
--- the record has this time, key and tag
-abbrev IsOf : ℕ → ℕ → Tag → Rec → Type 0
-IsOf t k g r = (r.time ≡ t) × (r.key ≡ k) × (r.tag ≡ g)
-
 module _ {Cell : Type 0} (q : QueryFacts Cell) (job : JobFacts) where
-  input_told : (t k : ℕ) (g : Tag) → In (RecName 0 t k g) (record_names q job 0) → IsSomeAnd (record_at q job.events g.1) (IsOf t k g)
+  input_told : (t k : ℕ) (g : Tag) → In (RecName 0 t k g) (record_names q job 0) → IsSomeAnd (record_at q job.events g.1) (HasParts t k g)
   input_told t k g h =
       let a = record_named q job 0 (RecName 0 t k g) h in
       let r = a.0 in
       let c = same_parts 0 0 r.time t r.key k r.tag g a.2 in
       let is = subst (λ (f : Tag). record_at q job.events f.1 ≡ Some r) c.2 (input_is q job.events r a.1) in
-      subst (λ (o : Option Rec). IsSomeAnd o (IsOf t k g)) (sym is) c
+      subst (λ (o : Option Rec). IsSomeAnd o (HasParts t k g)) (sym is) c
 
-  told_input : 0 < job.shape.stages → (t k : ℕ) (g : Tag) → IsSomeAnd (record_at q job.events g.1) (IsOf t k g) → In (RecName 0 t k g) (record_names q job 0)
+  told_input : 0 < job.shape.stages → (t k : ℕ) (g : Tag) → IsSomeAnd (record_at q job.events g.1) (HasParts t k g) → In (RecName 0 t k g) (record_names q job 0)
   told_input some t k g h =
-      let a = there_is (record_at q job.events g.1) (IsOf t k g) h in
+      let a = there_is (record_at q job.events g.1) (HasParts t k g) h in
       let r = a.0 in
       let name = name_stands q job 0 r some (input_stands q job.events g.1 r a.1).0 in
       let timed = subst (λ (t : ℕ). In (RecName 0 t r.key r.tag) (record_names q job 0)) a.2.0 name in

@@ -1,5 +1,5 @@
 -- The groups of the outline of a job are those on the timelines of its keys, and are woken where those are.
-use Rattle.std.proofs.Common.{◌≡◌, ◌↔◌, ◌⊎◌, ℕ, ◌<◌, ◌==◌, ◌&&◌, ◌||◌, Bool, true, false, cond, nat_lt, List, [], ◌∷◌, filter, map, Contains, refl, sym, ap, ◌∙◌, subst, ⊎_elim}
+use Rattle.std.proofs.Common.{◌≡◌, ℕ, ◌==◌, ◌&&◌, ◌||◌, Bool, true, false, cond, nat_lt, List, [], ◌∷◌, filter, map, Contains, refl, sym, ap, ◌∙◌, subst, ⊎_elim}
 use Rattle.std.specs.List.{list_any}
 use Rattle.std.proofs.lemmas.Bool.{cond-true, lt-ltb}
 use Rattle.mp_names.specs.declared.names.Name.{Name}
@@ -9,11 +9,10 @@ use Rattle.mp_names.specs.Outlines.{groups_of, is_posted, Outline, OutlineIsSoun
 use Rattle.mp_names.proofs.Listed.{group_cause}
 use Rattle.mp_model.specs.declared.record.Rec.{Rec}
 use Rattle.mp_model.specs.Facts.{JobFacts, QueryFacts}
-use Rattle.mp_model.specs.Folds.{entry_at, of_key, timeline}
 use Rattle.mp_model.specs.QueryLaws.{LaterStagesPostNothing}
 use Rattle.mp_model.specs.Stages.{stage_records}
 use Rattle.mp_job.proofs.Members.{Contains-here, Contains-later}
-use Rattle.mp_outline.specs.JobOutline.{name_of_record, outline_of, posts_of}
+use Rattle.mp_outline.specs.JobOutline.{name_of_record, outline_of}
 use Rattle.mp_outline.specs.Laws.{group_at, GroupsAreOnTimelines, WakesAreTimelines}
 use Rattle.mp_outline.proofs.Outputs.{group_is, group_stands, HasGroup}
 use Rattle.mp_outline.proofs.Posts.{posts_are}

@@ -6,4 +6,6 @@ mod laws;
 #[cfg(test)]
 mod tests;
 
-pub use laws::{groups_are_on_timelines, names_tell_records, outlines_are_sound};
+pub use laws::{
+    groups_are_on_timelines, groups_hold_names, names_tell_records, outlines_are_sound,
+};

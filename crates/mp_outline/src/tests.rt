@@ -2,7 +2,7 @@
 ghost use Rattle.std.specs.Prelude.{◌≡◌, [], refl};
 ghost use Rattle.mp_job.specs.Samples.{bids_fit, bids_give_nothing, bids_have_keys, bids_have_stages, bids_post_later, bids_post_once, bids_stay_fresh, waking_bids};
 
-use crate::{groups_are_on_timelines, names_tell_records, outlines_are_sound};
+use crate::{groups_are_on_timelines, groups_hold_names, names_tell_records, outlines_are_sound};
 use mp_model::{Group, PostList, Query, Rec, Time, Value};
 use std::alloc::{AllocError, Global};
 use std::test::Fail;
@@ -81,5 +81,6 @@ fn laws_hold_of_a_query(_rt: HostRuntime) -> Result<(), Fail> {
     outlines_are_sound::<WakingBids>();
     names_tell_records::<WakingBids>();
     groups_are_on_timelines::<WakingBids>();
+    groups_hold_names::<WakingBids>();
     Ok(())
 }

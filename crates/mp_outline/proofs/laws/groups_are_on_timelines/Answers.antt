@@ -1,3 +1,4 @@
+use Rattle.mp_outline.proofs.Groups.{timelines_rise}
 use Rattle.mp_outline.proofs.Soundness.{outline_is_sound}
 use Rattle.mp_outline.proofs.Timelines.{groups_are_on, wakes_are}
 use Rattle.mp_outline.proofs.laws.groups_are_on_timelines.Goals as goal
@@ -13,3 +14,6 @@ pub returns-clause-wakes : goal.returns-clause-wakes
 returns-clause-wakes g c = λ job legal.
     let laws = g.met.Q.Query g.world.𝓛 g.world.𝓜 g.world.𝓡 ((λ s x. x), (λ x. x), (λ x. x), λ x. x) in
     wakes_are (g.Q.Query.facts job.rules) (laws.later_stages_post_nothing job.rules) job
+
+pub returns-clause-timelines : goal.returns-clause-timelines
+returns-clause-timelines g c = λ job. timelines_rise (g.Q.Query.facts job.rules) job

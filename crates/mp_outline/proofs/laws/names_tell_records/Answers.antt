@@ -1,9 +1,9 @@
 use Rattle.std.proofs.Common.{◌-◌}
 use Rattle.mp_model.specs.Stages.{answer_rows, stage_records}
+use Rattle.mp_outline.specs.Laws.{OutputsInOrder, RecordsInOrder}
 use Rattle.mp_outline.proofs.Outputs.{stage_outputs_in_order}
 use Rattle.mp_outline.proofs.Pairs.{AllPairs-Pairs}
 use Rattle.mp_outline.proofs.Records.{records_in_order, same_record}
-use Rattle.mp_outline.proofs.Tags.{OutputsInOrder, RecordsInOrder}
 use Rattle.mp_outline.proofs.Telling.{names_tell_inputs}
 use Rattle.mp_outline.proofs.laws.names_tell_records.Goals as goal
 
