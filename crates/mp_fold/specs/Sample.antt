@@ -1,5 +1,5 @@
 -- The table of the query that this crate's tests answer.
-use Rattle.std.specs.Prelude.{ℕ, zero, suc, ◌≡◌, ◌+◌, ◌*◌, ◌/◌, ◌==◌, ◌++◌, ◌&&◌, not, Bool, true, Option, Some, None, List, [], ◌∷◌, fold, length, map, if◌then◌else◌}
+use Rattle.std.specs.Prelude.{ℕ, zero, suc, ◌+◌, ◌*◌, ◌/◌, ◌==◌, ◌++◌, ◌&&◌, not, Bool, true, Option, Some, None, List, [], ◌∷◌, fold, length, map, if◌then◌else◌}
 use Rattle.mp_model.specs.declared.fields.Field.TheVariants.{Number}
 use Rattle.mp_model.specs.declared.record.Rec.{Rec}
 use Rattle.mp_model.specs.declared.value.Value.{Value}

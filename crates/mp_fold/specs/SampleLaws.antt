@@ -1,5 +1,5 @@
 -- The query that this crate's tests answer keeps the laws of a query.
-use Rattle.std.specs.Prelude.{ℕ, zero, suc, ◌≡◌, ◌+◌, ◌<◌, ◌≤◌, ◌++◌, Bool, true, false, List, [], ◌∷◌, All, IsSome, length, map, not, ◌&&◌, ◌==◌, slice_index_or, refl, if◌then◌else◌}
+use Rattle.std.specs.Prelude.{ℕ, zero, suc, ◌≤◌, ◌++◌, Bool, true, false, List, [], ◌∷◌, All, IsSome, length, map, not, ◌&&◌, ◌==◌, slice_index_or, refl, if◌then◌else◌}
 use Rattle.std.proofs.Common.{ap, arith, length-append}
 use Rattle.std.proofs.lemmas.List.{length-map}
 use Rattle.std.proofs.lemmas.List.Elements.{All-append, All-cons, All-map, All-nil}
@@ -12,7 +12,7 @@ use Rattle.mp_model.specs.Folds.{FitsAlong, timeline}
 use Rattle.mp_model.specs.Legal.{IsLegalAt}
 use Rattle.mp_model.specs.QueryLaws.{FreshStaysFresh, HasStages, LaterStagesPostNothing, MostIsEnough, OutputsHaveKeys, PostsAreLater, RisesWithin, SumsFit}
 use Rattle.mp_model.specs.Stages.{stage_records}
-use Rattle.mp_fold.specs.Sample.{gives_of, key_of, last_time, offer_of, row_of, sample_facts, wake_of, wakes_of}
+use Rattle.mp_fold.specs.Sample.{key_of, last_time, offer_of, row_of, sample_facts, wake_of, wakes_of}
 
 pub has_stages : HasStages sample_facts
 has_stages = (omega arith, omega arith)

@@ -19,7 +19,8 @@ pub fn answer_pieces<Q: Query>(
     events: &[Event],
 ) -> Result<Vec<Vec<u8>>, AllocError>
     requires { EventsAreLegal events.now }
-    ensures { IfOk result (λ v. flat_map (λ p. p.items) v.items ≡ one_thread_answer (Q.facts (Q.rules query.now)) events.now) }
+    ensures { IfOk result (λ v. flat_map (λ p. p.items) v.items
+        ≡ one_thread_answer (Q.facts (Q.rules query.now)) events.now) }
 {
     let rows = in_order(alloc, answer_rows(alloc, query, events)?)?;
     let mut pieces = Pieces::new(alloc);
@@ -40,6 +41,7 @@ fn in_order(alloc: Global, outputs: Vec<Output>) -> Result<Rows, AllocError>
     Ok(rows)
 }
 
+/// Puts a row at its place.
 fn put_row(rows: &mut Rows, output: Output) -> Result<(), AllocError>
     ensures { OnOk result (rows.new.entries ≡ with_row rows.old.entries output) }
 {

@@ -17,8 +17,10 @@ pub fn fold_key<Q: Query>(
     outputs: &mut Vec<Output>,
 ) -> Result<(), AllocError>
     requires times { All (λ r. r.time ≤ LAST_TIME) recs.now }
-    requires fits { let q = Q.facts (Q.rules query.now) in FitsAlong q stage (q.fresh stage) (timeline q stage key recs.now) }
-    ensures { OnOk result (outputs.new.items ≡ outputs.old.items ++ outputs_of (Q.facts (Q.rules query.now)) stage recs.now key) }
+    requires fits { let q = Q.facts (Q.rules query.now) in
+        FitsAlong q stage (q.fresh stage) (timeline q stage key recs.now) }
+    ensures { OnOk result (outputs.new.items
+        ≡ outputs.old.items ++ outputs_of (Q.facts (Q.rules query.now)) stage recs.now key) }
 {
     let own = of_key(alloc, recs, key)?;
     let times = group_times(alloc, query, stage, own.as_slice())?;

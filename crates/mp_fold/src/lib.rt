@@ -1,5 +1,8 @@
-//! The answer of a query to events, on one thread: each key folded by itself, and the rows put in order. Slow and plain;
-//! its contract is the definition of the answer.
+//! The answer of any query to events, on one thread: each key is folded by itself, and the rows are put in order.
+//!
+//! It is plain and slow (quadratic in keys, and in the times of a key), and its contract is the definition of the answer.
+//! What stages, groups and rows are comes from Naiad and Megaphone; the order of rows and the form of a line are this
+//! project's profile.
 #![tactic(auto)]
 
 mod answer;

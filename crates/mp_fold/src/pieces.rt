@@ -27,6 +27,7 @@ impl Model for Pieces {
 }
 
 impl Pieces {
+    /// No lines.
     pub fn new(alloc: Global) -> Pieces
         ensures { result ≡ [] }
     {

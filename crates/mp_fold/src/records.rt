@@ -1,5 +1,5 @@
 //! The records that events and outputs make.
-ghost use Rattle.std.specs.Prelude.{◌≡◌, ◌≤◌, ◌++◌, ◌∷◌, All, IfOk, OnOk, [], List};
+ghost use Rattle.std.specs.Prelude.{◌≡◌, ◌≤◌, ◌++◌, All, IfOk, OnOk};
 ghost use Rattle.std.specs.List.{filter_map};
 ghost use Rattle.std.specs.Option.{option_to_list};
 ghost use Rattle.mp_model.specs.declared.limits.TheConstants.{LAST_TIME};
@@ -32,7 +32,8 @@ fn push_record<Q: Query>(
     recs: &mut Vec<Rec>,
 ) -> Result<(), AllocError>
     requires { event.now.time ≤ LAST_TIME }
-    ensures { OnOk result (recs.new.items ≡ recs.old.items ++ option_to_list (record_of (Q.facts (Q.rules query.now)) index event.now)) }
+    ensures { OnOk result (recs.new.items
+        ≡ recs.old.items ++ option_to_list (record_of (Q.facts (Q.rules query.now)) index event.now)) }
 {
     match query.key(0, event.time, &event.value) {
         Some(key) => {
@@ -56,7 +57,8 @@ pub fn output_records<Q: Query>(
     outputs: &[Output],
 ) -> Result<Vec<Rec>, AllocError>
     requires { All (λ o. o.time ≤ LAST_TIME) outputs.now }
-    ensures { IfOk result (λ v. v.items ≡ filter_map (record_of_output (Q.facts (Q.rules query.now)) stage) outputs.now) }
+    ensures { IfOk result (λ v. v.items
+        ≡ filter_map (record_of_output (Q.facts (Q.rules query.now)) stage) outputs.now) }
 {
     let mut recs = Vec::new(alloc);
     for output in outputs {
@@ -73,7 +75,8 @@ fn push_output_record<Q: Query>(
     recs: &mut Vec<Rec>,
 ) -> Result<(), AllocError>
     requires { output.now.time ≤ LAST_TIME }
-    ensures { OnOk result (recs.new.items ≡ recs.old.items ++ option_to_list (record_of_output (Q.facts (Q.rules query.now)) stage output.now)) }
+    ensures { OnOk result (recs.new.items
+        ≡ recs.old.items ++ option_to_list (record_of_output (Q.facts (Q.rules query.now)) stage output.now)) }
 {
     match query.key(stage, output.time, &output.value) {
         Some(key) => {

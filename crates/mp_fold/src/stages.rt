@@ -25,8 +25,8 @@ pub fn answer_rows<Q: Query>(
     stage_outputs(alloc, query, last, recs.as_slice())
 }
 
-/// The records of a stage, numbered from 0: those of the events, and later those of the outputs of the stage before. The one
-/// error is want of memory.
+/// The records of a stage, of which the first is 0: those of the events, and later those of the outputs of the stage
+/// before. The one error is want of memory.
 pub fn stage_records<Q: Query>(
     alloc: Global,
     query: &Q,
@@ -35,7 +35,8 @@ pub fn stage_records<Q: Query>(
 ) -> Result<Vec<Rec>, AllocError>
     requires events { EventsAreLegal events.now }
     requires stage { stage < Q.STAGES }
-    ensures { IfOk result (λ v. v.items ≡ stage_records (Q.facts (Q.rules query.now)) events.now stage) }
+    ensures { IfOk result (λ v. v.items
+        ≡ stage_records (Q.facts (Q.rules query.now)) events.now stage) }
 {
     let mut recs = input_records(alloc, query, events)?;
     for before in 0..stage {
@@ -54,7 +55,8 @@ fn stage_outputs<Q: Query>(
     recs: &[Rec],
 ) -> Result<Vec<Output>, AllocError>
     requires times { All (λ r. r.time ≤ LAST_TIME) recs.now }
-    requires fits { let q = Q.facts (Q.rules query.now) in (k : ℕ) → FitsAlong q stage (q.fresh stage) (timeline q stage k recs.now) }
+    requires fits { let q = Q.facts (Q.rules query.now) in
+        (k : ℕ) → FitsAlong q stage (q.fresh stage) (timeline q stage k recs.now) }
     ensures { IfOk result (λ v. v.items ≡ stage_outputs (Q.facts (Q.rules query.now)) stage recs.now) }
 {
     let keys = keys_of(alloc, recs)?;

@@ -1,5 +1,5 @@
 //! A query of two stages with wakes, answered; and the form of a line.
-ghost use Rattle.std.specs.Prelude.{◌≡◌, ◌≤◌, ◌<◌, ◌+◌, ◌*◌, ◌/◌, ◌++◌, map, length, IfOk, OnOk};
+ghost use Rattle.std.specs.Prelude.{◌≡◌, ◌≤◌, ◌*◌, ◌/◌, ◌++◌, map, IfOk, OnOk};
 ghost use Rattle.mp_model.specs.declared.limits.TheConstants.{MAX_ID, MAX_PRICE, MAX_TIME};
 ghost use Rattle.mp_model.specs.Legal.{EventIsLegal};
 ghost use Rattle.mp_fold.specs.Sample.{gives_of, last_time, offer_of, row_of, wake_of};

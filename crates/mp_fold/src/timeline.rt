@@ -88,6 +88,7 @@ pub fn is_woken<Q: Query>(query: &Q, stage: u32, recs: &[Rec], time: Time) -> bo
     false
 }
 
+/// Whether this is one of the times.
 fn contains(times: &[Time], time: Time) -> bool
     ensures { result ≡ list_any (λ u. u == time) times.now }
 {

@@ -1,5 +1,5 @@
 -- The outputs so far, with those of the values that are left, are all.
-use Rattle.std.proofs.Common.{◌≡◌, ◌++◌, ◌+◌, List, ℕ}
+use Rattle.std.proofs.Common.{◌≡◌, ◌++◌, ◌+◌}
 use Rattle.std.specs.Vec.Iter.{into_iter_items, into_iter_len}
 use Rattle.mp_fold.proofs.Outputs.{outputs_from}
 use Rattle.mp_fold.proofs.folds.push_outputs.Given as goal
