@@ -145,8 +145,6 @@ fn first_bad_line(rt: HostRuntime) -> Result<(), Fail> {
         ),
         (b"B|1|2|3|\n", "events line 1: number\n"),
         (b"B|1|2|3\n", "events line 1: fields\n"),
-        (b"A|5|1|1|1|1|5\n", "events line 1: order\n"),
-        (b"P|1|1||b|c\n", "events line 1: name\n"),
         (b"B|1|1|1|1000000000001\n", "events line 1: range\n"),
         (b"B|140737488355329|7|2|1\n", "events line 1: range\n"),
         (b"B|5|281474976710657|2|1\n", "events line 1: range\n"),
@@ -156,6 +154,14 @@ fn first_bad_line(rt: HostRuntime) -> Result<(), Fail> {
     }
     answers(&rt, Q1, b"B|1|2|3|45", b"1|2|3|40\n")?;
     answers(&rt, Q1, b"B|1|2|3|4", b"1|2|3|3\n")?;
+    Ok(())
+}
+
+#[test]
+fn expiry_and_names(rt: HostRuntime) -> Result<(), Fail> {
+    refuses(&rt, b"A|5|1|1|1|1|5\n", b"", 3, "events line 1: order\n")?;
+    refuses(&rt, b"P|1|1||b|c\n", b"", 3, "events line 1: name\n")?;
+    answers(&rt, Q1, b"A|5|1|1|1|1|6\nP|1|1|a|b|c\n", b"")?;
     Ok(())
 }
 
