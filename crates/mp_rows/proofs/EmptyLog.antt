@@ -1,0 +1,112 @@
+-- The entries of an empty log sum to its contributions.
+use Rattle.std.proofs.Common.{◌≡◌, ℕ, ◌<◌, ◌&&◌, ◌==◌, Bool, true, false, cond, List, [], ◌++◌, length, get_or, map, count_by, ℤ, pos, ◌+ℤ◌, refl, sym, ap, ◌∙◌, All, ⊎_elim, arith}
+use Rattle.std.specs.List.{sum_by}
+use Rattle.std.proofs.lemmas.Bool.{cases_Bool}
+use Rattle.std.proofs.lemmas.Int.{ints}
+use Rattle.std.proofs.lemmas.List.{take_all}
+use Rattle.mp_names.specs.declared.controls.Control.{Control}
+use Rattle.mp_names.specs.declared.locations.Loc.{Loc}
+use Rattle.mp_names.specs.declared.locations.Loc.TheVariants.{Ctl, CtlMail, Source, Route, Mail, Move, State, Host, OutRoute, OutMail}
+use Rattle.mp_names.specs.declared.names.Name.{Name}
+use Rattle.mp_names.specs.Controls.{control_of}
+use Rattle.mp_names.specs.Frontiers.{contribution, is_held}
+use Rattle.mp_names.specs.Logs.{empty_log}
+use Rattle.mp_names.specs.Names.{joined_below}
+use Rattle.mp_names.specs.Outlines.{OutlineIsSound, time_of}
+use Rattle.mp_stamps.specs.Counts.{same_loc}
+use Rattle.mp_model.specs.declared.record.Event.{Event}
+use Rattle.mp_model.specs.Facts.{JobFacts, QueryFacts}
+use Rattle.mp_job.specs.Records.{share_of}
+use Rattle.mp_job.proofs.Sharing.{record_is_there, record_of_place}
+use Rattle.mp_outline.specs.JobOutline.{outline_of}
+use Rattle.mp_rows.specs.Entries.{AreContributions, sum_at}
+use Rattle.mp_rows.specs.Opening.{control_entries, source_entries, time_at}
+use Rattle.mp_rows.proofs.Controls.{count_controls, count_no_controls, to_each}
+use Rattle.mp_rows.proofs.Nothing.{adds_nothing}
+use Rattle.mp_rows.proofs.Sources.{count_share}
+use Rattle.mp_rows.proofs.Sums.{sum_at-append, sum_elsewhere, sum_here}
+
+both_parts : (x y z a b c : ℤ) → x ≡ y +ℤ z → y ≡ a → z ≡ b → a +ℤ b ≡ c → x ≡ c
+both_parts x y z a b c e f g h = omega (arith, ints)
+
+right_zero : (a : ℤ) → a +ℤ pos 0 ≡ a
+right_zero a = omega (arith, ints)
+
+left_zero : (a : ℤ) → pos 0 +ℤ a ≡ a
+left_zero a = omega (arith, ints)
+
+module _ {Cell : Type 0} (q : QueryFacts Cell) (job : JobFacts) (w : ℕ) where
+  -- the indices of a share are those of events
+  pub share_inside : (events : List Event) (share : List ℕ) → events ≡ job.events → share ≡ share_of q job.events job.shape.workers w → All (λ i. i < length events) share
+  share_inside events share e f = λ k d l. rw e (record_is_there q job.events (get_or share k d) (record_of_place q job.events job.shape.workers w share k d f l))
+
+  -- the names that a worker has and hasn't sent, of a time
+  held_at : ℕ → Name → Bool
+  held_at t x = is_held (outline_of q job) w empty_log x && time_of (outline_of q job) x == t
+
+  -- what all control records add, on the worker that sends them
+  all_controls : List (Loc × ℕ × ℤ)
+  all_controls = map (λ c. (Ctl, c.time, pos job.shape.workers)) job.controls
+
+  controls_here : (t : ℕ) → sum_at (control_entries job.shape.workers w job.controls) Ctl t ≡ contribution (outline_of q job) w empty_log Ctl t
+  unfolding held_at all_controls
+  controls_here t = ⊎_elim some none (cases_Bool (w == 0))
+    where
+      some : (w == 0) ≡ true → sum_at (control_entries job.shape.workers w job.controls) Ctl t ≡ contribution (outline_of q job) w empty_log Ctl t
+      some e =
+          let f = λ (c : Control). cond (c.time == t) job.shape.workers 0 in
+          let n = length job.controls in
+          ap (λ (b : Bool). sum_at (cond b all_controls []) Ctl t) e
+          ∙ sum_here Ctl Ctl (λ (c : Control). c.time) job.shape.workers t refl job.controls
+          ∙ ap (λ (cs : List Control). pos (sum_by f cs)) (sym (take_all n job.controls (omega arith)))
+          ∙ ap pos (sym (count_controls (held_at t) job.controls job.shape.workers t n (omega arith) (λ i v. ap (λ (b : Bool). b && true && (control_of job.controls i).time == t) e)))
+
+      none : (w == 0) ≡ false → sum_at (control_entries job.shape.workers w job.controls) Ctl t ≡ contribution (outline_of q job) w empty_log Ctl t
+      none e =
+          ap (λ (b : Bool). sum_at (cond b all_controls []) Ctl t) e
+          ∙ ap pos (sym (count_no_controls (held_at t) job.shape.workers (length job.controls) (λ i v. ap (λ (b : Bool). b && true && (control_of job.controls i).time == t) e)))
+
+  controls_elsewhere : (loc : Loc) (t : ℕ) → same_loc Ctl loc ≡ false → sum_at (control_entries job.shape.workers w job.controls) loc t ≡ pos 0
+  unfolding all_controls
+  controls_elsewhere loc t e = pick (w == 0)
+    where
+      pick : (b : Bool) → sum_at (cond b all_controls []) loc t ≡ pos 0
+      pick true = sum_elsewhere Ctl loc (λ (c : Control). c.time) job.shape.workers t e job.controls
+      pick false = refl
+
+  module _ (sound : OutlineIsSound (outline_of q job)) where
+    sources_here : (t : ℕ) → sum_at (source_entries job.events (share_of q job.events job.shape.workers w)) Source t ≡ contribution (outline_of q job) w empty_log Source t
+    sources_here t = sum_here Source Source (time_at job.events) 1 t refl (share_of q job.events job.shape.workers w) ∙ ap pos (sym (count_share q job w t sound.some_stage))
+
+    sources_elsewhere : (loc : Loc) (t : ℕ) → same_loc Source loc ≡ false → sum_at (source_entries job.events (share_of q job.events job.shape.workers w)) loc t ≡ pos 0
+    sources_elsewhere loc t e = sum_elsewhere Source loc (time_at job.events) 1 t e (share_of q job.events job.shape.workers w)
+
+    Adds : Loc → ℕ → Type 0
+    Adds loc t = sum_at (control_entries job.shape.workers w job.controls ++ source_entries job.events (share_of q job.events job.shape.workers w)) loc t ≡ contribution (outline_of q job) w empty_log loc t
+
+    parts : (loc : Loc) (t : ℕ) (a b : ℤ) → sum_at (control_entries job.shape.workers w job.controls) loc t ≡ a → sum_at (source_entries job.events (share_of q job.events job.shape.workers w)) loc t ≡ b → a +ℤ b ≡ contribution (outline_of q job) w empty_log loc t → Adds loc t
+    unfolding Adds
+    parts loc t a b e f g =
+        let cs = control_entries job.shape.workers w job.controls in
+        let ss = source_entries job.events (share_of q job.events job.shape.workers w) in
+        both_parts (sum_at (cs ++ ss) loc t) (sum_at cs loc t) (sum_at ss loc t) a b (contribution (outline_of q job) w empty_log loc t) (sum_at-append cs ss loc t) e f g
+
+    elsewhere : (loc : Loc) (t : ℕ) → same_loc Ctl loc ≡ false → same_loc Source loc ≡ false → Adds loc t
+    elsewhere loc t e f = parts loc t (pos 0) (pos 0) (controls_elsewhere loc t e) (sources_elsewhere loc t f) (sym (adds_nothing (outline_of q job) w sound loc t e f))
+
+    each : (loc : Loc) (t : ℕ) → Adds loc t
+    each Ctl t = parts Ctl t (contribution (outline_of q job) w empty_log Ctl t) (pos 0) (controls_here t) (sources_elsewhere Ctl t refl) (right_zero (contribution (outline_of q job) w empty_log Ctl t))
+    each Source t = parts Source t (pos 0) (contribution (outline_of q job) w empty_log Source t) (controls_elsewhere Source t refl) (sources_here t) (left_zero (contribution (outline_of q job) w empty_log Source t))
+    each CtlMail t = elsewhere CtlMail t refl refl
+    each (Route j) t = elsewhere (Route j) t refl refl
+    each (Mail j) t = elsewhere (Mail j) t refl refl
+    each (Move j) t = elsewhere (Move j) t refl refl
+    each (State j) t = elsewhere (State j) t refl refl
+    each (Host j) t = elsewhere (Host j) t refl refl
+    each OutRoute t = elsewhere OutRoute t refl refl
+    each OutMail t = elsewhere OutMail t refl refl
+
+    -- so these entries, made of what a job gives, are the contributions
+    pub opening_sums : (workers : ℕ) (controls : List Control) (events : List Event) (share : List ℕ) (none some all : List (Loc × ℕ × ℤ)) → workers ≡ job.shape.workers → controls ≡ job.controls → events ≡ job.events → share ≡ share_of q job.events job.shape.workers w → none ≡ [] → some ≡ none ++ control_entries workers w controls → all ≡ some ++ source_entries events share → AreContributions (outline_of q job) w empty_log all
+    unfolding Adds
+    opening_sums workers controls events share none some all ws cs es is n s a = λ loc t. rw (a, s, n, ws, cs, es, is) (each loc t)

@@ -1,0 +1,7 @@
+pub mod Sums
+pub mod Kept
+pub mod Controls
+pub mod Nothing
+pub mod Sources
+pub mod EmptyLog
+pub mod RowTaken

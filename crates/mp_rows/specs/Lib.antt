@@ -1,0 +1,6 @@
+-- What the contracts of this crate cite.
+pub mod Entries
+pub mod Lists
+pub mod Opening
+pub mod Room
+pub mod WorkerLog

@@ -1,0 +1,64 @@
+//! What the empty log of a worker adds to the counts.
+ghost use Rattle.std.specs.Prelude.{◌≡◌, ◌++◌, ◌<◌, All, IfOk, OnOk, length};
+ghost use Rattle.mp_names.specs.Logs.{empty_log};
+ghost use Rattle.mp_outline.specs.JobOutline.{outline_of};
+ghost use Rattle.mp_rows.specs.Entries.{AreContributions};
+ghost use Rattle.mp_rows.specs.Opening.{control_entries, source_entries};
+
+use crate::Change;
+use mp_job::{Control, Event, Job, Query};
+use mp_names::Loc;
+use std::alloc::{AllocError, Global};
+
+/// The contributions of the empty log of a worker: on worker 0 the control records that it has to send to each worker,
+/// and the records of the worker's share. `AllocError`: no memory.
+pub fn opening_entries<Q: Query>(
+    alloc: Global,
+    job: &Job<Q>,
+    worker: u32,
+) -> Result<Vec<Change>, AllocError>
+    requires { worker < job.now.shape.workers }
+    ensures { let o = outline_of (Q.facts job.now.rules) job.now in
+        IfOk result (λ v. AreContributions o worker empty_log v.items) }
+{
+    let shape = job.shape();
+    let mut entries = Vec::new(alloc);
+    add_controls(job.controls(), shape.workers, worker, &mut entries)?;
+    add_records(job.events(), job.share(worker), &mut entries)?;
+    Ok(entries)
+}
+
+// Adds the control records, if the worker is the one that sends them.
+fn add_controls(
+    controls: &[Control],
+    workers: u32,
+    worker: u32,
+    entries: &mut Vec<Change>,
+) -> Result<(), AllocError>
+    ensures { OnOk result (entries.new.items ≡ entries.old.items ++ control_entries workers worker controls.now) }
+{
+    if worker != 0 {
+        return Ok(());
+    }
+    let receivers = i64::from(workers);
+    for control in controls {
+        entries.push((Loc::Ctl, control.time, receivers))?;
+    }
+    Ok(())
+}
+
+// Adds the records of the events of these indices.
+fn add_records(
+    events: &[Event],
+    share: &[u32],
+    entries: &mut Vec<Change>,
+) -> Result<(), AllocError>
+    requires { All (λ i. i < length events.now) share.now }
+    ensures { OnOk result (entries.new.items ≡ entries.old.items ++ source_entries events.now share.now) }
+{
+    for index in share {
+        let event = &events[*index as usize];
+        entries.push((Loc::Source, event.time, 1))?;
+    }
+    Ok(())
+}
