@@ -1,0 +1,36 @@
+-- What is made of the times of the bids on an auction.
+use Rattle.std.specs.Prelude.{ℕ, ◌-◌, ◌++◌, ◌==◌, Option, Some, None, List, filter, if◌then◌else◌, length, nat_le}
+use Rattle.std.specs.List.{filter_map}
+use Rattle.mp_model.specs.declared.record.Rec.{Rec}
+use Rattle.mp_model.specs.declared.value.Value.{Value}
+use Rattle.mp_model.specs.declared.value.Value.TheVariants.{Bid, Count}
+use Rattle.mp_model.specs.Entry.{Entry}
+
+-- the time of a bid
+abbrev pub bid_time : ℕ → Value → Option ℕ
+bid_time t (Bid auction bidder price) = Some t
+bid_time t _ = None
+
+-- the times of the bids among records, in order
+abbrev pub times_of : List Rec → List ℕ
+times_of rs = filter_map (λ r. bid_time r.time r.value) rs
+
+-- the times that are not before this one
+abbrev pub since : ℕ → List ℕ → List ℕ
+since first times = filter (λ t. nat_le first t) times
+
+-- the times that stay when the records of a group come: where it ends a window, those of its last 3000
+abbrev pub kept_by : List ℕ → Entry → List ℕ
+kept_by times e = if e.woken then since (e.time - 3000) times else times
+
+-- the times after a group, whose bids come after those that stay
+abbrev pub after_group : List ℕ → Entry → List ℕ
+after_group times e = kept_by times e ++ times_of e.recs
+
+-- the count of an auction's bids, where it had some
+abbrev pub count_row : ℕ → ℕ → Option Value
+count_row auction count = if count == 0 then None else Some (Count auction count)
+
+-- the count of the window that a group ends, which holds the times of its last 3600
+abbrev pub count_in : List ℕ → Entry → Option Value
+count_in times e = if e.woken then count_row e.key (length (since (e.time - 3600) times)) else None

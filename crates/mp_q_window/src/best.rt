@@ -1,0 +1,107 @@
+//! The best bid of a window.
+ghost use Rattle.std.specs.Prelude.{◌≡◌, ◌↔◌, IsTrue, None, Some};
+ghost use Rattle.mp_q_window.specs.Best.{after_group, after_value, at_start, better_of, row_of};
+
+use mp_model::{Field, Fields, Group, Value};
+use std::marker::Model;
+
+/// What a bid offers. Its numbers have the limits of a bid, of this project's profile.
+#[derive(Clone, Copy, Debug)]
+pub struct Offer {
+    pub auction: u64,
+    pub bidder: u64,
+    pub price: u64,
+}
+
+/// The offer of the greatest price of a window so far, the first where prices are equal. Contracts see it, or none.
+#[derive(Drop, Debug)]
+pub struct Best {
+    best: Option<Offer>,
+}
+
+impl Model for Best {
+    ghost use Rattle.std.specs.Prelude.{Option};
+    ghost use Rattle.mp_q_window.specs.declared.best.Offer.{Offer};
+
+    ghost Value = { Option Offer };
+
+    ghost view = { λ b. b.best };
+}
+
+impl Best {
+    /// No offer.
+    pub fn new() -> Best
+        ensures { result ≡ None }
+    {
+        Best { best: None }
+    }
+
+    /// Whether there is no offer.
+    pub fn is_new(&self) -> bool
+        ensures { IsTrue result ↔ (self.now ≡ None) }
+    {
+        self.best.is_none()
+    }
+
+    /// The row of the best offer, where this group ends a window.
+    pub fn row(&self, group: &Group) -> Option<Value>
+        ensures { result ≡ row_of self.now group.now }
+    {
+        match self.best {
+            Some(offer) if group.is_woken() => {
+                let mut fields = Fields::new();
+                fields.push(Field::Number(offer.auction));
+                fields.push(Field::Number(offer.bidder));
+                fields.push(Field::Number(offer.price));
+                Some(Value::Row(fields))
+            }
+            _ => None,
+        }
+    }
+
+    /// Takes a group: the end of a window drops the best offer, and then each bid is taken in order.
+    pub fn apply(&mut self, group: &Group)
+        ensures { self.new ≡ after_group self.old group.now }
+    {
+        self.best = self.at_start(group);
+        for rec in group.recs() {
+            self.apply_one(&rec.value);
+        }
+    }
+
+    /// What is kept before the records of a group.
+    fn at_start(&self, group: &Group) -> Option<Offer>
+        ensures { result ≡ at_start self.now group.now }
+    {
+        if group.is_woken() { None } else { self.best }
+    }
+
+    /// Takes what a record holds: a bid is the best where its price is greater.
+    fn apply_one(&mut self, value: &Value)
+        ensures { self.new ≡ after_value self.old value.now }
+    {
+        if let Value::Bid {
+            auction,
+            bidder,
+            price,
+        } = value
+        {
+            let offer = Offer {
+                auction: *auction,
+                bidder: *bidder,
+                price: *price,
+            };
+            self.best = Some(self.better_of(offer));
+        }
+    }
+
+    /// The best offer, or this one where there is none or its price is greater.
+    fn better_of(&self, offer: Offer) -> Offer
+        ensures { Some result ≡ better_of self.now offer }
+    {
+        match self.best {
+            Some(best) if best.price >= offer.price => best,
+            _ => offer,
+        }
+    }
+}
