@@ -1,9 +1,11 @@
-//! Counts of outstanding work by location and time, and the frontiers that they show.
+//! Counts of outstanding work by location and time, the frontiers that they show, and what a worker saw of
+//! them.
 #![tactic(auto)]
 
 mod counts;
 mod frontiers;
 mod reaching;
+mod seen;
 #[cfg(test)]
 mod tests;
 
@@ -11,3 +13,4 @@ pub use counts::Counts;
 pub use frontiers::passed;
 pub use mp_names::{Frontier, Loc};
 pub use reaching::reaches;
+pub use seen::{MAX_STAGES, Seen};
