@@ -1,0 +1,75 @@
+-- What q3 keeps of a seller.
+use Rattle.std.specs.Prelude.{ℕ, ◌++◌, Option, Some, None, List, [], ◌∷◌, fold, if◌then◌else◌, map}
+use Rattle.std.specs.List.{filter_map}
+use Rattle.std.specs.Option.{is_some, option_map, option_to_list}
+use Rattle.mp_model.specs.declared.fields.Field.TheVariants.{Number, Text}
+use Rattle.mp_model.specs.declared.record.Rec.{Rec}
+use Rattle.mp_model.specs.declared.value.Value.{Value}
+use Rattle.mp_model.specs.declared.value.Value.TheVariants.{Auction, Person, Row}
+use Rattle.mp_q_join.specs.declared.home.Home.{Home}
+
+-- the person, if it came, and the ids of the auctions that wait for it
+pub record Kept : Type 0 where
+  pub home : Option Home
+  pub waiting : List ℕ
+
+-- at first there is no person, and no auction waits
+abbrev pub fresh_cell : Kept
+fresh_cell = record { home = None; waiting = [] }
+
+-- the row of an auction of a person
+abbrev pub row_of : Home → ℕ → Value
+row_of home id = Row (Text home.name ∷ Text home.city ∷ Text home.state ∷ Number id ∷ [])
+
+-- the cell after a person: the first is kept, and no auction waits any more
+abbrev pub with_home : Kept → Home → Kept
+with_home cell home = if is_some cell.home then cell else record { home = Some home; waiting = [] }
+
+-- the cell after an auction, which waits where there is no person
+abbrev pub with_auction : Kept → ℕ → Kept
+with_auction cell id = if is_some cell.home then cell else record cell { waiting = cell.waiting ++ id ∷ [] }
+
+-- the cell after a value; values of other kinds leave it as it is
+abbrev pub after_value : Kept → Value → Kept
+after_value cell (Person id name city state) = with_home cell (record { name = name; city = city; state = state })
+after_value cell (Auction id seller category reserve expires) = with_auction cell id
+after_value cell _ = cell
+
+-- the rows of a person: one for each auction that waits for it
+abbrev pub rows_of_home : Kept → Home → List Value
+rows_of_home cell home = if is_some cell.home then [] else map (row_of home) cell.waiting
+
+-- the rows of a value: an auction has one where there is a person
+abbrev pub rows_of_value : Kept → Value → List Value
+rows_of_value cell (Person id name city state) = rows_of_home cell (record { name = name; city = city; state = state })
+rows_of_value cell (Auction id seller category reserve expires) =
+    option_to_list (option_map (λ (home : Home). row_of home id) cell.home)
+rows_of_value cell _ = []
+
+-- the cell after records, one by one
+abbrev pub after_records : Kept → List Rec → Kept
+after_records cell rs = fold (λ cell r. after_value cell r.value) cell rs
+
+-- the rows of records, one by one
+abbrev pub rows_along : Kept → List Rec → List Value
+rows_along cell [] = []
+rows_along cell (r ∷ rs) = rows_of_value cell r.value ++ rows_along (after_value cell r.value) rs
+
+-- the id of an auction
+abbrev pub auction_of : Value → Option ℕ
+auction_of (Auction id seller category reserve expires) = Some id
+auction_of _ = None
+
+-- the ids of the auctions among records, in order
+abbrev pub auctions_of : List Rec → List ℕ
+auctions_of rs = filter_map (λ r. auction_of r.value) rs
+
+-- what is kept of a person
+abbrev pub home_of : Value → Option Home
+home_of (Person id name city state) = Some (record { name = name; city = city; state = state })
+home_of _ = None
+
+-- the first person among records
+abbrev pub first_home : List Rec → Option Home
+first_home [] = None
+first_home (r ∷ rs) = if is_some (home_of r.value) then home_of r.value else first_home rs

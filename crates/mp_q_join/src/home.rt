@@ -1,0 +1,69 @@
+//! What q3 keeps of a person.
+ghost use Rattle.std.specs.Prelude.{◌≡◌, ◌++◌, map, IfOk, OnOk};
+ghost use Rattle.mp_q_join.specs.Joining.{first_home, home_of, row_of};
+
+use mp_model::{Field, Fields, Rec, Text, Value};
+use std::alloc::AllocError;
+
+/// A person's name, city and state.
+#[derive(Drop, Debug)]
+pub struct Home {
+    name: Text,
+    city: Text,
+    state: Text,
+}
+
+impl Home {
+    /// The first person among these records, if there is one.
+    pub fn first(recs: &[Rec]) -> Result<Option<Home>, AllocError>
+        ensures { IfOk result (λ home. home ≡ first_home recs.now) }
+    {
+        for rec in recs {
+            if let Some(home) = Home::of(&rec.value)? {
+                return Ok(Some(home));
+            }
+        }
+        Ok(None)
+    }
+
+    /// What is kept of a value, if it is a person.
+    fn of(value: &Value) -> Result<Option<Home>, AllocError>
+        ensures { IfOk result (λ home. home ≡ home_of value.now) }
+    {
+        match value {
+            Value::Person {
+                name,
+                city,
+                state,
+                ..
+            } => Ok(Some(Home {
+                name: name.clone()?,
+                city: city.clone()?,
+                state: state.clone()?,
+            })),
+            _ => Ok(None),
+        }
+    }
+
+    /// Adds the rows of these auctions at the end. Want of memory may leave some of them there.
+    pub fn push_rows(&self, auctions: &[u64], rows: &mut Vec<Value>) -> Result<(), AllocError>
+        ensures { OnOk result (rows.new.items ≡ rows.old.items ++ map (row_of self.now) auctions.now) }
+    {
+        for id in auctions {
+            rows.push(self.row(*id)?)?;
+        }
+        Ok(())
+    }
+
+    /// The row of an auction: name, city, state and the auction's id.
+    fn row(&self, id: u64) -> Result<Value, AllocError>
+        ensures { IfOk result (λ row. row ≡ row_of self.now id) }
+    {
+        let mut fields = Fields::new();
+        fields.push(Field::Text(self.name.clone()?));
+        fields.push(Field::Text(self.city.clone()?));
+        fields.push(Field::Text(self.state.clone()?));
+        fields.push(Field::Number(id));
+        Ok(Value::Row(fields))
+    }
+}

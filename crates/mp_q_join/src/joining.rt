@@ -1,0 +1,131 @@
+//! What q3 keeps of a seller.
+ghost use Rattle.std.specs.Prelude.{◌≡◌, ◌↔◌, ◌+◌, ◌++◌, None, Some, [], IsTrue, IfOk, OnOk, OnErr, length, map};
+ghost use Rattle.mp_q_join.specs.Joining.{after_records, auction_of, auctions_of, fresh_cell, row_of, rows_along};
+
+use crate::Home;
+use mp_model::{Rec, Value};
+use std::alloc::{AllocError, Global};
+use std::marker::Model;
+
+/// The person, if it came, and the ids of the auctions that wait for it, in order.
+#[derive(Drop, Debug)]
+pub struct Joining {
+    home: Option<Home>,
+    waiting: Vec<u64>,
+}
+
+impl Model for Joining {
+    ghost use Rattle.mp_q_join.specs.Joining.{Kept};
+
+    ghost Value = { Kept };
+
+    ghost view = { λ j. record { home = j.home; waiting = j.waiting.items } };
+}
+
+impl Joining {
+    /// No person, and no auction.
+    pub fn new(alloc: Global) -> Joining
+        ensures { result ≡ fresh_cell }
+    {
+        Joining {
+            home: None,
+            waiting: Vec::new(alloc),
+        }
+    }
+
+    /// Whether there is no person, and no auction waits.
+    pub fn is_new(&self) -> bool
+        ensures { IsTrue result ↔ (self.now ≡ fresh_cell) }
+    {
+        self.home.is_none() && self.waiting.is_empty()
+    }
+
+    /// How many rows these records have at most: as many as there are of them, and auctions wait.
+    pub fn most_rows(&self, recs: &[Rec]) -> u64
+        ensures { result ≡ length recs.now + length self.now.waiting }
+    {
+        recs.len() as u64 + self.waiting.len() as u64
+    }
+
+    #[tactic(auto, using(crate::proofs::Joins::cell_stays, crate::proofs::Joins::cell_rows, crate::proofs::Joins::cell_joins, crate::proofs::Joins::cell_joins_rows, crate::proofs::Joins::cell_waits, crate::proofs::Joins::cell_waits_rows))]
+    /// Takes these records, in order, and gives their rows. Want of memory leaves all as it was.
+    pub fn apply(&mut self, alloc: Global, recs: &[Rec]) -> Result<Vec<Value>, AllocError>
+        ensures cell { OnOk result (self.new ≡ after_records self.old recs.now) }
+        ensures rows { IfOk result (λ v. v.items ≡ rows_along self.old recs.now) }
+        ensures kept { OnErr result (self.new ≡ self.old) }
+    {
+        let auctions = auctions_of(alloc, recs)?;
+        match &self.home {
+            Some(home) => rows_of(alloc, home, &[], auctions.as_slice()),
+            None => match Home::first(recs)? {
+                Some(home) => self.join(alloc, home, auctions.as_slice()),
+                None => self.wait(alloc, auctions.as_slice()),
+            },
+        }
+    }
+
+    /// Keeps a person. The auctions that waited have a row each, and then these.
+    fn join(
+        &mut self,
+        alloc: Global,
+        home: Home,
+        auctions: &[u64],
+    ) -> Result<Vec<Value>, AllocError>
+        ensures cell { OnOk result (self.new ≡ record { home = Some home; waiting = [] }) }
+        ensures rows { IfOk result (λ v. v.items ≡ map (row_of home) (self.old.waiting ++ auctions.now)) }
+        ensures kept { OnErr result (self.new ≡ self.old) }
+    {
+        let rows = rows_of(alloc, &home, self.waiting.as_slice(), auctions)?;
+        self.home = Some(home);
+        self.waiting = Vec::new(alloc);
+        Ok(rows)
+    }
+
+    /// Lets these auctions wait. They have no rows yet.
+    fn wait(&mut self, alloc: Global, auctions: &[u64]) -> Result<Vec<Value>, AllocError>
+        ensures cell { OnOk result (self.new ≡ record { home = self.old.home; waiting = self.old.waiting ++ auctions.now }) }
+        ensures rows { IfOk result (λ v. v.items ≡ []) }
+        ensures kept { OnErr result (self.new ≡ self.old) }
+    {
+        self.waiting.extend_from_slice(auctions)?;
+        Ok(Vec::new(alloc))
+    }
+}
+
+/// The rows of auctions that waited for a person, and of others after them.
+fn rows_of(
+    alloc: Global,
+    home: &Home,
+    waiting: &[u64],
+    auctions: &[u64],
+) -> Result<Vec<Value>, AllocError>
+    ensures { IfOk result (λ v. v.items ≡ map (row_of home.now) (waiting.now ++ auctions.now)) }
+{
+    let mut rows = Vec::new(alloc);
+    home.push_rows(waiting, &mut rows)?;
+    home.push_rows(auctions, &mut rows)?;
+    Ok(rows)
+}
+
+/// The ids of the auctions among these records, in order.
+fn auctions_of(alloc: Global, recs: &[Rec]) -> Result<Vec<u64>, AllocError>
+    ensures { IfOk result (λ v. v.items ≡ auctions_of recs.now) }
+{
+    let mut auctions = Vec::new(alloc);
+    for rec in recs {
+        if let Some(id) = auction_of(&rec.value) {
+            auctions.push(id)?;
+        }
+    }
+    Ok(auctions)
+}
+
+/// The id of an auction.
+fn auction_of(value: &Value) -> Option<u64>
+    ensures { result ≡ auction_of value.now }
+{
+    match value {
+        Value::Auction { id, .. } => Some(*id),
+        _ => None,
+    }
+}

@@ -1,0 +1,76 @@
+//! The keys and posts of q3 and q8.
+ghost use Rattle.std.specs.Prelude.{◌≡◌, ◌≤◌};
+ghost use Rattle.mp_model.specs.declared.limits.TheConstants.{LAST_TIME};
+ghost use Rattle.mp_q_join.specs.Keys.{end_of_day, is_asked_for, posts_of, seller_asked_for, seller_of};
+
+use mp_model::{PostList, Rec, Text, Time, Value};
+
+/// q3 asks for the auctions of this category, by this project's profile.
+const CATEGORY: u64 = 10;
+
+/// The first of the states whose persons q3 asks for, by this project's profile.
+const OREGON: &[u8] = b"OR";
+
+/// The second of those states.
+const IDAHO: &[u8] = b"ID";
+
+/// The third of those states.
+const CALIFORNIA: &[u8] = b"CA";
+
+/// How many units of time a day of q8 has, by this project's profile.
+const DAY: u64 = 43_200;
+
+/// The key of q3: the seller of an auction of category 10, and the id of a person of the state OR, ID or CA. Other values
+/// make no record.
+pub fn seller_asked_for(value: &Value) -> Option<u64>
+    ensures { result ≡ seller_asked_for value.now }
+{
+    match value {
+        Value::Person { id, state, .. } if is_asked_for(state) => Some(*id),
+        Value::Auction {
+            seller,
+            category,
+            ..
+        } if *category == CATEGORY => Some(*seller),
+        _ => None,
+    }
+}
+
+/// Whether q3 asks for the persons of this state.
+fn is_asked_for(state: &Text) -> bool
+    ensures { result ≡ is_asked_for state.now }
+{
+    let state = state.as_bytes();
+    state == OREGON || state == IDAHO || state == CALIFORNIA
+}
+
+/// The key of q8: the seller of an auction, and the id of a person. Other values make no record.
+pub fn seller_of(value: &Value) -> Option<u64>
+    ensures { result ≡ seller_of value.now }
+{
+    match value {
+        Value::Person { id, .. } => Some(*id),
+        Value::Auction { seller, .. } => Some(*seller),
+        _ => None,
+    }
+}
+
+/// The posts of q8: a person and an auction post the end of the day of their time. The time is at most 2^47 + 43,200.
+pub fn posts_of(stage: u32, rec: &Rec) -> PostList
+    requires { rec.now.time ≤ LAST_TIME }
+    ensures { result ≡ posts_of stage rec.now }
+{
+    let mut posts = PostList::new();
+    if stage == 0 && matches!(&rec.value, Value::Person { .. } | Value::Auction { .. }) {
+        posts.push(end_of_day(rec.time));
+    }
+    posts
+}
+
+/// The end of the day of a time, which is at most 2^47 + 43,200.
+fn end_of_day(time: Time) -> Time
+    requires { time ≤ LAST_TIME }
+    ensures { result ≡ end_of_day time }
+{
+    (time / DAY + 1) * DAY
+}

@@ -1,0 +1,105 @@
+//! What q8 keeps of a seller during a day.
+ghost use Rattle.std.specs.Prelude.{◌≡◌, ◌↔◌, IsTrue, IfOk, OnOk, OnErr};
+ghost use Rattle.std.specs.Option.{option_to_list};
+ghost use Rattle.mp_q_join.specs.Selling.{after_records, after_value, cell_at, fresh_cell, row_of, row_in};
+
+use mp_model::{Field, Fields, Group, Text, Value};
+use std::alloc::{AllocError, Global};
+
+/// The name of a person, if it came, and whether it sells.
+#[derive(Drop, Debug)]
+pub struct Selling {
+    name: Option<Text>,
+    sells: bool,
+}
+
+impl Selling {
+    /// No name, and nothing is sold.
+    pub fn new() -> Selling
+        ensures { result ≡ fresh_cell }
+    {
+        Selling {
+            name: None,
+            sells: false,
+        }
+    }
+
+    /// Whether there is no name, and nothing is sold.
+    pub fn is_new(&self) -> bool
+        ensures { IsTrue result ↔ (self.now ≡ fresh_cell) }
+    {
+        self.name.is_none() && !self.sells
+    }
+
+    /// The row of a group: where it is woken and a person sells, the key and the name.
+    pub fn rows_in(&self, alloc: Global, group: &Group) -> Result<Vec<Value>, AllocError>
+        ensures { IfOk result (λ v. v.items ≡ option_to_list (row_in self.now group.now)) }
+    {
+        let mut rows = Vec::new(alloc);
+        if group.is_woken() {
+            if let Some(row) = self.row(group.key())? {
+                rows.push(row)?;
+            }
+        }
+        Ok(rows)
+    }
+
+    /// The cell after a group, which begins afresh where it is woken.
+    pub fn after(&self, group: &Group) -> Result<Selling, AllocError>
+        ensures { IfOk result (λ cell. cell ≡ after_records (cell_at group.now.woken self.now) group.now.recs) }
+    {
+        let mut cell = self.at(group.is_woken())?;
+        for rec in group.recs() {
+            cell.apply(&rec.value)?;
+        }
+        Ok(cell)
+    }
+
+    /// The row of a person who sells: this key and the name.
+    fn row(&self, key: u64) -> Result<Option<Value>, AllocError>
+        ensures { IfOk result (λ row. row ≡ row_of key self.now.name self.now.sells) }
+    {
+        match &self.name {
+            Some(name) if self.sells => {
+                let mut fields = Fields::new();
+                fields.push(Field::Number(key));
+                fields.push(Field::Text(name.clone()?));
+                Ok(Some(Value::Row(fields)))
+            }
+            _ => Ok(None),
+        }
+    }
+
+    /// The cell before the records of a group: a fresh one where it is woken, else a copy.
+    fn at(&self, woken: bool) -> Result<Selling, AllocError>
+        ensures { IfOk result (λ cell. cell ≡ cell_at woken self.now) }
+    {
+        if woken {
+            return Ok(Selling::new());
+        }
+        Ok(Selling {
+            name: self.name.clone()?,
+            sells: self.sells,
+        })
+    }
+
+    /// Takes a value: the name of the first person is kept, and an auction says that it sells. Want of memory leaves all as
+    /// it was.
+    fn apply(&mut self, value: &Value) -> Result<(), AllocError>
+        ensures cell { OnOk result (self.new ≡ after_value self.old value.now) }
+        ensures kept { OnErr result (self.new ≡ self.old) }
+    {
+        match value {
+            Value::Person { name, .. } => {
+                if self.name.is_none() {
+                    self.name = Some(name.clone()?);
+                }
+            }
+            Value::Auction { .. } => {
+                self.sells = true;
+            }
+            _ => {}
+        }
+        Ok(())
+    }
+}
