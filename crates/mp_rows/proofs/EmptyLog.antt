@@ -1,5 +1,5 @@
 -- The entries of an empty log sum to its contributions.
-use Rattle.std.proofs.Common.{◌≡◌, ℕ, ◌<◌, ◌&&◌, ◌==◌, Bool, true, false, cond, List, [], ◌++◌, length, get_or, map, count_by, ℤ, pos, ◌+ℤ◌, refl, sym, ap, ◌∙◌, All, ⊎_elim, arith}
+use Rattle.std.proofs.Common.{◌≡◌, ℕ, ◌<◌, ◌&&◌, ◌==◌, Bool, true, false, cond, List, [], ◌++◌, length, get_or, map, ℤ, pos, ◌+ℤ◌, refl, sym, ap, ◌∙◌, All, ⊎_elim, arith}
 use Rattle.std.specs.List.{sum_by}
 use Rattle.std.proofs.lemmas.Bool.{cases_Bool}
 use Rattle.std.proofs.lemmas.Int.{ints}
@@ -11,7 +11,6 @@ use Rattle.mp_names.specs.declared.names.Name.{Name}
 use Rattle.mp_names.specs.Controls.{control_of}
 use Rattle.mp_names.specs.Frontiers.{contribution, is_held}
 use Rattle.mp_names.specs.Logs.{empty_log}
-use Rattle.mp_names.specs.Names.{joined_below}
 use Rattle.mp_names.specs.Outlines.{OutlineIsSound, time_of}
 use Rattle.mp_stamps.specs.Counts.{same_loc}
 use Rattle.mp_model.specs.declared.record.Event.{Event}
@@ -21,7 +20,7 @@ use Rattle.mp_job.proofs.Sharing.{record_is_there, record_of_place}
 use Rattle.mp_outline.specs.JobOutline.{outline_of}
 use Rattle.mp_rows.specs.Entries.{AreContributions, sum_at}
 use Rattle.mp_rows.specs.Opening.{control_entries, source_entries, time_at}
-use Rattle.mp_rows.proofs.Controls.{count_controls, count_no_controls, to_each}
+use Rattle.mp_rows.proofs.Controls.{count_controls, count_no_controls}
 use Rattle.mp_rows.proofs.Nothing.{adds_nothing}
 use Rattle.mp_rows.proofs.Sources.{count_share}
 use Rattle.mp_rows.proofs.Sums.{sum_at-append, sum_elsewhere, sum_here}

@@ -4,7 +4,7 @@ use Rattle.std.proofs.lemmas.Bool.{false≢true, false_from_ne_true, both_ways, 
 use Rattle.mp_names.specs.declared.locations.Loc.{Loc}
 use Rattle.mp_names.specs.declared.locations.Loc.TheVariants.{Ctl, CtlMail, Source, Route, Mail, Move, State, Host, OutRoute, OutMail}
 use Rattle.mp_names.specs.declared.names.Name.{Name}
-use Rattle.mp_names.specs.declared.names.Name.TheVariants.{Ctrl, Rec, Packet, Row, Group, Settled, Written}
+use Rattle.mp_names.specs.declared.names.Name.TheVariants.{Rec, Row, Group}
 use Rattle.mp_names.specs.Frontiers.{contribution, is_held}
 use Rattle.mp_names.specs.Logs.{empty_log, has_wake, is_pending, is_wake_here}
 use Rattle.mp_names.specs.Names.{is_rec, is_row}

@@ -1,5 +1,5 @@
 -- What a log adds to the counts changes with an answer row that it takes: one row less is on its way.
-use Rattle.std.proofs.Common.{◌≡◌, ℕ, zero, suc, ◌+◌, ◌&&◌, ◌||◌, ◌==◌, Bool, true, false, not, cond, List, [], ◌∷◌, ◌++◌, count_by, ℤ, pos, negsuc, ◌+ℤ◌, ◌-ℤ◌, All, AllPairs, refl, sym, ap, ◌∙◌, add-zero, arith}
+use Rattle.std.proofs.Common.{◌≡◌, ℕ, zero, suc, ◌+◌, ◌&&◌, ◌||◌, ◌==◌, Bool, true, false, not, cond, List, [], ◌∷◌, ◌++◌, ℤ, pos, negsuc, ◌+ℤ◌, ◌-ℤ◌, refl, sym, ap, ◌∙◌, add-zero, arith}
 use Rattle.std.specs.List.{list_any}
 use Rattle.std.proofs.lemmas.Bool.{false≢true}
 use Rattle.std.proofs.lemmas.Int.{ints}
@@ -8,12 +8,12 @@ use Rattle.std.proofs.lemmas.List.Sums.{sum_by_push}
 use Rattle.mp_names.specs.declared.locations.Loc.{Loc}
 use Rattle.mp_names.specs.declared.locations.Loc.TheVariants.{Ctl, CtlMail, Source, Route, Mail, Move, State, Host, OutRoute, OutMail}
 use Rattle.mp_names.specs.declared.names.Name.{Name}
-use Rattle.mp_names.specs.declared.names.Name.TheVariants.{Ctrl, Rec, Packet, Row, Group, Settled, Written}
+use Rattle.mp_names.specs.declared.names.Name.TheVariants.{Ctrl, Rec, Packet, Row, Group, Settled}
 use Rattle.mp_names.specs.declared.names.Tag.{Tag}
 use Rattle.mp_names.specs.Frontiers.{contribution, is_held, number_at, sent_less_took}
-use Rattle.mp_names.specs.Logs.{Log, brings_wake, has_record, has_wake, is_ctrl_of, is_given, is_noted, is_pending, is_record_of, is_wake_here, left_since, with_took}
+use Rattle.mp_names.specs.Logs.{Log, brings_wake, has_record, has_wake, is_ctrl_of, is_given, is_pending, is_record_of, is_wake_here, left_since, with_took}
 use Rattle.mp_names.specs.Names.{has, is_ctrl, is_packet, is_rec, is_row}
-use Rattle.mp_names.specs.Outlines.{Outline, groups_of, is_posted, time_of}
+use Rattle.mp_names.specs.Outlines.{Outline, ctrl_names, groups_of, is_posted, time_of}
 use Rattle.mp_rows.specs.Entries.{AreChanges, sum_at}
 
 or_none : (b : Bool) → b ≡ false → (b || false) ≡ false
@@ -74,9 +74,9 @@ module _ (o : Outline) (w : ℕ) (log : Log) (s : ℕ) (g : Tag) where
       (sum_by_push (λ x. cond (p x && time_of o x == u) 1 0) log.took (Row s g) ∙ ap (λ (b : Bool). n + cond (b && s == u) 1 0) e ∙ add-zero n)
 
   each : (loc : Loc) (u : ℕ) → sum_at (one_row_less s) loc u ≡ contribution o w taken loc u -ℤ contribution o w log loc u
-  each Ctl u = nothing _ _ (ap pos (held_same u _))
+  each Ctl u = nothing _ _ (ap pos (held_same u (ctrl_names o)))
   each CtlMail u = nothing _ _ (took_same is_ctrl u refl)
-  each Source u = nothing _ _ refl
+  each Source u = nothing (contribution o w log Source u) (contribution o w log Source u) refl
   each (Route j) u = nothing _ _ (ap pos (held_same u (o.records j)))
   each (Mail j) u = nothing _ _ (took_same (is_rec j) u refl)
   each (Move j) u = nothing _ _ (ap (λ (b : Bool). pos (cond (b && not (has log.settled (Settled j u))) 1 0)) (any_more (is_ctrl_of o j u) (Row s g) refl log.took))

@@ -40,10 +40,10 @@ impl<Q: Query, J: Naming> Model for Log<Q, J> {
 
     ghost view = { λ l.
         record {
-            worker = l.worker;
-            log = log_of l.lists;
-            room_for_names = l.room_for_names;
-            room_for_changes = l.room_for_changes;
+          worker = l.worker;
+          log = log_of l.lists;
+          room_for_names = l.room_for_names;
+          room_for_changes = l.room_for_changes;
         } };
 
     ghost invariant = { λ l.
@@ -73,18 +73,13 @@ impl<Q: Query, J: Naming> Log<Q, J> {
 
     /// Adds a name at the end of a list. The changes, each location and time once and none by 0, are what that adds to
     /// the log's contributions. `AllocError`: no memory, and nothing changes.
-    pub fn push(
-        &mut self,
-        list: LogList,
-        name: Name,
-        changes: &[Change],
-    ) -> Result<(), AllocError>
+    pub fn push(&mut self, list: LogList, name: Name, changes: &[Change]) -> Result<(), AllocError>
         requires changes { let o = outline_of (Q.facts J.job.rules) J.job in
             AreChanges o self.old.worker self.old.log (with_name list name self.old.log) changes.now }
         ensures pushed { OnOk result (self.new ≡ record self.old {
-            log = with_name list name self.old.log;
-            room_for_names = self.old.room_for_names - 1;
-            room_for_changes = self.old.room_for_changes - length changes.now;
+          log = with_name list name self.old.log;
+          room_for_names = self.old.room_for_names - 1;
+          room_for_changes = self.old.room_for_changes - length changes.now;
         }) }
         ensures refused { OnErr result (self.new ≡ self.old) }
         ensures ready { 1 ≤ self.old.room_for_names → length changes.now ≤ self.old.room_for_changes → IsOk result }
@@ -101,8 +96,8 @@ impl<Q: Query, J: Naming> Log<Q, J> {
     /// changes.
     pub fn make_room(&mut self, n: u64) -> Result<(), AllocError>
         ensures made { OnOk result (self.new ≡ record self.old {
-            room_for_names = max self.old.room_for_names n;
-            room_for_changes = max self.old.room_for_changes n;
+          room_for_names = max self.old.room_for_names n;
+          room_for_changes = max self.old.room_for_changes n;
         }) }
         ensures refused { OnErr result (self.new ≡ self.old) }
     {

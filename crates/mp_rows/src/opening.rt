@@ -48,11 +48,7 @@ fn add_controls(
 }
 
 // Adds the records of the events of these indices.
-fn add_records(
-    events: &[Event],
-    share: &[u32],
-    entries: &mut Vec<Change>,
-) -> Result<(), AllocError>
+fn add_records(events: &[Event], share: &[u32], entries: &mut Vec<Change>) -> Result<(), AllocError>
     requires { All (λ i. i < length events.now) share.now }
     ensures { OnOk result (entries.new.items ≡ entries.old.items ++ source_entries events.now share.now) }
 {

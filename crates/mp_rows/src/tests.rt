@@ -152,22 +152,20 @@ fn small_job(alloc: Global) -> Result<Job<WakingBids>, AllocError>
     Job::new(alloc, WakingBids, events, controls, SHAPE)
 }
 
-fn logs_open<J: Naming>(
-    rt: &impl Abort,
-    alloc: Global,
-    job: &Job<WakingBids>,
-) -> Result<(), Fail>
+fn logs_open<J: Naming>(rt: &impl Abort, alloc: Global, job: &Job<WakingBids>) -> Result<(), Fail>
     requires job { job.now ≡ J.job }
     requires shape { job.now.shape ≡ SHAPE }
 {
     let first = Log::<WakingBids, J>::open(alloc, job, 0)?;
     assert_eq!(rt; first.worker(), 0);
     assert!(rt; first.names(LogList::Ingested).is_empty());
-    let ctl = [(Loc::Ctl, 100, 3), (Loc::Ctl, 15, 3)];
-    assert_eq!(rt; first.contributions().len(), 4);
-    assert_eq!(rt; &first.contributions()[..2], ctl.as_slice());
-    let source = [(Loc::Source, 30, 1), (Loc::Source, 20, 1)];
-    assert_eq!(rt; &first.contributions()[2..], source.as_slice());
+    let entries = [
+        (Loc::Ctl, 100, 3),
+        (Loc::Ctl, 15, 3),
+        (Loc::Source, 30, 1),
+        (Loc::Source, 20, 1),
+    ];
+    assert_eq!(rt; first.contributions(), entries.as_slice());
     let second = Log::<WakingBids, J>::open(alloc, job, 1)?;
     assert_eq!(rt; second.worker(), 1);
     assert_eq!(rt; second.contributions(), [(Loc::Source, 5, 1)].as_slice());
@@ -191,11 +189,7 @@ fn take_row<J: Naming>(log: &mut Log<WakingBids, J>, time: Time) -> Result<(), A
     log.push(LogList::Took, row, &[(Loc::OutMail, time, -1)])
 }
 
-fn logs_grow<J: Naming>(
-    rt: &impl Abort,
-    alloc: Global,
-    job: &Job<WakingBids>,
-) -> Result<(), Fail>
+fn logs_grow<J: Naming>(rt: &impl Abort, alloc: Global, job: &Job<WakingBids>) -> Result<(), Fail>
     requires job { job.now ≡ J.job }
     requires shape { job.now.shape ≡ SHAPE }
 {

@@ -2,4 +2,4 @@
 use Rattle.mp_rows.proofs.tests.opening_contributions.Given as goal
 
 abbrev pub ghosts-logs_open : goal.ghosts-logs_open
-ghosts-logs_open a = record { job = a.job.now }
+ghosts-logs_open g a = record { job = a.job.now }

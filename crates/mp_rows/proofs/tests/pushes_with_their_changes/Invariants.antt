@@ -2,4 +2,4 @@
 use Rattle.mp_rows.proofs.tests.pushes_with_their_changes.Given as goal
 
 abbrev pub ghosts-logs_grow : goal.ghosts-logs_grow
-ghosts-logs_grow a = record { job = a.job.now }
+ghosts-logs_grow g a = record { job = a.job.now }

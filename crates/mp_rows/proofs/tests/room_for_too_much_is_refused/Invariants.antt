@@ -2,4 +2,4 @@
 use Rattle.mp_rows.proofs.tests.room_for_too_much_is_refused.Given as goal
 
 abbrev pub ghosts-room_is_refused : goal.ghosts-room_is_refused
-ghosts-room_is_refused a = record { job = a.job.now }
+ghosts-room_is_refused g a = record { job = a.job.now }
