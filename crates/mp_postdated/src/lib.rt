@@ -1,0 +1,9 @@
+//! Post-dated wakes: at which times which keys are to be woken, as Megaphone's post-dated records.
+#![tactic(auto)]
+
+#[cfg(test)]
+mod tests;
+mod wakes;
+
+pub use mp_model::Time;
+pub use wakes::Wakes;
