@@ -1,31 +1,58 @@
 //! The program: the words of the command line, the files of the system and standard output.
 #![tactic(auto)]
 
+ghost use Rattle.std.specs.Prelude.{◌≡◌, ◌⊎◌, None, OnSome, IfSome};
+ghost use Rattle.std.specs.Process.{exit_status};
+ghost use Rattle.mp_outside.specs.Files.{SameFiles};
+ghost use Rattle.mp_words.specs.Words.{command_in};
+ghost use Rattle.mp_cli.specs.Ends.{ComesWhere, IsAnswered, IsRefusal};
+ghost use Rattle.mp_cli.specs.Outcome.{MayCome, Outcome, status_of};
+
 use mp_cli::{lack_memory, run};
 use mp_gate::OpenGate;
-use mp_outside::{HostDepot, HostOut};
+use mp_outside::{Depot, HostDepot, HostOut, Sink};
 use std::env;
 use std::io::{self, ErrorKind};
 use std::process::ExitCode;
 use std::rt::Env;
 
 fn main(rt: HostRuntime) -> ExitCode {
-    let mut said = HostOut::new(&rt);
-    let words = match words(&rt) {
-        Ok(words) => words,
-        Err(error) if error.kind() == ErrorKind::OutOfMemory => {
-            let status = lack_memory(&mut said);
-            return ExitCode::from(status.code);
-        }
-        // A word that isn't UTF-8 is no word of a command.
-        Err(_) => Vec::new(rt.alloc()),
-    };
     let mut depot = HostDepot::new(&rt);
-    let status = run(&rt, words.as_slice(), &mut depot, &mut said, &OpenGate);
-    ExitCode::from(status.code)
+    let mut said = HostOut::new(&rt);
+    match words(&rt) {
+        Ok(words) => answer(&rt, words.as_slice(), &mut depot, &mut said),
+        Err(error) if error.kind() == ErrorKind::OutOfMemory => want_memory(&mut said),
+        // A word that isn't UTF-8 is no word of a command.
+        Err(_) => answer(&rt, Vec::new(rt.alloc()).as_slice(), &mut depot, &mut said),
+    }
 }
 
 /// The words of the command line, the program's name first.
 fn words(rt: &(impl Env + AllocGlobal)) -> io::Result<Vec<String>> {
     Ok(env::args(rt)?.collect(rt.alloc())?)
+}
+
+/// Does what the words ask for, and ends with its status.
+fn answer<D: Depot, S: Sink, R: AllocGlobal>(
+    rt: &R,
+    words: &[String],
+    depot: &mut D,
+    said: &mut S,
+) -> ExitCode
+    ensures usage { ComesWhere 2 (exit_status result) (command_in words.now ≡ None) }
+    ensures outcome { (outcome : Outcome) × MayCome (command_in words.now) (D.files depot.old) outcome
+        × (status_of outcome ≡ exit_status result) }
+    ensures answer { exit_status result ≡ 0 → OnSome (D.files depot.old)
+        (IfSome (command_in words.now) (IsAnswered (D.files depot.old) (D.files depot.new))) }
+    ensures untouched { IsRefusal (exit_status result) → SameFiles (D.files depot.old) (D.files depot.new) }
+{
+    let status = run(rt, words, depot, said, &OpenGate);
+    ExitCode::from(status.code)
+}
+
+/// Ends where there was no memory for the words.
+fn want_memory<S: Sink>(said: &mut S) -> ExitCode
+    ensures { exit_status result ≡ 8 }
+{
+    ExitCode::from(lack_memory(said).code)
 }
