@@ -1,0 +1,116 @@
+//! A sequence of items in order.
+ghost use Rattle.std.specs.Prelude.{◌≡◌, ◌≤◌, ◌<◌, ◌+◌, ◌-◌, ◌∷◌, [], ℕ, drop, length, slice_get, IfOk, IfSome, IfNone, IsOk, OnErr, OnOk, Some};
+ghost use Rattle.std.specs.List.{insert};
+ghost use Rattle.mp_ordered.specs.InOrder.{GoesBack, IsInOrder, put_in_order};
+
+use crate::order::Order;
+use std::alloc::{AllocError, Global};
+use std::marker::{Model, PhantomData};
+
+/// Items in the order `O`, the first one first. Contracts see an `InOrder`: the items, and how many more there is
+/// room for. Adding an item takes time linear in the items that follow it, taking out the first in all that are there.
+#[derive(Drop)]
+pub struct Ordered<T, O: Order<T>> {
+    items: Vec<T>,
+    of: PhantomData<O>,
+}
+
+impl<T, O: Order<T>> Model for Ordered<T, O> {
+    ghost use Rattle.std.specs.Prelude.{◌-◌, length};
+    ghost use Rattle.std.specs.Vec.{vec_capacity};
+    ghost use Rattle.mp_ordered.specs.InOrder.{InOrder, IsInOrder};
+
+    ghost Value = { InOrder T };
+
+    ghost view = { λ o. record { items = o.items.items; room = vec_capacity o.items - length o.items.items } };
+
+    ghost invariant = { λ o. IsInOrder O.rank o.items.items };
+}
+
+impl<T: Drop, O: Order<T>> Ordered<T, O> {
+    /// No items.
+    pub fn new(alloc: Global) -> Ordered<T, O>
+        ensures { result.items ≡ [] }
+    {
+        Ordered {
+            items: Vec::new(alloc),
+            of: PhantomData,
+        }
+    }
+
+    /// Makes room, so that the next `count` calls of `insert` answer `Ok`. `AllocError`: no memory, and nothing
+    /// changes.
+    pub fn make_room(&mut self, count: u64) -> Result<(), AllocError>
+        ensures room { OnOk result (count ≤ self.new.room) }
+        ensures items { self.new.items ≡ self.old.items }
+        ensures refused { OnErr result (self.new ≡ self.old) }
+    {
+        self.items.reserve(count as usize)
+    }
+
+    /// Puts an item at its place, in front of those of its rank. `AllocError`: no memory, never where there is
+    /// room, and nothing changes.
+    pub fn insert(&mut self, item: T) -> Result<(), AllocError>
+        ensures put { OnOk result (self.new.items ≡ put_in_order O.rank item self.old.items) }
+        ensures room { OnOk result (self.old.room ≤ self.new.room + 1) }
+        ensures refused { OnErr result (self.new ≡ self.old) }
+        ensures never_refused_with_room { 0 < self.old.room → IsOk result }
+    {
+        self.items.reserve(1)?;
+        let at = self.place_of(&item);
+        self.items.insert(at, item)?;
+        Ok(())
+    }
+
+    /// The items, in order.
+    pub fn as_slice(&self) -> &[T]
+        ensures items { result.now ≡ self.now.items }
+        ensures in_order { IsInOrder O.rank self.now.items }
+        ensures goes_back { GoesBack O.rank }
+    {
+        self.items.as_slice()
+    }
+
+    /// The first item; `None` exactly where there is none.
+    pub fn first(&self) -> Option<&T>
+        ensures some { IfSome result (λ x. slice_get self.now.items 0 ≡ Some x.now) }
+        ensures none { IfNone result (self.now.items ≡ []) }
+    {
+        self.items.first()
+    }
+
+    /// Takes out the first item; `None` exactly where there is none. It leaves its room, so `insert` takes it back
+    /// to its place.
+    pub fn pop_first(&mut self) -> Option<T>
+        ensures some { IfSome result (λ x. self.old.items ≡ x ∷ self.new.items) }
+        ensures none { IfNone result (self.old.items ≡ []) }
+        ensures unchanged { IfNone result (self.new ≡ self.old) }
+        ensures room { IfSome result (λ x. self.new.room ≡ self.old.room + 1) }
+    {
+        if self.items.is_empty() {
+            return None;
+        }
+        Some(self.items.remove(0))
+    }
+
+    /// Takes out the first `count` items, at most all of them. They leave their room.
+    pub fn drop_first(&mut self, count: usize)
+        requires { count ≤ length self.old.items }
+        ensures items { self.new.items ≡ drop count self.old.items }
+        ensures room { self.new.room ≡ self.old.room + count }
+    {
+        self.items.drain(..count);
+    }
+
+    // How many items come before this one.
+    fn place_of(&self, item: &T) -> usize
+        ensures inside { result ≤ length self.now.items }
+        ensures place { insert self.now.items result item.now ≡ put_in_order O.rank item.now self.now.items }
+    {
+        let mut at = self.items.len();
+        while at > 0 && !O::is_before(&self.items[at - 1], item) {
+            at -= 1;
+        }
+        at
+    }
+}
