@@ -1,0 +1,17 @@
+pub mod Numbers
+pub mod Pushes
+pub mod Places
+pub mod Entries
+pub mod Parts
+pub mod Ingested
+pub mod Settled
+pub mod Sent
+pub mod Took
+pub mod Times
+pub mod Waking
+pub mod Given
+pub mod Applied
+pub mod Packets
+pub mod Grown
+pub mod Moved
+pub mod Samples

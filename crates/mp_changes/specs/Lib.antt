@@ -1,0 +1,4 @@
+-- What the contracts of this crate cite.
+pub mod Changes
+pub mod Laws
+pub mod Samples
