@@ -1,0 +1,11 @@
+use Rattle.mp_msg.proofs.Telling.{bodies_follow_names, records_follow_names, rows_follow_names}
+use Rattle.mp_msg.proofs.laws.names_tell_contents.Goals as goal
+
+pub returns-clause-records : goal.returns-clause-records
+returns-clause-records g c = λ job. records_follow_names (g.Q.Query.facts job.rules) job
+
+pub returns-clause-rows : goal.returns-clause-rows
+returns-clause-rows g c = λ job. rows_follow_names (g.Q.Query.facts job.rules) job
+
+pub returns-clause-bodies : goal.returns-clause-bodies
+returns-clause-bodies g c = λ job. bodies_follow_names (g.Q.Query.facts job.rules) job

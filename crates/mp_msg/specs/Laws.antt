@@ -1,0 +1,42 @@
+-- What the names of a job tell of its messages.
+use Rattle.std.specs.Prelude.{◌≡◌, ℕ, List}
+use Rattle.mp_names.specs.declared.names.Name.TheVariants.{Rec as RecName, Row as RowName}
+use Rattle.mp_names.specs.declared.names.Tag.{Tag}
+use Rattle.mp_names.specs.Outlines.{IsOwed}
+use Rattle.mp_model.specs.declared.fields.Field.{Field}
+use Rattle.mp_model.specs.declared.record.Rec.{Rec}
+use Rattle.mp_model.specs.Facts.{JobFacts, QueryFacts}
+use Rattle.mp_outline.specs.JobOutline.{name_of_record, outline_of}
+use Rattle.mp_msg.specs.declared.message.Body.{Body}
+use Rattle.mp_msg.specs.Bodies.{IsContentOf, name_of_body}
+use Rattle.mp_msg.specs.Contents.{IsRecordOf, IsRowOf}
+
+module _ {Cell : Type 0} where
+  -- each record of a stage has to be sent
+  abbrev pub RecordsAreOwed : QueryFacts Cell → JobFacts → Type 0
+  RecordsAreOwed q job = (j : ℕ) (r : Rec) → IsRecordOf q job j r → IsOwed (outline_of q job) (name_of_record j r)
+
+  -- and so has each answer row
+  abbrev pub RowsAreOwed : QueryFacts Cell → JobFacts → Type 0
+  RowsAreOwed q job = (t : ℕ) (g : Tag) (fields : List Field) → IsRowOf q job t g fields → IsOwed (outline_of q job) (RowName t g)
+
+  -- where the name of a record has to be sent the job has that record
+  abbrev pub OwedRecordsAreThere : QueryFacts Cell → JobFacts → Type 0
+  OwedRecordsAreThere q job =
+      (j t k : ℕ) (g : Tag)
+      → IsOwed (outline_of q job) (RecName j t k g)
+      → (r : Rec) × IsRecordOf q job j r × (name_of_record j r ≡ RecName j t k g)
+
+  -- two records of a stage with one name are one record
+  abbrev pub RecordsFollowNames : QueryFacts Cell → JobFacts → Type 0
+  RecordsFollowNames q job =
+      (j : ℕ) (r s : Rec) → IsRecordOf q job j r → IsRecordOf q job j s → name_of_record j r ≡ name_of_record j s → r ≡ s
+
+  -- two answer rows with one time and one tag have the same fields
+  abbrev pub RowsFollowNames : QueryFacts Cell → JobFacts → Type 0
+  RowsFollowNames q job = (t : ℕ) (g : Tag) (a b : List Field) → IsRowOf q job t g a → IsRowOf q job t g b → a ≡ b
+
+  -- two messages with one name hold the same
+  abbrev pub BodiesFollowNames : QueryFacts Cell → JobFacts → Type 0
+  BodiesFollowNames q job =
+      (a b : Body) → IsContentOf q job a → IsContentOf q job b → name_of_body a ≡ name_of_body b → a ≡ b

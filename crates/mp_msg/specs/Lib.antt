@@ -1,0 +1,5 @@
+-- What the contracts of this crate cite.
+pub mod Bodies
+pub mod Contents
+pub mod Laws
+pub mod Samples

@@ -1,0 +1,69 @@
+-- A query and a job for tests. Each bid makes a record of its auction's key, and a group that has records gives a row of the key. The job has one bid, three workers with four bins, and no control record.
+use Rattle.std.specs.Prelude.{◌≤◌, ℕ, List, [], ◌∷◌, length}
+use Rattle.std.proofs.Common.{arith, refl, ap}
+use Rattle.mp_model.specs.declared.fields.Field.{Field}
+use Rattle.mp_model.specs.declared.fields.Field.TheVariants.{Number}
+use Rattle.mp_model.specs.declared.record.Rec.{Rec}
+use Rattle.mp_model.specs.declared.value.Value.{Value}
+use Rattle.mp_model.specs.declared.value.Value.TheVariants.{Bid, Row}
+use Rattle.mp_model.specs.Entry.{Entry}
+use Rattle.mp_model.specs.Facts.{JobFacts, QueryFacts}
+use Rattle.mp_model.specs.Folds.{FitsAlong, timeline}
+use Rattle.mp_model.specs.QueryLaws.{FreshStaysFresh, MostIsEnough, OutputsHaveKeys, SumsFit}
+use Rattle.mp_model.specs.Stages.{stage_records}
+use Rattle.mp_job.specs.Samples.{waking_bids}
+
+-- the fields of a key's row
+abbrev pub fields_of : ℕ → List Field
+fields_of key = Number key ∷ []
+
+-- the row of a key that has records
+abbrev pub row_of : ℕ → List Rec → List Value
+row_of key [] = []
+row_of key (r ∷ rs) = Row (fields_of key) ∷ []
+
+-- the table of the query
+abbrev pub answering_bids : QueryFacts ℕ
+answering_bids = record waking_bids { gives = λ j cell e. row_of e.key e.recs; most = λ j cell e. 1 }
+
+-- it has no later stage
+pub rows_have_no_key : OutputsHaveKeys answering_bids
+rows_have_no_key j cell e l = absurd (omega arith)
+
+one_row : (key : ℕ) (rs : List Rec) → length (row_of key rs) ≤ 1
+one_row key [] = omega arith
+one_row key (r ∷ rs) = omega arith
+
+-- no group gives more than one row
+pub one_is_enough : MostIsEnough answering_bids
+one_is_enough j cell e = one_row e.key e.recs
+
+-- a group without records gives nothing
+pub cells_stay_fresh : FreshStaysFresh answering_bids
+cells_stay_fresh j e h = (refl, ap (row_of e.key) h)
+
+-- no sum grows
+always_fits : (j cell : ℕ) (es : List Entry) → FitsAlong answering_bids j cell es
+always_fits j cell [] = tt
+always_fits j cell (e ∷ es) = (refl, always_fits j cell es)
+
+-- so all sums fit
+pub sums_fit : SumsFit answering_bids
+sums_fit events legal j k l = always_fits j 0 (timeline answering_bids j k (stage_records answering_bids events j))
+
+-- a bid of 100 on auction 7
+abbrev pub bid_on_seven : Value
+bid_on_seven = Bid 7 1 100
+
+-- it is the job's one event, at 5
+abbrev pub one_bid : JobFacts
+one_bid = record {
+  rules = [];
+  events = record { time = 5; value = bid_on_seven } ∷ [];
+  controls = [];
+  shape = record { workers = 3; bins = 4; stages = 1 };
+}
+
+-- and this is its record
+abbrev pub record_of_bid : Rec
+record_of_bid = record { time = 5; key = 7; tag = record { 0 = 0; 1 = 0 }; value = bid_on_seven }

@@ -1,0 +1,36 @@
+//! What names tell of the messages of every job of a query, each law the contract of a function that does nothing.
+ghost use Rattle.std.specs.Prelude.{◌≡◌, [], ◌∷◌};
+ghost use Rattle.mp_names.specs.declared.names.Name.{Name};
+ghost use Rattle.mp_names.specs.Outlines.{IsOwed, IsOwedBy, IsOwedTo};
+ghost use Rattle.mp_model.specs.Facts.{JobFacts};
+ghost use Rattle.mp_outline.specs.JobOutline.{outline_of};
+ghost use Rattle.mp_msg.specs.Laws.{BodiesFollowNames, OwedRecordsAreThere, RecordsAreOwed, RecordsFollowNames, RowsAreOwed, RowsFollowNames};
+
+use crate::Msg;
+use mp_mailbox::Named;
+use mp_model::{Naming, Query};
+
+/// Each record of a stage and each answer row has to be sent, so a message goes from the name's sender to its receiver.
+/// Where the name of a record has to be sent there is that record.
+pub fn messages_are_owed<Q: Query>()
+    ensures records { (job : JobFacts) → RecordsAreOwed (Q.facts job.rules) job }
+    ensures rows { (job : JobFacts) → RowsAreOwed (Q.facts job.rules) job }
+    ensures there { (job : JobFacts) → OwedRecordsAreThere (Q.facts job.rules) job }
+{}
+
+/// Two messages of a job with one name hold the same, so one that a full mailbox hands back holds what it held.
+pub fn names_tell_contents<Q: Query>()
+    ensures records { (job : JobFacts) → RecordsFollowNames (Q.facts job.rules) job }
+    ensures rows { (job : JobFacts) → RowsFollowNames (Q.facts job.rules) job }
+    ensures bodies { (job : JobFacts) → BodiesFollowNames (Q.facts job.rules) job }
+{}
+
+/// A message is called by one name. Where that has to be sent, the worker that the message goes from is the one that has
+/// to send it, and the worker that it goes to has to take it.
+pub fn messages_go_where_they_are_owed<Q: Query, J: Naming>()
+    ensures name { (m : Name) → ⟦<Msg<Q, J> as Named>⟧.names m ≡ m ∷ [] }
+    ensures from { let o = outline_of (Q.facts J.job.rules) J.job in
+        (m : Name) → IsOwed o m → IsOwedBy o (⟦<Msg<Q, J> as Named>⟧.from m) m }
+    ensures to { let o = outline_of (Q.facts J.job.rules) J.job in
+        (m : Name) → IsOwed o m → IsOwedTo o (⟦<Msg<Q, J> as Named>⟧.to m) m }
+{}
