@@ -38,7 +38,7 @@ equal_numbers t u = grind arith
 same_wake : (t k : ℕ) (w : ℕ × ℕ) → eq_by_cmp wake_cmp (t, k) w ≡ (w.0 == t && w.1 == k)
 same_wake t k w = rw (equal_then (nat_cmp t w.0) (nat_cmp k w.1), equal_numbers t w.0, equal_numbers k w.1) refl
 
-same_bool : (a b : Bool) → (a ≡ true → b ≡ true) → (b ≡ true → a ≡ true) → a ≡ b
+pub same_bool : (a b : Bool) → (a ≡ true → b ≡ true) → (b ≡ true → a ≡ true) → a ≡ b
 same_bool true b to from = sym (to refl)
 same_bool false true to from = from refl
 same_bool false false to from = refl

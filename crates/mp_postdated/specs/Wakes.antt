@@ -17,6 +17,10 @@ IsAscending ws = IsStrictlySortedBy wake_cmp ws
 abbrev pub IsWake : ℕ → ℕ → ℕ × ℕ → Type 0
 IsWake t k w = (w.0 ≡ t) × (w.1 ≡ k)
 
+-- the wake is of this key, at one of these times
+abbrev pub IsAmongWakes : List ℕ → ℕ → ℕ × ℕ → Type 0
+IsAmongWakes ts k w = Contains ts w.0 × (w.1 ≡ k)
+
 -- the first of the two wakes isn't after the other
 abbrev pub ComesNoLater : ℕ × ℕ → ℕ × ℕ → Type 0
 ComesNoLater v w = (v.0 < w.0) ⊎ ((v.0 ≡ w.0) × (v.1 ≤ w.1))

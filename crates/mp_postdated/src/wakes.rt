@@ -1,7 +1,7 @@
 //! A set of wakes, in the order of their times and keys.
-ghost use Rattle.std.specs.Prelude.{◌≡◌, ◌↔◌, ◌⊎◌, ℕ, [], drop, length, slice_get, IfSome, IfNone, IsTrue, OnErr, OnOk};
+ghost use Rattle.std.specs.Prelude.{◌≡◌, ◌↔◌, ◌⊎◌, ◌==◌, ◌<◌, ◌^◌, ℕ, [], All, drop, filter, length, slice_get, IfSome, IfNone, IsTrue, OnErr, OnOk};
 ghost use Rattle.std.specs.Bool.{OnFalse};
-ghost use Rattle.mp_postdated.specs.Wakes.{ComesNoLater, Has, IsAscending, IsWake, with_wake, without_wake};
+ghost use Rattle.mp_postdated.specs.Wakes.{ComesNoLater, Has, IsAmongWakes, IsAscending, IsWake, with_wake, without_wake};
 
 use mp_model::Time;
 use std::alloc::{AllocError, Global};
@@ -47,6 +47,55 @@ impl Wakes {
     {
         self.set.insert((time, key))?;
         Ok(())
+    }
+
+    /// Adds the wakes of a key at times at which it has none yet, or none of them. `AllocError`: no memory, and nothing
+    /// changes.
+    pub fn add_all(&mut self, key: u64, times: &[Time]) -> Result<(), AllocError>
+        requires { All (λ t. ¬ Has self.old t key) times.now }
+        ensures exact { OnOk result ((t k : ℕ) → Has self.new t k ↔ (Has self.old t k ⊎ IsAmongWakes times.now key (t, k))) }
+        ensures ascending { IsAscending self.new }
+        ensures refused { OnErr result (self.new ≡ self.old) }
+    {
+        let _ = &self.set;
+        if let Err(refused) = self.add_each(key, times) {
+            self.take_all(key, times);
+            return Err(refused);
+        }
+        Ok(())
+    }
+
+    // Adds wakes until memory fails: some of them, then.
+    fn add_each(&mut self, key: u64, times: &[Time]) -> Result<(), AllocError>
+        ensures exact { OnOk result ((t k : ℕ) → Has self.new t k ↔ (Has self.old t k ⊎ IsAmongWakes times.now key (t, k))) }
+        ensures kept { (t k : ℕ) → Has self.old t k → Has self.new t k }
+        ensures added { (t k : ℕ) → Has self.new t k → (Has self.old t k ⊎ IsAmongWakes times.now key (t, k)) }
+        ensures ascending { IsAscending self.new }
+    {
+        let _ = &self.set;
+        for time in times {
+            self.add(*time, key)?;
+        }
+        Ok(())
+    }
+
+    /// Takes out the wakes of a key at these times, where they are there. Takes no memory.
+    pub fn take_all(&mut self, key: u64, times: &[Time])
+        ensures exact { (t k : ℕ) → Has self.new t k ↔ (Has self.old t k × (¬ IsAmongWakes times.now key (t, k))) }
+        ensures ascending { IsAscending self.new }
+    {
+        let _ = &self.set;
+        for time in times {
+            self.take_due(*time, key);
+        }
+    }
+
+    /// The number of keys that are to be woken at a time. Takes no memory.
+    pub fn count_at(&self, time: Time) -> usize
+        ensures number { result ≡ length (filter (λ w. w.0 == time) self.now) }
+        ensures few { result < 2 ^ 63 }
+    {
+        self.set.iter().filter(|wake| wake.0 == time).count()
     }
 
     /// The first wake by time and then by key; `None` exactly where there is none.
