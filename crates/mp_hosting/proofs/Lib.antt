@@ -1,0 +1,12 @@
+pub mod Lists
+pub mod Logs
+pub mod Holding
+pub mod Beginning
+pub mod Received
+pub mod Waiting
+pub mod Firsts
+pub mod Least
+pub mod Counted
+pub mod Groups
+pub mod Whole
+pub mod Applied

@@ -1,0 +1,249 @@
+-- The first group that waits at a host is whole, once the frontiers of records and packets have passed its time.
+use Rattle.std.proofs.Common.{◌≡◌, ◌≢◌, ◌⊎◌, ℕ, suc, ◌<◌, ◌≤◌, ◌==◌, nat_lt, true, false, Some, List, [], ◌∷◌, filter, take_while, Contains, refl, sym, ap, ◌∙◌, subst, inl, inr, ⊎_elim, arith}
+use Rattle.std.proofs.lemmas.Bool.{and_from, both_ways, cases_eq, cases_order, eq-eqb, false_from_ne_true, le-ltb, lt-ltb, or_left, or_right}
+use Rattle.std.proofs.lemmas.List.Sums.{take_while-cons}
+use Rattle.mp_names.specs.declared.locations.Loc.TheVariants.{Mail, State}
+use Rattle.mp_names.specs.declared.names.Name.TheVariants.{Rec as RecName, Packet, Group}
+use Rattle.mp_names.specs.Names.{has, In, is_before, IsLeast}
+use Rattle.mp_names.specs.Outlines.{OutlineIsSound, group_owner, groups_of, IsMove, owner_before}
+use Rattle.mp_names.specs.Logs.{Log, LogIsLegal, has_wake}
+use Rattle.mp_names.specs.Frontiers.{HasPassed}
+use Rattle.mp_names.specs.Keeping.{GroupIsWhole, IsWaiting}
+use Rattle.mp_names.proofs.Lists.{same_tag}
+use Rattle.mp_names.proofs.Hosts.{pending_new}
+use Rattle.mp_names.proofs.Owners.{leaves}
+use Rattle.mp_names.proofs.Whole.{whole}
+use Rattle.mp_stamps.specs.declared.seen.Seen.{Seen}
+use Rattle.mp_stamps.specs.Seen.{seen_at}
+use Rattle.mp_model.specs.declared.record.Rec.{Rec}
+use Rattle.mp_model.specs.Entry.{Entry}
+use Rattle.mp_model.specs.Facts.{JobFacts, QueryFacts}
+use Rattle.mp_model.specs.Folds.{cell_before, FitsAlong, fold_of}
+use Rattle.mp_model.specs.QueryLaws.{LaterStagesPostNothing, SumsFit}
+use Rattle.mp_model.specs.Stages.{stage_records}
+use Rattle.mp_job.specs.Legal.{JobIsLegal}
+use Rattle.mp_job.proofs.Members.{nothing_in_nil, Contains-cases, Contains-filter, filter-Contains}
+use Rattle.mp_outline.specs.JobOutline.{outline_of}
+use Rattle.mp_outline.specs.Laws.{RecordsInOrder, TagIsBefore, group_at, timeline_of}
+use Rattle.mp_outline.proofs.Outputs.{group_is, timeline_rises}
+use Rattle.mp_outline.proofs.Pairs.{Pairs, Pairs-filter, Pairs-within}
+use Rattle.mp_outline.proofs.Records.{records_in_order, same_record}
+use Rattle.mp_outline.proofs.Stages.{group_named, name_stands}
+use Rattle.mp_outline.proofs.Timelines.{groups_are_on, wakes_are}
+use Rattle.mp_hosting.specs.Hosted.{Hosted, StandsInOrder, cell_in, first_group, group_rank, has_wake_at, is_of, records_of}
+use Rattle.mp_hosting.specs.Applying.{group_here}
+use Rattle.mp_hosting.specs.HostOf.{IsHostOf, IsInformed, IsReadyAt}
+use Rattle.mp_hosting.specs.Laws.{FirstIsWhole, IsWholeHere}
+use Rattle.mp_hosting.proofs.Groups.{in_group, of_group}
+use Rattle.mp_hosting.proofs.Least.{first_least}
+use Rattle.mp_hosting.proofs.Lists.{Pairs-AllPairs, same_ordered, take_below}
+use Rattle.mp_hosting.proofs.Logs.{applied_before, same_test}
+use Rattle.mp_hosting.proofs.Waiting.{from_is_of, in_wake, is_of_from, wake_in}
+
+-- tags in order
+
+tags_one_way : (r s : Rec) → TagIsBefore r.tag s.tag → TagIsBefore s.tag r.tag → ⊥
+tags_one_way r s a b =
+    ⊎_elim
+    (λ (l : r.tag.0 < s.tag.0). ⊎_elim (λ (m : s.tag.0 < r.tag.0). omega arith) (λ (m : (s.tag.0 ≡ r.tag.0) × (s.tag.1 < r.tag.1)). let e : s.tag.0 ≡ r.tag.0 = m.0 in omega arith) b)
+    (λ (l : (r.tag.0 ≡ s.tag.0) × (r.tag.1 < s.tag.1)).
+    let d : r.tag.0 ≡ s.tag.0 = l.0 in
+    let n : r.tag.1 < s.tag.1 = l.1 in
+    ⊎_elim (λ (m : s.tag.0 < r.tag.0). omega arith) (λ (m : (s.tag.0 ≡ r.tag.0) × (s.tag.1 < r.tag.1)). let e : s.tag.1 < r.tag.1 = m.1 in omega arith) b)
+    a
+
+-- of two records of one group whose ranks stand so, the first has the lesser tag, or both have one tag
+ranked_tags : (r s : Rec) → r.time ≡ s.time → r.key ≡ s.key → is_before (group_rank s) (group_rank r) ≡ false → TagIsBefore r.tag s.tag ⊎ ((r.tag.0 ≡ s.tag.0) × (r.tag.1 ≡ s.tag.1))
+ranked_tags r s timed keyed e =
+    ⊎_elim
+    (λ (d : s.tag.0 ≡ r.tag.0).
+    ⊎_elim
+    (λ (c : s.tag.1 ≡ r.tag.1). inr (sym d, sym c))
+    (λ (c : (s.tag.1 < r.tag.1) ⊎ (r.tag.1 < s.tag.1)).
+    ⊎_elim
+    (λ (l : s.tag.1 < r.tag.1). absurd (no_tag (or_right (nat_lt s.tag.0 r.tag.0) _ (and_from (s.tag.0 == r.tag.0) _ (eq-eqb s.tag.0 r.tag.0 d) (or_left (nat_lt s.tag.1 r.tag.1) _ (lt-ltb s.tag.1 r.tag.1 l))))))
+    (λ (l : r.tag.1 < s.tag.1). inl (inr (sym d, l)))
+    c)
+    (cases_order s.tag.1 r.tag.1))
+    (λ (d : (s.tag.0 < r.tag.0) ⊎ (r.tag.0 < s.tag.0)).
+    ⊎_elim
+    (λ (l : s.tag.0 < r.tag.0). absurd (no_tag (or_left (nat_lt s.tag.0 r.tag.0) _ (lt-ltb s.tag.0 r.tag.0 l))))
+    (λ (l : r.tag.0 < s.tag.0). inl (inl l))
+    d)
+    (cases_order s.tag.0 r.tag.0)
+  where
+    no_tag : is_before (s.tag.0 ∷ s.tag.1 ∷ []) (r.tag.0 ∷ r.tag.1 ∷ []) ≡ true → ⊥
+    no_tag f =
+        both_ways (is_before (group_rank s) (group_rank r)) e
+        (or_right (nat_lt s.time r.time) _ (and_from (s.time == r.time) _ (eq-eqb s.time r.time (sym timed)) (or_right (nat_lt s.key r.key) _ (and_from (s.key == r.key) _ (eq-eqb s.key r.key (sym keyed)) f))))
+
+-- sums and counts that fit along groups fit at each of them
+fits_at : {Cell : Type 0} (q : QueryFacts Cell) (j : ℕ) (cell : Cell) (e : Entry) (es : List Entry) → Pairs (λ e f. e.time < f.time) es → Contains es e → FitsAlong q j cell es
+    → q.fits j (fold_of q j cell (take_while (λ f. nat_lt f.time e.time) es)) e ≡ true
+fits_at q j cell e [] h i fits = absurd (nothing_in_nil e i)
+fits_at q j cell e (f ∷ es) h i fits =
+    ⊎_elim
+    (λ (s : f ≡ e).
+    let l : nat_lt f.time e.time ≡ false = le-ltb f.time e.time (omega (arith, ap (λ (g : Entry). g.time) s)) in
+    rw (take_while-cons (λ (g : Entry). nat_lt g.time e.time) f es, l) (subst (λ (g : Entry). q.fits j cell g ≡ true) s fits.0))
+    (λ (k : Contains es e).
+    let l : nat_lt f.time e.time ≡ true = lt-ltb f.time e.time (h.0 e k) in
+    rw (take_while-cons (λ (g : Entry). nat_lt g.time e.time) f es, l) (fits_at q j (q.step j cell f) e es h.1 k fits.1))
+    (Contains-cases f e es i)
+
+module _ {Cell : Type 0} (q : QueryFacts Cell) (nothing : LaterStagesPostNothing q) (job : JobFacts) (sound : OutlineIsSound (outline_of q job)) (log : Log) (h : Hosted Cell) (t k : ℕ)
+    (host : IsHostOf q job log h) (legal : LogIsLegal (outline_of q job) h.worker log) (stands : StandsInOrder q job h) (below : h.stage < job.shape.stages)
+    (full : GroupIsWhole (outline_of q job) h.worker log h.stage t k) (unapplied : has log.applied (Group h.stage t k) ≡ false) where
+  -- The records
+
+  here_there : (r : Rec) → Contains (records_of h t k) r → Contains (group_at q job h.stage t k).recs r
+  here_there r i =
+      let a = Contains-filter (is_of t k) h.records r i in
+      let p = from_is_of t k r a.1 in
+      in_group q job h.stage t k r ((host.records r).0 a.0).0.1 p.0 p.1
+
+  there_here : (r : Rec) → Contains (group_at q job h.stage t k).recs r → Contains (records_of h t k) r
+  there_here r i =
+      let j = h.stage in
+      let a = of_group q job j t k r i in
+      let name = name_stands q job j r below a.0 in
+      let timed = subst (λ (t : ℕ). In (RecName j t r.key r.tag) ((outline_of q job).records j)) a.1 name in
+      let keyed = subst (λ (k : ℕ). In (RecName j t k r.tag) ((outline_of q job).records j)) a.2 timed in
+      let taken = full.records_taken r.tag keyed in
+      let taken_k = subst (λ (k : ℕ). In (RecName j t k r.tag) log.took) (sym a.2) taken in
+      let taken_t = subst (λ (t : ℕ). In (RecName j t r.key r.tag) log.took) (sym a.1) taken_k in
+      let waits_k = subst (λ (k : ℕ). has log.applied (Group j t k) ≡ false) (sym a.2) unapplied in
+      let waits_t = subst (λ (t : ℕ). has log.applied (Group j t r.key) ≡ false) (sym a.1) waits_k in
+      filter-Contains (is_of t k) h.records r ((host.records r).1 ((below, a.0), taken_t, waits_t)) (is_of_from t k r a.1 a.2)
+
+  there_in_order : Pairs (λ r s. TagIsBefore r.tag s.tag) (group_at q job h.stage t k).recs
+  there_in_order =
+      let j = h.stage in
+      let rs = stage_records q job.events j in
+      let kept = Pairs-filter RecordsInOrder (λ (s : Rec). s.time == t) (filter (λ (s : Rec). s.key == k) rs) (Pairs-filter RecordsInOrder (λ (s : Rec). s.key == k) rs (records_in_order q job.events j)) in
+      Pairs-within RecordsInOrder (λ (r s : Rec). TagIsBefore r.tag s.tag) (group_at q job j t k).recs (λ r s i m less. less ((of_group q job j t k r i).1 ∙ sym (of_group q job j t k s m).1)) kept
+
+  -- those that are here stand apart and in the order of their ranks
+  here_stands : Pairs (λ r s. (is_before (group_rank s) (group_rank r) ≡ false) × (r ≢ s)) h.records
+  here_stands = Pairs-AllPairs (λ (r s : Rec). (is_before (group_rank s) (group_rank r) ≡ false) × (r ≢ s)) h.records (λ i j d l m. (stands.records i j d l m, host.once i j d l m))
+
+  here_in_order : Pairs (λ r s. TagIsBefore r.tag s.tag) (records_of h t k)
+  here_in_order =
+      let j = h.stage in
+      Pairs-within (λ (r s : Rec). (is_before (group_rank s) (group_rank r) ≡ false) × (r ≢ s)) (λ (r s : Rec). TagIsBefore r.tag s.tag) (records_of h t k)
+      (λ r s i m apart.
+      let a = of_group q job j t k r (here_there r i) in
+      let b = of_group q job j t k s (here_there s m) in
+      ⊎_elim
+      (λ (less : TagIsBefore r.tag s.tag). less)
+      (λ (e : (r.tag.0 ≡ s.tag.0) × (r.tag.1 ≡ s.tag.1)). absurd (apart.1 (same_record q job.events j r s a.0 b.0 (a.1 ∙ sym b.1) (same_tag r.tag s.tag e.0 e.1))))
+      (ranked_tags r s (a.1 ∙ sym b.1) (a.2 ∙ sym b.2) apart.0))
+      (Pairs-filter (λ (r s : Rec). (is_before (group_rank s) (group_rank r) ≡ false) × (r ≢ s)) (is_of t k) h.records here_stands)
+
+  -- the records that are here are those of the group
+  pub records_are_whole : records_of h t k ≡ (group_at q job h.stage t k).recs
+  records_are_whole = same_ordered (λ (r s : Rec). TagIsBefore r.tag s.tag) tags_one_way (records_of h t k) (group_at q job h.stage t k).recs here_in_order there_in_order here_there there_here
+
+  -- The wake
+
+  wake_is_known : has_wake_at h t k ≡ (group_at q job h.stage t k).woken
+  wake_is_known =
+      let o = outline_of q job in
+      same_test (has_wake_at h t k) (has_wake o log h.stage t k)
+      (λ e. ((host.wakes t k).0 (wake_in h.wakes t k e)).0)
+      (λ e. in_wake h.wakes t k ((host.wakes t k).1 (e, unapplied)))
+      ∙ full.wake_known
+      ∙ wakes_are q nothing job h.stage t k below
+
+  pub group_is_whole : group_here h t k ≡ group_at q job h.stage t k
+  group_is_whole =
+      let a = records_are_whole in
+      let b = wake_is_known in
+      rw (a, b) refl
+
+  -- The cell
+
+  -- the bin hasn't moved up to the time
+  no_move : (m : ℕ) → m ≤ t → IsMove (outline_of q job) h.stage ((outline_of q job).bin_of k) m → ⊥
+  no_move m l move =
+      let o = outline_of q job in
+      let b = o.bin_of k in
+      ⊎_elim
+      (λ (none : (m : ℕ) → m < suc t → IsMove o h.stage b m → ⊥). none m (omega arith) move)
+      (λ (some : (m : ℕ) × (m < suc t) × IsMove o h.stage b m × ((n : ℕ) → m < n → n < suc t → IsMove o h.stage b n → ⊥) × In (Packet h.stage b m) log.took).
+      both_ways (has log.took (Packet h.stage b some.0)) (host.unmoved (Packet h.stage b some.0) (eq-eqb h.stage h.stage refl)).0 some.4)
+      full.bin_in_hand.1
+
+  -- so the worker owned it all the time
+  pub owned_before : (s : ℕ) → s ≤ t → group_owner (outline_of q job) h.stage s k ≡ h.worker
+  owned_before s l =
+      let o = outline_of q job in
+      let b = o.bin_of k in
+      ⊎_elim
+      (λ (e : owner_before o h.stage b (suc s) ≡ owner_before o h.stage b (suc t)). e ∙ full.owned)
+      (λ (e : owner_before o h.stage b (suc s) ≡ owner_before o h.stage b (suc t) → ⊥). let r = leaves (owner_before o h.stage b) s t l e in absurd (no_move r.0 r.2 r.4))
+      (cases_eq (owner_before o h.stage b (suc s)) (owner_before o h.stage b (suc t)))
+
+  entry_group : (e : Entry) → Contains (timeline_of q job h.stage k) e → In (Group h.stage e.time k) (groups_of (outline_of q job) h.stage)
+  entry_group e i = group_named q nothing job h.stage k e.time below (group_is q h.stage k (stage_records q job.events h.stage) e i).1
+
+  -- of the groups of the key those before it are applied
+  pub earlier_applied : (e : Entry) → Contains (timeline_of q job h.stage k) e → e.time < t → has log.applied (Group h.stage e.time k) ≡ true
+  earlier_applied e i l = full.earlier_applied e.time k (entry_group e i) (owned_before e.time (omega arith)) (inr (refl, inl l))
+
+  -- and none from it on
+  pub later_unapplied : (u : ℕ) → t ≤ u → In (Group h.stage t k) (groups_of (outline_of q job) h.stage) → has log.applied (Group h.stage u k) ≡ false
+  later_unapplied u l group =
+      false_from_ne_true (has log.applied (Group h.stage u k)) (λ applied.
+      ⊎_elim
+      (λ (e : t ≡ u). both_ways (has log.applied (Group h.stage t k)) unapplied (subst (λ (n : ℕ). In (Group h.stage n k) log.applied) (sym e) applied))
+      (λ (e : (t < u) ⊎ (u < t)).
+      ⊎_elim
+      (λ (m : t < u). both_ways (has log.applied (Group h.stage t k)) unapplied (applied_before (outline_of q job) h.worker log legal h.stage t u k group full.owned applied (inr (refl, inl m))))
+      (λ (m : u < t). omega arith)
+      e)
+      (cases_order t u))
+
+  module _ (group : In (Group h.stage t k) (groups_of (outline_of q job) h.stage)) where
+    pub cell_is_before : cell_in (q.fresh h.stage) h.cells k ≡ cell_before q h.stage (stage_records q job.events h.stage) k t
+    cell_is_before =
+        host.cells k
+        ∙ ap (fold_of q h.stage (q.fresh h.stage))
+        (take_below (λ (e : Entry). e.time) (λ (e : Entry). has log.applied (Group h.stage e.time k)) t (timeline_of q job h.stage k) (timeline_rises q h.stage k (stage_records q job.events h.stage)) earlier_applied (λ e i l. later_unapplied e.time l group))
+
+    pub on_timeline : Contains (timeline_of q job h.stage k) (group_at q job h.stage t k)
+    on_timeline = (groups_are_on q nothing job sound h.stage t k below).0 group
+
+    group_fits : SumsFit q → JobIsLegal q job → q.fits h.stage (cell_in (q.fresh h.stage) h.cells k) (group_here h t k) ≡ true
+    group_fits fit job_legal =
+        let j = h.stage in
+        let same : job.shape.stages ≡ q.stages = job_legal.stages in
+        let along = fit job.events job_legal.events j k (omega arith) in
+        let at = fits_at q j (q.fresh j) (group_at q job j t k) (timeline_of q job j k) (timeline_rises q j k (stage_records q job.events j)) on_timeline along in
+        rw (cell_is_before, group_is_whole) at
+
+    pub is_whole_here : SumsFit q → JobIsLegal q job → IsWholeHere q job h t k
+    is_whole_here fit job_legal = record { group = group_is_whole; cell = cell_is_before; fits = group_fits fit job_legal }
+
+module _ {Cell : Type 0} (q : QueryFacts Cell) (job : JobFacts) (sound : OutlineIsSound (outline_of q job)) (log : Log) (seen : Seen) (h : Hosted Cell) (t k : ℕ)
+    (stands : StandsInOrder q job h) (informed : IsInformed q job log seen h) (below : h.stage < job.shape.stages) (first : first_group h ≡ Some (t, k))
+    (mail : HasPassed (seen_at seen (Mail h.stage)) t) (state : HasPassed (seen_at seen (State h.stage)) t) where
+  pub least_here : IsLeast (IsWaiting (outline_of q job) log h.stage) (Group h.stage t k)
+  least_here = first_least q job sound log h informed.host informed.legal stands t k first
+
+  pub full_here : GroupIsWhole (outline_of q job) h.worker log h.stage t k
+  full_here = whole (outline_of q job) sound h.worker log informed.legal h.stage t k least_here (informed.done (Mail h.stage) t below mail) (informed.done (State h.stage) t below state)
+
+  pub unapplied_here : has log.applied (Group h.stage t k) ≡ false
+  unapplied_here = pending_new (outline_of q job) log h.stage t k least_here.0.1
+
+  pub ready_here : IsReadyAt q job log seen h t k
+  ready_here = record { least = least_here; mail = mail; state = state; in_hand = full_here.bin_in_hand }
+
+module _ {Cell : Type 0} (q : QueryFacts Cell) (nothing : LaterStagesPostNothing q) (fit : SumsFit q) (job : JobFacts) (legal : JobIsLegal q job) (sound : OutlineIsSound (outline_of q job)) where
+  pub first_is_whole : FirstIsWhole q job
+  first_is_whole log seen h t k stands informed below inside first mail state =
+      let full = full_here q job sound log seen h t k stands informed below first mail state in
+      let least = least_here q job sound log seen h t k stands informed below first mail state in
+      let unapplied = unapplied_here q job sound log seen h t k stands informed below first mail state in
+      (ready_here q job sound log seen h t k stands informed below first mail state, is_whole_here q nothing job sound log h t k informed.host informed.legal stands below full unapplied least.0.0 fit legal)

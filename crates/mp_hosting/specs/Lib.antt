@@ -1,0 +1,6 @@
+-- What the contracts of this crate cite.
+pub mod Hosted
+pub mod Applying
+pub mod HostOf
+pub mod Laws
+pub mod Samples
