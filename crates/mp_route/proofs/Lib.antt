@@ -1,0 +1,5 @@
+pub mod Placed
+pub mod Holding
+pub mod Sending
+pub mod Going
+pub mod Counted

@@ -1,0 +1,4 @@
+-- What the contracts of this crate cite.
+pub mod Routed
+pub mod Unsent
+pub mod Laws
