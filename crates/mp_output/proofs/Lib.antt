@@ -1,0 +1,5 @@
+pub mod Times
+pub mod Held
+pub mod Writing
+pub mod AnswerLines
+pub mod Whole

@@ -1,0 +1,6 @@
+-- What the contracts of this crate cite.
+pub mod Unwritten
+pub mod Wrote
+pub mod Refused
+pub mod Holding
+pub mod Samples

@@ -1,0 +1,170 @@
+//! Rows of two times, received in another order than that of the answer.
+ghost use Rattle.std.specs.Prelude.{◌≡◌, [], IfOk, refl};
+ghost use Rattle.mp_job.specs.Samples.{bids_have_stages, bids_post_later, bids_post_once};
+ghost use Rattle.mp_msg.specs.Samples.{answering_bids, cells_stay_fresh, one_is_enough, rows_have_no_key, sums_fit};
+ghost use Rattle.mp_msg.specs.Samples.{fields_of, row_of};
+ghost use Rattle.mp_output.specs.Samples.{three_bids};
+
+use crate::{OutRefused, Rows, Wrote};
+use mp_model::{Field, Fields, Group, Naming, PostList, Query, Rec, Tag, Time, Value};
+use mp_outside::{MemSink, Op};
+use mp_stamps::{Counts, Loc, Seen};
+use std::alloc::{AllocError, Global};
+use std::marker::Brand;
+use std::process::Abort;
+use std::test::Fail;
+
+/// Each bid makes a record of its auction's key, which wakes the key ten later; a group that has records gives a row of
+/// the key.
+#[derive(Drop)]
+struct AnsweringBids;
+
+impl Query for AnsweringBids {
+    type Cell = u64;
+
+    const STAGES: u32 = 1;
+
+    ghost STAGES = { 1 };
+
+    ghost rules = { λ _. [] };
+
+    ghost facts = { λ _. answering_bids };
+
+    fn key(&self, _stage: u32, _time: Time, value: &Value) -> Option<u64> {
+        match value {
+            Value::Bid { auction, .. } => Some(*auction),
+            _ => None,
+        }
+    }
+
+    fn posts(&self, stage: u32, rec: &Rec) -> PostList {
+        let mut posts = PostList::new();
+        if stage == 0 {
+            posts.push(rec.time + 10);
+        }
+        posts
+    }
+
+    fn fresh(&self, _alloc: Global, _stage: u32) -> u64 {
+        0
+    }
+
+    fn is_fresh(&self, _stage: u32, cell: &u64) -> bool {
+        *cell == 0
+    }
+
+    fn most(&self, _stage: u32, _cell: &u64, _group: &Group) -> u64 {
+        1
+    }
+
+    fn step(
+        &self,
+        alloc: Global,
+        _stage: u32,
+        _cell: &mut u64,
+        group: &Group,
+    ) -> Result<Vec<Value>, AllocError> {
+        row_of(alloc, group.key(), group.recs())
+    }
+
+    ghost stages_are = { λ _. refl };
+
+    ghost has_stages = { λ _. bids_have_stages };
+
+    ghost posts_are_later = { λ _. bids_post_later };
+
+    ghost later_stages_post_nothing = { λ _. bids_post_once };
+
+    ghost outputs_have_keys = { λ _. rows_have_no_key };
+
+    ghost most_is_enough = { λ _. one_is_enough };
+
+    ghost fresh_stays_fresh = { λ _. cells_stay_fresh };
+
+    ghost sums_fit = { λ _. sums_fit };
+}
+
+// The row of a key that has records.
+fn row_of(alloc: Global, key: u64, recs: &[Rec]) -> Result<Vec<Value>, AllocError>
+    ensures { IfOk result (λ v. v.items ≡ row_of key recs.now) }
+{
+    let mut rows = Vec::new(alloc);
+    if !recs.is_empty() {
+        rows.push(Value::Row(fields_of(key)))?;
+    }
+    Ok(rows)
+}
+
+fn fields_of(key: u64) -> Fields
+    ensures { result ≡ fields_of key }
+{
+    let mut fields = Fields::new();
+    fields.push(Field::Number(key));
+    fields
+}
+
+// What is seen where a row of this time is on its way, or none.
+fn seen_with(alloc: Global, time: Option<Time>) -> Result<Seen, AllocError> {
+    let mut counts = Counts::new(alloc);
+    if let Some(time) = time {
+        counts.add(Loc::OutMail, time, 1)?;
+    }
+    Ok(Seen::of(1, 0, &counts))
+}
+
+// The job's three rows, the last of them first.
+fn three_rows<J: Naming>(alloc: Global) -> Result<Rows<AnsweringBids, J>, AllocError>
+    requires { J.job ≡ three_bids }
+{
+    let mut rows = Rows::new(alloc);
+    rows.make_room(3)?;
+    rows.receive(8, Tag(2, 0), fields_of(2))?;
+    rows.receive(5, Tag(7, 0), fields_of(7))?;
+    rows.receive(5, Tag(3, 0), fields_of(3))?;
+    Ok(rows)
+}
+
+fn times_are_written<J: Naming>(rt: &impl Abort, alloc: Global) -> Result<(), Fail>
+    requires { J.job ≡ three_bids }
+{
+    let mut rows = three_rows::<J>(alloc)?;
+    let mut sink = MemSink::new(alloc);
+    let seen = seen_with(alloc, Some(5))?;
+    assert_eq!(rt; rows.write_due(&seen, &mut sink), Ok(Wrote::Nothing));
+    let seen = seen_with(alloc, Some(8))?;
+    assert_eq!(rt; rows.write_due(&seen, &mut sink), Ok(Wrote::Time(5)));
+    assert_eq!(rt; sink.bytes(), b"5|3\n5|7\n".as_slice());
+    assert_eq!(rt; rows.write_due(&seen, &mut sink), Ok(Wrote::Nothing));
+    assert!(rt; !rows.is_empty());
+    let seen = seen_with(alloc, None)?;
+    assert_eq!(rt; rows.write_due(&seen, &mut sink), Ok(Wrote::Time(8)));
+    assert_eq!(rt; rows.write_due(&seen, &mut sink), Ok(Wrote::Nothing));
+    assert_eq!(rt; sink.bytes(), b"5|3\n5|7\n8|2\n".as_slice());
+    assert!(rt; rows.is_empty());
+    Ok(())
+}
+
+#[test]
+fn each_time_is_written_once_passed(rt: HostRuntime) -> Result<(), Fail> {
+    times_are_written::<Brand>(&rt, rt.alloc())
+}
+
+fn fault_leaves_rows<J: Naming>(rt: &impl Abort, alloc: Global) -> Result<(), Fail>
+    requires { J.job ≡ three_bids }
+{
+    let mut rows = three_rows::<J>(alloc)?;
+    let mut sink = MemSink::new(alloc);
+    sink.fail(Op::Write, 1)?;
+    let seen = seen_with(alloc, None)?;
+    let refused = rows.write_due(&seen, &mut sink);
+    assert_eq!(rt; refused, Err(OutRefused::WriteFault));
+    assert!(rt; sink.bytes().is_empty());
+    assert_eq!(rt; rows.write_due(&seen, &mut sink), Ok(Wrote::Time(5)));
+    assert_eq!(rt; sink.bytes(), b"5|3\n5|7\n".as_slice());
+    Ok(())
+}
+
+#[test]
+fn a_fault_leaves_the_rows(rt: HostRuntime) -> Result<(), Fail> {
+    fault_leaves_rows::<Brand>(&rt, rt.alloc())
+}
