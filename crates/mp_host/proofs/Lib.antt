@@ -1,0 +1,6 @@
+pub mod Unwoken
+pub mod Finding
+pub mod Kept
+pub mod Standing
+pub mod Stepped
+pub mod Told

@@ -1,0 +1,164 @@
+-- What the laws of hosts tell of a host that keeps to what it has to.
+use Rattle.std.proofs.Common.{◌≡◌, ◌↔◌, ◌⊎◌, ℕ, ◌<◌, ◌≤◌, List, Option, None, Some, All, Contains, IfSome, IfNone, sym, ap, ◌∙◌, subst, ⊎_elim, inl, inr, refl}
+use Rattle.std.proofs.lemmas.Bool.{cases_order}
+use Rattle.std.proofs.lemmas.List.Elements.{All-contains, All-contains_itself, All-filter, All-weaker}
+use Rattle.mp_names.specs.declared.names.Name.TheVariants.{Group}
+use Rattle.mp_names.specs.Names.{IsLeast, Less}
+use Rattle.mp_names.specs.Outlines.{OutlineIsSound}
+use Rattle.mp_names.specs.Logs.{Log}
+use Rattle.mp_names.specs.Keeping.{IsWaiting}
+use Rattle.mp_stamps.specs.declared.seen.Seen.{Seen}
+use Rattle.mp_bins.specs.Bins.{bin_of_key}
+use Rattle.mp_bins.specs.Notes.{Notes}
+use Rattle.mp_model.specs.declared.limits.TheConstants.{LAST_TIME}
+use Rattle.mp_model.specs.declared.record.Rec.{Rec}
+use Rattle.mp_model.specs.Facts.{JobFacts, QueryFacts}
+use Rattle.mp_model.specs.QueryLaws.{HasStages, LaterStagesPostNothing, PostsAreLater, SumsFit}
+use Rattle.mp_model.specs.Stages.{stage_records}
+use Rattle.mp_model.proofs.LastTimes.{records_in_time}
+use Rattle.mp_job.specs.Legal.{JobIsLegal}
+use Rattle.mp_outline.specs.JobOutline.{outline_of}
+use Rattle.mp_outline.proofs.Soundness.{outline_is_sound}
+use Rattle.mp_msg.specs.Contents.{IsRecordOf}
+use Rattle.mp_postdated.specs.Wakes.{ComesNoLater}
+use Rattle.mp_hosting.specs.Hosted.{Hosted, first_group, is_of, records_of}
+use Rattle.mp_hosting.specs.Applying.{IsApplied, IsReceived, woken_by}
+use Rattle.mp_hosting.specs.HostOf.{IsInformed, IsReadyAt, KnowsOwners}
+use Rattle.mp_hosting.specs.Laws.{FirstIsWhole, IsWholeHere}
+use Rattle.mp_hosting.proofs.Applied.{groups_are_held, woken_are_told}
+use Rattle.mp_hosting.proofs.Firsts.{first_waits}
+use Rattle.mp_hosting.proofs.Least.{first_is_least}
+use Rattle.mp_hosting.proofs.Received.{records_are_held}
+use Rattle.mp_hosting.proofs.Waiting.{record_waits}
+use Rattle.mp_hosting.proofs.Whole.{first_is_whole}
+use Rattle.mp_host.specs.Hosts.{IsHosted}
+use Rattle.mp_host.specs.Ready.{IsReadyHere}
+use Rattle.mp_host.specs.Telling.{AppliesGroup, TakesRecord}
+
+-- the laws of a query that hosts stand on
+pub record QueryKeeps {Cell : Type 0} (q : QueryFacts Cell) : Type 0 where
+  pub stages : HasStages q
+  pub later : PostsAreLater q
+  pub nothing : LaterStagesPostNothing q
+  pub fit : SumsFit q
+
+module _ {Cell : Type 0} (q : QueryFacts Cell) (keeps : QueryKeeps q) (job its : JobFacts) where
+  sound_outline : JobIsLegal q job → OutlineIsSound (outline_of q job)
+  sound_outline legal = outline_is_sound q keeps.stages keeps.later keeps.nothing job legal
+
+  whole_law : JobIsLegal q job → FirstIsWhole q job
+  whole_law legal = first_is_whole q keeps.nothing keeps.fit job legal (sound_outline legal)
+
+  -- a record that is received is held by the log with it taken
+  pub takes_record : (r : Rec) (old new : Hosted Cell) → IsHosted q job its old → IsRecordOf q job old.stage r → IsReceived r old new → TakesRecord q job r old new
+  takes_record r old new h is received log host legal fresh = records_are_held q job (sound_outline h.legal) log r old new host legal is fresh received
+
+  module _ (h : Hosted Cell) (hosted : IsHosted q job its h) where
+    -- no record is of an earlier group than the first
+    pub none_before : (t k : ℕ) → first_group h ≡ Some (t, k) → All (λ r. ComesNoLater (t, k) (r.time, r.key)) h.records
+    none_before t k first =
+        let least = first_waits q job h hosted.order t k first in
+        All-weaker (Contains h.records) (λ (r : Rec). ComesNoLater (t, k) (r.time, r.key)) (λ r i. least.1 r.time r.key (record_waits h r.time r.key r i refl refl)) h.records (All-contains_itself h.records)
+
+    -- no record is too late
+    pub records_are_in_time : All (λ r. r.time ≤ LAST_TIME) h.records
+    records_are_in_time =
+        let early = records_in_time q keeps.later keeps.nothing job.events hosted.legal.events h.stage in
+        All-weaker (IsRecordOf q job h.stage) (λ (r : Rec). r.time ≤ LAST_TIME) (λ r is. All-contains (λ (r : Rec). r.time ≤ LAST_TIME) (stage_records q job.events h.stage) r early is.1) h.records hosted.order.content
+
+    pub group_is_in_time : (t k : ℕ) → All (λ r. r.time ≤ LAST_TIME) (records_of h t k)
+    group_is_in_time t k = All-filter (is_of t k) (λ (r : Rec). r.time ≤ LAST_TIME) h.records records_are_in_time
+
+    module _ (seen : Seen) (notes : Notes) where
+      -- a group that is ready here is whole
+      pub whole_here : (t k : ℕ) → IsReadyHere job seen notes h t k → (log : Log) × IsInformed q job log seen h × KnowsOwners q job notes seen h.stage → IsWholeHere q job h t k
+      whole_here t k ready told = (whole_law hosted.legal told.0 seen h t k hosted.order told.1 hosted.stage hosted.worker ready.first ready.mail ready.state).1
+
+      ready_by_log : (log : Log) → IsInformed q job log seen h → (t k : ℕ) → IsReadyHere job seen notes h t k → IsReadyAt q job log seen h t k
+      ready_by_log log informed t k ready = (whole_law hosted.legal log seen h t k hosted.order informed hosted.stage hosted.worker ready.first ready.mail ready.state).0
+
+-- of two groups of a stage the first by time, and then by key, is the lesser
+earlier_less : (j t k u l : ℕ) → t < u → Less (Group j t k) (Group j u l)
+earlier_less j t k u l m = inr (refl, inl m)
+
+lower_less : (j t k l : ℕ) → k < l → Less (Group j t k) (Group j t l)
+lower_less j t k l m = inr (refl, inr (refl, inr (refl, inl m)))
+
+-- so two least groups of a stage are one
+one_least : {Cell : Type 0} (q : QueryFacts Cell) (job : JobFacts) (log : Log) (j t k u l : ℕ)
+    → IsLeast (IsWaiting (outline_of q job) log j) (Group j t k) → IsLeast (IsWaiting (outline_of q job) log j) (Group j u l) → ◌≡◌ {A = ℕ × ℕ} (u, l) (t, k)
+one_least q job log j t k u l a b =
+    ⊎_elim
+    (λ (e : t ≡ u).
+    ⊎_elim
+    (λ (f : k ≡ l). ap2 e f)
+    (λ (f : (k < l) ⊎ (l < k)).
+    ⊎_elim
+    (λ (m : k < l). absurd (b.1 (Group j t k) a.0 (subst (λ (n : ℕ). Less (Group j t k) (Group j n l)) e (lower_less j t k l m))))
+    (λ (m : l < k). absurd (a.1 (Group j u l) b.0 (subst (λ (n : ℕ). Less (Group j n l) (Group j t k)) e (lower_less j t l k m))))
+    f)
+    (cases_order k l))
+    (λ (e : (t < u) ⊎ (u < t)).
+    ⊎_elim
+    (λ (m : t < u). absurd (b.1 (Group j t k) a.0 (earlier_less j t k u l m)))
+    (λ (m : u < t). absurd (a.1 (Group j u l) b.0 (earlier_less j u l t k m)))
+    e)
+    (cases_order t u)
+  where
+    ap2 : t ≡ u → k ≡ l → ◌≡◌ {A = ℕ × ℕ} (u, l) (t, k)
+    ap2 e f = cc
+
+module _ {Cell : Type 0} (q : QueryFacts Cell) (keeps : QueryKeeps q) (job its : JobFacts) (h : Hosted Cell) (hosted : IsHosted q job its h) (seen : Seen) (notes : Notes) (log : Log) (informed : IsInformed q job log seen h) where
+  -- the least group that waits by the log is the first here
+  least_first : (t k : ℕ) → IsLeast (IsWaiting (outline_of q job) log h.stage) (Group h.stage t k) → first_group h ≡ Some (t, k)
+  least_first t k least = found (first_group h) refl
+    where
+      law : ((u l : ℕ) → first_group h ≡ Some (u, l) → IsLeast (IsWaiting (outline_of q job) log h.stage) (Group h.stage u l)) × (first_group h ≡ None → (u l : ℕ) → IsWaiting (outline_of q job) log h.stage (Group h.stage u l) → ⊥)
+      law = first_is_least q job (sound_outline q keeps job its hosted.legal) log h hosted.order informed.host informed.legal hosted.stage
+
+      found : (o : Option (ℕ × ℕ)) → first_group h ≡ o → first_group h ≡ Some (t, k)
+      found None e = absurd (law.1 e t k least.0)
+      found (Some g) e = e ∙ ap (λ (p : ℕ × ℕ). Some p) (one_least q job log h.stage t k g.0 g.1 least (law.0 g.0 g.1 e))
+
+  ready_by_host : KnowsOwners q job notes seen h.stage → (t k : ℕ) → IsReadyAt q job log seen h t k → IsReadyHere job seen notes h t k
+  ready_by_host knows t k ready = record {
+    first = least_first t k ready.least;
+    mail = ready.mail;
+    state = ready.state;
+    owned = knows.owners t (bin_of_key k job.shape.bins) ready.state ∙ ready.in_hand.0;
+  }
+
+  -- a group that is ready here is just the one that is ready by the log
+  pub ready_exact : KnowsOwners q job notes seen h.stage → (r : Option (ℕ × ℕ))
+      → IfSome r (λ g. IsReadyHere job seen notes h g.0 g.1) → IfNone r ((t k : ℕ) → IsReadyHere job seen notes h t k → ⊥)
+      → (t k : ℕ) → (r ≡ Some (t, k)) ↔ IsReadyAt q job log seen h t k
+  ready_exact knows None some none t k = ((λ e. absurd (no_group e)), (λ ready. absurd (none t k (ready_by_host knows t k ready))))
+    where
+      no_group : ◌≡◌ {A = Option (ℕ × ℕ)} None (Some (t, k)) → ⊥
+      no_group e = cc
+  ready_exact knows (Some g) some none t k = (
+    (λ e. ready_by_log q keeps job its h hosted seen notes log informed t k (is_this e)),
+    (λ ready. let here = ready_by_host knows t k ready in sym some.first ∙ here.first),
+  )
+    where
+      is_this : ◌≡◌ {A = Option (ℕ × ℕ)} (Some g) (Some (t, k)) → IsReadyHere job seen notes h t k
+      is_this e = let same : ◌≡◌ {A = ℕ × ℕ} g (t, k) = cc in subst (λ (p : ℕ × ℕ). IsReadyHere job seen notes h p.0 p.1) same some
+
+  -- the group that was ready here is applied by the log too
+  pub applies_group : (new : Hosted Cell) (t k : ℕ) (woke : List ℕ) → IsReadyHere job seen notes h t k → IsApplied q t k h new → woke ≡ woken_by q h t k → AppliesGroup q job log seen h new t k woke
+  applies_group new t k woke ready applied same = record {
+    ready = ready_by_log q keeps job its h hosted seen notes log informed t k ready;
+    held = groups_are_held q keeps.nothing job sound log seen h new t k hosted.order informed hosted.stage hosted.worker ready.first ready.mail ready.state applied;
+    woken = λ u. rw same (woken_are_told q keeps.nothing job sound log seen h t k u hosted.order informed hosted.stage hosted.worker ready.first ready.mail ready.state);
+  }
+    where
+      sound : OutlineIsSound (outline_of q job)
+      sound = sound_outline q keeps job its hosted.legal
+
+-- no two groups are ready here
+pub one_ready : {Cell : Type 0} (job : JobFacts) (seen : Seen) (notes : Notes) (h : Hosted Cell) (t k u l : ℕ)
+    → IsReadyHere job seen notes h t k → IsReadyHere job seen notes h u l → (t ≡ u) × (k ≡ l)
+one_ready job seen notes h t k u l a b = apart (sym a.first ∙ b.first)
+  where
+    apart : ◌≡◌ {A = Option (ℕ × ℕ)} (Some (t, k)) (Some (u, l)) → (t ≡ u) × (k ≡ l)
+    apart e = let same : ◌≡◌ {A = ℕ × ℕ} (t, k) (u, l) = cc in (ap (λ (p : ℕ × ℕ). p.0) same, ap (λ (p : ℕ × ℕ). p.1) same)

@@ -1,0 +1,7 @@
+-- What the contracts of this crate cite.
+pub mod Cells
+pub mod Hosts
+pub mod Ready
+pub mod Samples
+pub mod Telling
+pub mod Waiting

@@ -1,0 +1,182 @@
+//! The application of the group that is ready.
+ghost use Rattle.std.specs.Prelude.{◌≡◌, ◌==◌, ℕ, Some, true, filter, not, IfNone, IfOk, OnErr, OnOk};
+ghost use Rattle.std.specs.List.{list_any};
+ghost use Rattle.mp_names.specs.Logs.{Log};
+ghost use Rattle.mp_model.specs.Ascending.{ascending};
+ghost use Rattle.mp_model.specs.Folds.{cell_before};
+ghost use Rattle.mp_model.specs.Stages.{stage_records};
+ghost use Rattle.mp_outline.specs.Laws.{group_at};
+ghost use Rattle.mp_hosting.specs.Applying.{IsApplied, group_here, posts_here, woken_by};
+ghost use Rattle.mp_hosting.specs.Hosted.{cell_in, first_group, has_wake_at, is_of, waits_at};
+ghost use Rattle.mp_hosting.specs.HostOf.{IsInformed, KnowsOwners};
+ghost use Rattle.mp_host.specs.Ready.{IsReadyHere};
+ghost use Rattle.mp_host.specs.Telling.{AppliesGroup, IfDid};
+
+use crate::cells::step_in;
+use crate::groups::first_records;
+use crate::posts::{posts_of, put_in_order};
+use crate::{Applied, Host};
+use mp_bins::Owners;
+use mp_model::{Group, Naming, Query, Time, Value};
+use mp_stamps::Seen;
+use std::alloc::{AllocError, Global};
+
+impl<'a, Q: Query, J: Naming> Host<'a, Q, J> {
+    /// Applies the group that may be applied; `None` exactly where there is none, and then nothing changes. This worker's
+    /// log says what the host holds, all that was seen to be over is done in it, and the owners are noted as far as the
+    /// frontier of packets has passed. `AllocError`: no memory, and nothing changes.
+    pub fn apply(
+        &mut self,
+        alloc: Global,
+        seen: &Seen,
+        owners: &Owners,
+    ) -> Result<Option<Applied>, AllocError>
+        requires shape { owners.now.shape ≡ J.job.shape }
+        requires informed { let q = Q.facts J.job.rules in
+            (log : Log) × IsInformed q J.job log seen.now self.old × KnowsOwners q J.job owners.now seen.now self.old.stage }
+
+        // Which group, and what became of the host.
+        ensures ready { IfDid result (λ a. IsReadyHere J.job seen.now owners.now self.old a.time a.key) }
+        ensures applied { IfDid result (λ a. IsApplied (Q.facts J.job.rules) a.time a.key self.old self.new) }
+
+        // What is told of it.
+        ensures outputs { let q = Q.facts J.job.rules in let j = self.old.stage in
+            IfDid result (λ a. a.outputs.items
+            ≡ q.gives j (cell_before q j (stage_records q J.job.events j) a.key a.time) (group_at q J.job j a.time a.key)) }
+        ensures woke { IfDid result (λ a. a.woke.items ≡ woken_by (Q.facts J.job.rules) self.old a.time a.key) }
+
+        // Whatever the log is.
+        ensures held { let q = Q.facts J.job.rules in
+            IfDid result (λ a. (log : Log) → IsInformed q J.job log seen.now self.old
+            → AppliesGroup q J.job log seen.now self.old self.new a.time a.key a.woke.items) }
+
+        // Otherwise.
+        ensures none { IfOk result (λ o. IfNone o ((t k : ℕ) → ¬ IsReadyHere J.job seen.now owners.now self.old t k)) }
+        ensures unchanged { IfOk result (λ o. IfNone o (self.new ≡ self.old)) }
+        ensures refused { OnErr result (self.new ≡ self.old) }
+    {
+        let Some((time, key)) = self.first_ready(seen, owners) else {
+            return Ok(None);
+        };
+        Ok(Some(self.apply_first(alloc, time, key)?))
+    }
+
+    // Applies the first group, where the sums and counts of its key's cell with it fit their types.
+    pub(crate) fn apply_first(
+        &mut self,
+        alloc: Global,
+        time: Time,
+        key: u64,
+    ) -> Result<Applied, AllocError>
+        requires first { first_group self.old ≡ Some (time, key) }
+        requires fits { let q = Q.facts J.job.rules in
+            q.fits self.old.stage (cell_in (q.fresh self.old.stage) self.old.cells key) (group_here self.old time key) ≡ true }
+        ensures group { IfOk result (λ a. (a.time ≡ time) × (a.key ≡ key)) }
+        ensures applied { OnOk result (IsApplied (Q.facts J.job.rules) time key self.old self.new) }
+        ensures outputs { let q = Q.facts J.job.rules in
+            IfOk result (λ a. a.outputs.items ≡ q.gives self.old.stage (cell_in (q.fresh self.old.stage) self.old.cells key) (group_here self.old time key)) }
+        ensures woke { IfOk result (λ a. a.woke.items ≡ woken_by (Q.facts J.job.rules) self.old time key) }
+        ensures refused { OnErr result (self.new ≡ self.old) }
+    {
+        let posts = self.posts(alloc, time, key)?;
+        let woke = self.not_waiting(alloc, key, posts.as_slice())?;
+        let wakes = self.not_woken(alloc, key, posts.as_slice())?;
+        let outputs = self.step(alloc, time, key, wakes.as_slice())?;
+        Ok(Applied {
+            time,
+            key,
+            outputs,
+            woke,
+        })
+    }
+
+    // The times that the records of the first group post.
+    fn posts(&self, alloc: Global, time: Time, key: u64) -> Result<Vec<Time>, AllocError>
+        requires { first_group self.now ≡ Some (time, key) }
+        ensures { IfOk result (λ v. v.items ≡ posts_here (Q.facts J.job.rules) self.now time key) }
+    {
+        let recs = first_records(&self.records, time, key);
+        posts_of(alloc, self.job.query(), self.stage, recs)
+    }
+
+    // Those of the times at which a key doesn't wait, ascending and each once.
+    fn not_waiting(&self, alloc: Global, key: u64, times: &[Time]) -> Result<Vec<Time>, AllocError>
+        ensures { IfOk result (λ v. v.items ≡ ascending (filter (λ u. not (waits_at self.now u key)) times.now)) }
+    {
+        let mut list = times
+            .iter()
+            .copied()
+            .filter(|time| !self.waits(*time, key))
+            .collect(alloc)?;
+        put_in_order(&mut list);
+        Ok(list)
+    }
+
+    // Those of the times at which a key isn't to be woken.
+    fn not_woken(&self, alloc: Global, key: u64, times: &[Time]) -> Result<Vec<Time>, AllocError>
+        ensures { IfOk result (λ v. v.items ≡ filter (λ u. not (has_wake_at self.now u key)) times.now) }
+    {
+        times
+            .iter()
+            .copied()
+            .filter(|time| !self.is_woken(*time, key))
+            .collect(alloc)
+    }
+
+    // Whether the group of a key at a time waits.
+    fn waits(&self, time: Time, key: u64) -> bool
+        ensures { result ≡ waits_at self.now time key }
+    {
+        self.has_record(time, key) || self.is_woken(time, key)
+    }
+
+    fn has_record(&self, time: Time, key: u64) -> bool
+        ensures { result ≡ list_any (is_of time key) self.now.records }
+    {
+        self.records
+            .as_slice()
+            .iter()
+            .any(|rec| rec.time == time && rec.key == key)
+    }
+
+    pub(crate) fn is_woken(&self, time: Time, key: u64) -> bool
+        ensures { result ≡ has_wake_at self.now time key }
+    {
+        self.wakes.has(time, key)
+    }
+
+    // Steps the cell of the first group's key. The group's records and its wake are used up, and these new wakes are made.
+    fn step(
+        &mut self,
+        alloc: Global,
+        time: Time,
+        key: u64,
+        wakes: &[Time],
+    ) -> Result<Vec<Value>, AllocError>
+        requires first { first_group self.old ≡ Some (time, key) }
+        requires fits { let q = Q.facts J.job.rules in
+            q.fits self.old.stage (cell_in (q.fresh self.old.stage) self.old.cells key) (group_here self.old time key) ≡ true }
+        requires wakes { wakes.now ≡ filter (λ u. not (has_wake_at self.old u key)) (posts_here (Q.facts J.job.rules) self.old time key) }
+        ensures applied { OnOk result (IsApplied (Q.facts J.job.rules) time key self.old self.new) }
+        ensures outputs { let q = Q.facts J.job.rules in
+            IfOk result (λ v. v.items ≡ q.gives self.old.stage (cell_in (q.fresh self.old.stage) self.old.cells key) (group_here self.old time key)) }
+        ensures refused { OnErr result (self.new ≡ self.old) }
+    {
+        let woken = self.is_woken(time, key);
+        self.wakes.add_all(key, wakes)?;
+        let recs = first_records(&self.records, time, key);
+        let count = recs.len();
+        let group = Group::new(time, key, woken, recs);
+        match step_in(alloc, self.job.query(), self.stage, &mut self.cells, &group) {
+            Ok(outputs) => {
+                self.records.drop_first(count);
+                self.wakes.take_due(time, key);
+                Ok(outputs)
+            }
+            Err(refused) => {
+                self.wakes.take_all(key, wakes);
+                Err(refused)
+            }
+        }
+    }
+}

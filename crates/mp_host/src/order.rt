@@ -1,0 +1,22 @@
+//! The order of records in a host.
+use mp_model::Rec;
+use mp_ordered::Order;
+
+/// Records by time, then by key, then by tag, so that those of a group stand together, in the order in which the group
+/// takes them.
+pub struct ByGroup;
+
+impl Order<Rec> for ByGroup {
+    ghost use Rattle.mp_hosting.specs.Hosted.{group_rank};
+
+    ghost rank = { group_rank };
+
+    fn is_before(first: &Rec, second: &Rec) -> bool {
+        first.time < second.time
+            || first.time == second.time
+                && (first.key < second.key
+                    || first.key == second.key
+                        && (first.tag.0 < second.tag.0
+                            || first.tag.0 == second.tag.0 && first.tag.1 < second.tag.1))
+    }
+}

@@ -1,0 +1,45 @@
+//! The times at which the records of a group wake their key.
+ghost use Rattle.std.specs.Prelude.{◌≡◌, ◌≤◌, ◌-◌, ◌^◌, All, IfOk, length, min};
+ghost use Rattle.std.specs.List.{flat_map};
+ghost use Rattle.mp_model.specs.declared.limits.TheConstants.{LAST_TIME};
+ghost use Rattle.mp_model.specs.Ascending.{ascending};
+
+use mp_model::{Query, Rec, Time};
+use std::alloc::{AllocError, Global};
+
+/// The times that records post, one record after the other. `AllocError`: no memory.
+pub fn posts_of<Q: Query>(
+    alloc: Global,
+    query: &Q,
+    stage: u32,
+    recs: &[Rec],
+) -> Result<Vec<Time>, AllocError>
+    requires { All (λ r. r.time ≤ LAST_TIME) recs.now }
+    ensures { IfOk result (λ v. v.items ≡ flat_map ((Q.facts (Q.rules query.now)).posts stage) recs.now) }
+{
+    let mut times = Vec::new(alloc);
+    for rec in recs {
+        times.extend_from_slice(query.posts(stage, rec).as_slice())?;
+    }
+    Ok(times)
+}
+
+/// Puts times in order, and keeps each once.
+pub fn put_in_order(times: &mut Vec<Time>)
+    ensures { times.new.items ≡ ascending times.old.items }
+{
+    times.sort_unstable();
+    times.dedup();
+}
+
+/// How many times records post, each time of each of them counted; 2^64 - 1 where there are more.
+pub fn count_posts<Q: Query>(query: &Q, stage: u32, recs: &[Rec]) -> u64
+    requires { All (λ r. r.time ≤ LAST_TIME) recs.now }
+    ensures { result ≡ min (length (flat_map ((Q.facts (Q.rules query.now)).posts stage) recs.now)) (2 ^ 64 - 1) }
+{
+    let mut count: u64 = 0;
+    for rec in recs {
+        count = count.saturating_add(query.posts(stage, rec).as_slice().len() as u64);
+    }
+    count
+}

@@ -1,0 +1,68 @@
+//! Which group may be applied.
+ghost use Rattle.std.specs.Prelude.{◌≡◌, ◌==◌, ◌↔◌, ℕ, Some, IfNone, IfSome};
+ghost use Rattle.mp_names.specs.Logs.{Log};
+ghost use Rattle.mp_bins.specs.Bins.{bin_of_key};
+ghost use Rattle.mp_bins.specs.Notes.{owner_at};
+ghost use Rattle.mp_hosting.specs.Hosted.{first_group};
+ghost use Rattle.mp_hosting.specs.HostOf.{IsInformed, IsReadyAt, KnowsOwners};
+ghost use Rattle.mp_host.specs.Hosts.{IsHosted};
+ghost use Rattle.mp_host.specs.Ready.{IsReadyHere};
+
+use crate::Host;
+use mp_bins::{Owners, bin_of};
+use mp_model::{Naming, Query, Time};
+use mp_names::Loc;
+use mp_stamps::{Seen, passed};
+
+impl<'a, Q: Query, J: Naming> Host<'a, Q, J> {
+    /// The time and key of the group that may be applied, `None` exactly where there is none: the first that waits, once
+    /// the frontiers of records and of packets have passed its time (as Naiad's notifications) and its bin is this
+    /// worker's then.
+    pub fn ready(&self, seen: &Seen, owners: &Owners) -> Option<(Time, u64)>
+        requires { owners.now.shape ≡ J.job.shape }
+        ensures some { IfSome result (λ g. IsReadyHere J.job seen.now owners.now self.now g.0 g.1) }
+        ensures none { IfNone result ((t k : ℕ) → ¬ IsReadyHere J.job seen.now owners.now self.now t k) }
+        ensures exact { let q = Q.facts J.job.rules in
+            (log : Log) → IsInformed q J.job log seen.now self.now → KnowsOwners q J.job owners.now seen.now self.now.stage
+            → (t k : ℕ) → ((result ≡ Some (t, k)) ↔ IsReadyAt q J.job log seen.now self.now t k) }
+    {
+        self.first_ready(seen, owners)
+    }
+
+    // The same, by what the host itself has.
+    pub(crate) fn first_ready(&self, seen: &Seen, owners: &Owners) -> Option<(Time, u64)>
+        requires { owners.now.shape ≡ J.job.shape }
+        ensures some { IfSome result (λ g. IsReadyHere J.job seen.now owners.now self.now g.0 g.1) }
+        ensures none { IfNone result ((t k : ℕ) → ¬ IsReadyHere J.job seen.now owners.now self.now t k) }
+        ensures hosted { IsHosted (Q.facts J.job.rules) J.job J.job self.now }
+    {
+        let (time, key) = self.first()?;
+        let is_ready = passed(seen.frontier(Loc::Mail(self.stage)), time)
+            && passed(seen.frontier(Loc::State(self.stage)), time)
+            && self.owns(owners, time, key);
+        if is_ready { Some((time, key)) } else { None }
+    }
+
+    // The first group that waits, by time and then by key.
+    fn first(&self) -> Option<(Time, u64)>
+        ensures first { result ≡ first_group self.now }
+        ensures hosted { IsHosted (Q.facts J.job.rules) J.job J.job self.now }
+    {
+        let Some(rec) = self.records.first() else {
+            return self.wakes.least();
+        };
+        match self.wakes.least() {
+            Some(wake) if wake.0 < rec.time || wake.0 == rec.time && wake.1 < rec.key => Some(wake),
+            _ => Some((rec.time, rec.key)),
+        }
+    }
+
+    // Whether the bin of a key is this worker's at a time, by what was noted.
+    fn owns(&self, owners: &Owners, time: Time, key: u64) -> bool
+        requires { owners.now.shape ≡ J.job.shape }
+        ensures { result ≡ (owner_at owners.now self.now.stage (bin_of_key key J.job.shape.bins) time == self.now.worker) }
+    {
+        let bin = bin_of(key, self.job.shape().bins);
+        owners.owner(self.stage, bin, time) == self.worker
+    }
+}
