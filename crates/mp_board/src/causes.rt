@@ -1,0 +1,29 @@
+//! Why workers stop, and what an exchange answers.
+use mp_stamps::Seen;
+
+/// Why a worker stopped.
+#[derive(Clone, Copy, PartialEq, Eq, Debug)]
+pub enum Cause {
+    /// A write failed.
+    Write,
+    /// There was no memory.
+    Memory,
+}
+
+/// What an exchange answers that posts the log, or that may be asked again.
+#[derive(Clone, Copy, PartialEq, Eq, Debug)]
+pub enum Answer {
+    /// The log is posted, and this was seen.
+    Got(Seen),
+    /// Another worker held the board. Nothing is posted.
+    Busy,
+}
+
+/// Why an exchange posts nothing, and the worker stops.
+#[derive(Clone, Copy, PartialEq, Eq, Debug)]
+pub enum HubStop {
+    /// There was no memory for it.
+    NoMemory,
+    /// Another worker stopped before.
+    Other(Cause),
+}

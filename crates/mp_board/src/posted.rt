@@ -1,0 +1,78 @@
+//! What a worker posted last.
+ghost use Rattle.std.specs.Prelude.{◌≡◌, IfOk};
+ghost use Rattle.mp_names.specs.Logs.{LogGrows};
+ghost use Rattle.mp_names.specs.Names.{IsPrefix};
+ghost use Rattle.mp_machine.specs.Steps.{same_log, same_names};
+ghost use Rattle.mp_outline.specs.JobOutline.{outline_of};
+ghost use Rattle.mp_rows.specs.Entries.{AreContributions};
+ghost use Rattle.mp_board.specs.Posted.{posted_log};
+
+use mp_names::Name;
+use mp_rows::{Change, Log, LogList, Naming, Query};
+use std::alloc::{AllocError, Global};
+
+/// A log as it was posted, with its contributions.
+#[derive(Drop)]
+pub struct PostedLog {
+    ingested: Vec<Name>,
+    sent: Vec<Name>,
+    took: Vec<Name>,
+    applied: Vec<Name>,
+    settled: Vec<Name>,
+    // At each location and time they sum to the log's contribution.
+    entries: Vec<Change>,
+}
+
+impl PostedLog {
+    /// A copy of a log. `AllocError`: no memory.
+    pub fn of<Q: Query, J: Naming>(alloc: Global, log: &Log<Q, J>) -> Result<PostedLog, AllocError>
+        ensures log { IfOk result (λ posted. posted_log posted ≡ log.now.log) }
+        ensures entries { let o = outline_of (Q.facts J.job.rules) J.job in
+            IfOk result (λ posted. AreContributions o log.now.worker log.now.log posted.entries.items) }
+    {
+        Ok(PostedLog {
+            ingested: copy_of(alloc, log.names(LogList::Ingested))?,
+            sent: copy_of(alloc, log.names(LogList::Sent))?,
+            took: copy_of(alloc, log.names(LogList::Took))?,
+            applied: copy_of(alloc, log.names(LogList::Applied))?,
+            settled: copy_of(alloc, log.names(LogList::Settled))?,
+            entries: copy_of(alloc, log.contributions())?,
+        })
+    }
+
+    /// Whether a log, which has grown from this one, is still the same.
+    pub fn is_same<Q: Query, J: Naming>(&self, log: &Log<Q, J>) -> bool
+        requires { LogGrows (posted_log self.now) log.now.log }
+        ensures { result ≡ same_log log.now.log (posted_log self.now) }
+    {
+        let ingested = is_same(&self.ingested, log.names(LogList::Ingested));
+        let sent = is_same(&self.sent, log.names(LogList::Sent));
+        let took = is_same(&self.took, log.names(LogList::Took));
+        let applied = is_same(&self.applied, log.names(LogList::Applied));
+        let settled = is_same(&self.settled, log.names(LogList::Settled));
+        ingested && sent && took && applied && settled
+    }
+
+    /// What the log adds to the counts.
+    pub fn entries(&self) -> &[Change]
+        ensures { result.now ≡ self.now.entries.items }
+    {
+        self.entries.as_slice()
+    }
+}
+
+fn copy_of<T: Copy>(alloc: Global, items: &[T]) -> Result<Vec<T>, AllocError>
+    ensures { IfOk result (λ v. v.items ≡ items.now) }
+{
+    let mut copy = Vec::new(alloc);
+    copy.extend_from_slice(items)?;
+    Ok(copy)
+}
+
+// Whether names, which have grown from those posted, are still the same.
+fn is_same(posted: &[Name], names: &[Name]) -> bool
+    requires { IsPrefix posted.now names.now }
+    ensures { result ≡ same_names names.now posted.now }
+{
+    names.len() == posted.len()
+}
