@@ -1,0 +1,11 @@
+pub mod Unheard
+pub mod Ingested
+pub mod Given
+pub mod Handed
+pub mod Sending
+pub mod Legal
+pub mod Conditions
+pub mod Kept
+pub mod InTurn
+pub mod Asked
+pub mod Agreeing

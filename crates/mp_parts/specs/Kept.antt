@@ -1,0 +1,101 @@
+-- What becomes of the parts of a worker at each of its steps.
+use Rattle.std.specs.Prelude.{◌≡◌, ℕ, suc, ◌<◌, false, List, [], ◌∷◌, ◌++◌, length, set}
+use Rattle.mp_names.specs.declared.locations.Loc.TheVariants.{OutMail}
+use Rattle.mp_names.specs.declared.names.Name.{Name}
+use Rattle.mp_names.specs.declared.names.Name.TheVariants.{Rec as RecName, Row, Group, Written}
+use Rattle.mp_names.specs.declared.names.Tag.{Tag}
+use Rattle.mp_names.specs.Names.{has, IsLeast, IsPrefix, is_row}
+use Rattle.mp_names.specs.Outlines.{IsOwedTo, share}
+use Rattle.mp_names.specs.Logs.{Log, empty_log, with_applied, with_ingested, with_sent, with_settled, with_took}
+use Rattle.mp_names.specs.Frontiers.{HasPassed}
+use Rattle.mp_names.specs.Keeping.{IsHeld, IsUnwritten}
+use Rattle.mp_stamps.specs.declared.seen.Seen.{Seen}
+use Rattle.mp_stamps.specs.Seen.{seen_at}
+use Rattle.mp_bins.specs.Notes.{Notes}
+use Rattle.mp_model.specs.declared.record.Output.{Output}
+use Rattle.mp_model.specs.Facts.{JobFacts, QueryFacts}
+use Rattle.mp_outline.specs.JobOutline.{outline_of}
+use Rattle.mp_route.specs.Routed.{Routed}
+use Rattle.mp_route.specs.Unsent.{HoldsUnsent, MayGo}
+use Rattle.mp_output.specs.Holding.{HoldsUnwritten}
+use Rattle.mp_hosting.specs.Hosted.{Hosted}
+use Rattle.mp_hosting.specs.HostOf.{IsHostOf, IsInformed, IsReadyAt, KnowsOwners}
+use Rattle.mp_parts.specs.Parts.{ArePartsOf, AtEach, HoldsRowsBut, Parts, SeenIsDone}
+
+-- the worker's log and its router of a stage are new
+abbrev pub with_router : {Cell : Type 0} → Parts Cell → Log → ℕ → Routed → Parts Cell
+with_router p log j r = record p { log = log; routers = set p.routers j r }
+
+-- its log and its host of a stage are
+abbrev pub with_host : {Cell : Type 0} → Parts Cell → Log → ℕ → Hosted Cell → Parts Cell
+with_host p log j h = record p { log = log; hosts = set p.hosts j h }
+
+-- its log and the answer rows that it has to send are
+abbrev pub with_unsent : {Cell : Type 0} → Parts Cell → Log → List Output → Parts Cell
+with_unsent p log rows = record p { log = log; unsent = rows }
+
+-- its log and the answer rows that it has to write are
+abbrev pub with_unwritten : {Cell : Type 0} → Parts Cell → Log → List Output → Parts Cell
+with_unwritten p log rows = record p { log = log; unwritten = rows }
+
+module _ {Cell : Type 0} (q : QueryFacts Cell) (job : JobFacts) where
+  -- a router of this stage holds what the worker's log says
+  abbrev pub IsRouterAt : ℕ → Log → ℕ → Routed → Type 0
+  IsRouterAt w log j r = (r.stage ≡ j) × HoldsUnsent q job w log r
+
+  -- a host of this worker and stage does
+  abbrev pub IsHostAt : ℕ → Log → ℕ → Hosted Cell → Type 0
+  IsHostAt w log j h = (h.stage ≡ j) × (h.worker ≡ w) × IsHostOf q job log h
+
+  -- Each step of a worker keeps its parts what its log says: where those that the step is of are so, all others are
+  pub record StepsKeepParts (p : Parts Cell) : Type 0 where
+    -- the next record of the share is ingested
+    pub ingest : (x : Name) (r : Routed) → IsPrefix (p.log.ingested ++ x ∷ []) (share (outline_of q job) p.number)
+        → IsRouterAt p.number (with_ingested p.log x) 0 r → ArePartsOf q job (with_router p (with_ingested p.log x) 0 r)
+    -- a record is sent
+    pub route : (j : ℕ) (x : Name) (r : Routed) → MayGo q job p.number p.log j p.seen x
+        → IsRouterAt p.number (with_sent p.log x) j r → ArePartsOf q job (with_router p (with_sent p.log x) j r)
+    -- a record is taken
+    pub receive : (j t k : ℕ) (g : Tag) (h : Hosted Cell) → IsOwedTo (outline_of q job) p.number (RecName j t k g) → has p.log.took (RecName j t k g) ≡ false
+        → IsHostAt p.number (with_took p.log (RecName j t k g)) j h → ArePartsOf q job (with_host p (with_took p.log (RecName j t k g)) j h)
+    -- an answer row is taken
+    pub receive_row : (t : ℕ) (g : Tag) (rows : List Output) → IsOwedTo (outline_of q job) p.number (Row t g) → has p.log.took (Row t g) ≡ false
+        → HoldsUnwritten (with_took p.log (Row t g)) rows → ArePartsOf q job (with_unwritten p (with_took p.log (Row t g)) rows)
+    -- a group is applied, and hands its records to the router of the next stage
+    pub apply : (j t k : ℕ) (old new : Hosted Cell) (r : Routed) → IsHostAt p.number p.log j old → IsReadyAt q job p.log p.seen old t k → suc j < job.shape.stages
+        → IsHostAt p.number (with_applied p.log (Group j t k)) j new → IsRouterAt p.number (with_applied p.log (Group j t k)) (suc j) r
+        → ArePartsOf q job (with_router (with_host p (with_applied p.log (Group j t k)) j new) (with_applied p.log (Group j t k)) (suc j) r)
+    -- a group of the last stage is applied, and gives answer rows
+    pub apply_last : (j t k : ℕ) (old new : Hosted Cell) (rows : List Output) → IsHostAt p.number p.log j old → IsReadyAt q job p.log p.seen old t k → suc j ≡ job.shape.stages
+        → IsHostAt p.number (with_applied p.log (Group j t k)) j new → HoldsRowsBut q job p.number (with_applied p.log (Group j t k)) [] rows
+        → ArePartsOf q job (with_unsent (with_host p (with_applied p.log (Group j t k)) j new) (with_applied p.log (Group j t k)) rows)
+    -- an answer row is sent
+    pub send_row : (x : Name) (rows : List Output) → IsLeast (IsHeld (outline_of q job) p.number p.log is_row) x
+        → HoldsRowsBut q job p.number (with_sent p.log x) [] rows → ArePartsOf q job (with_unsent p (with_sent p.log x) rows)
+    -- the answer rows of a time are written
+    pub write : (t : ℕ) (rows : List Output) → p.number ≡ 0 → IsLeast (IsUnwritten p.log) (Written t) → HasPassed (seen_at p.seen OutMail) t
+        → HoldsUnwritten (with_settled p.log (Written t)) rows → ArePartsOf q job (with_unwritten p (with_settled p.log (Written t)) rows)
+    -- new frontiers are seen
+    pub see : (seen : Seen) → SeenIsDone q job p.number p.log seen → ArePartsOf q job (record p { seen = seen })
+
+  abbrev pub StepsAlwaysKeepParts : Type 0
+  StepsAlwaysKeepParts = (p : Parts Cell) → ArePartsOf q job p → StepsKeepParts p
+
+  -- What is asked of the parts of a worker: that a host is informed, that the owners are known where no control record is noted, and that a row that is still to come is of a time that isn't written
+  pub record PartsAreAsked (p : Parts Cell) : Type 0 where
+    pub informed : (j : ℕ) (h : Hosted Cell) → IsHostAt p.number p.log j h → IsInformed q job p.log p.seen h
+    pub owners : (notes : Notes) → notes.shape ≡ job.shape → notes.noted ≡ [] → (j : ℕ) → KnowsOwners q job notes p.seen j
+    pub row_not_written : (t : ℕ) (g : Tag) → IsOwedTo (outline_of q job) p.number (Row t g) → has p.log.took (Row t g) ≡ false → has p.log.settled (Written t) ≡ false
+
+  -- a worker begins with the empty log: no routers, hosts and rows hold anything
+  abbrev pub PartsBegin : Type 0
+  PartsBegin =
+      (w : ℕ) (seen : Seen) (routers : List Routed) (hosts : List (Hosted Cell))
+      → w < job.shape.workers
+      → job.controls ≡ []
+      → SeenIsDone q job w empty_log seen
+      → length routers ≡ job.shape.stages
+      → AtEach routers (IsRouterAt w empty_log)
+      → length hosts ≡ job.shape.stages
+      → AtEach hosts (IsHostAt w empty_log)
+      → ArePartsOf q job (record { number = w; log = empty_log; seen = seen; routers = routers; hosts = hosts; unsent = []; unwritten = [] })

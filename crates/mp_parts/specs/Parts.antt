@@ -1,0 +1,55 @@
+-- What the parts of a worker hold, and that they hold what its log says.
+use Rattle.std.specs.Prelude.{◌≡◌, ◌↔◌, ℕ, ◌<◌, List, [], ◌++◌, get_or, length, map}
+use Rattle.mp_names.specs.declared.locations.Loc.{Loc}
+use Rattle.mp_names.specs.declared.names.Name.{Name}
+use Rattle.mp_names.specs.Frontiers.{HasPassed, IsClosedForOne}
+use Rattle.mp_names.specs.Keeping.{IsHeld}
+use Rattle.mp_names.specs.Logs.{Log, LogIsLegal}
+use Rattle.mp_names.specs.Names.{Distinct, In, is_row}
+use Rattle.mp_stamps.specs.declared.seen.Seen.{Seen}
+use Rattle.mp_stamps.specs.Seen.{HasLoc, seen_at}
+use Rattle.mp_model.specs.declared.record.Output.{Output}
+use Rattle.mp_model.specs.Facts.{JobFacts, QueryFacts}
+use Rattle.mp_outline.specs.JobOutline.{name_of_row, outline_of}
+use Rattle.mp_route.specs.Routed.{Routed}
+use Rattle.mp_route.specs.Unsent.{HoldsUnsent}
+use Rattle.mp_output.specs.Holding.{HoldsUnwritten}
+use Rattle.mp_hosting.specs.Hosted.{Hosted}
+use Rattle.mp_hosting.specs.HostOf.{IsHostOf}
+
+-- a worker's number, its log and what it saw; and by stage its routers and hosts, the answer rows that it has to send, and those that it has to write
+pub record Parts (Cell : Type 0) : Type 0 where
+  pub number : ℕ
+  pub log : Log
+  pub seen : Seen
+  pub routers : List Routed
+  pub hosts : List (Hosted Cell)
+  pub unsent : List Output
+  pub unwritten : List Output
+
+-- P holds of each item and its place
+abbrev pub AtEach : {X : Type 0} → List X → (ℕ → X → Type 0) → Type 0
+AtEach {X} xs P = (j : ℕ) (d : X) → j < length xs → P j (get_or xs j d)
+
+module _ {Cell : Type 0} (q : QueryFacts Cell) (job : JobFacts) where
+  -- where a frontier that was seen has passed a time, the worker's own part is done in its log
+  abbrev pub SeenIsDone : ℕ → Log → Seen → Type 0
+  SeenIsDone w log seen = (at : Loc) (t : ℕ) → HasLoc job.shape.stages at → HasPassed (seen_at seen at) t → IsClosedForOne (outline_of q job) w log at t
+
+  -- the rows are those that are unsent by the log, but for those of these names, which are unsent too; each once
+  pub record HoldsRowsBut (w : ℕ) (log : Log) (rest : List Name) (rows : List Output) : Type 0 where
+    pub once : Distinct (rest ++ map name_of_row rows)
+    pub unsent : (x : Name) → (In x (rest ++ map name_of_row rows) ↔ IsHeld (outline_of q job) w log is_row x)
+
+  -- Each part holds what the log says. There are no control records yet
+  pub record ArePartsOf (p : Parts Cell) : Type 0 where
+    pub worker : p.number < job.shape.workers
+    pub no_controls : job.controls ≡ []
+    pub legal : LogIsLegal (outline_of q job) p.number p.log
+    pub done : SeenIsDone p.number p.log p.seen
+    pub all_routers : length p.routers ≡ job.shape.stages
+    pub routers : AtEach p.routers (λ j r. (r.stage ≡ j) × HoldsUnsent q job p.number p.log r)
+    pub all_hosts : length p.hosts ≡ job.shape.stages
+    pub hosts : AtEach p.hosts (λ j h. (h.stage ≡ j) × (h.worker ≡ p.number) × IsHostOf q job p.log h)
+    pub unsent : HoldsRowsBut p.number p.log [] p.unsent
+    pub unwritten : HoldsUnwritten p.log p.unwritten
