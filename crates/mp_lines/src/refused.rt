@@ -1,0 +1,58 @@
+//! Why a line or a file is refused.
+ghost use Rattle.std.specs.Prelude.{◌≡◌};
+ghost use Rattle.mp_lines.specs.Refusals.{refused_at};
+
+use std::alloc::{AllocError, AllocFailed};
+
+/// Why a line gives no items.
+#[derive(Debug, Drop)]
+pub enum LineRefused<Why> {
+    /// The first check that it fails.
+    Bad(Why),
+    /// Want of memory, which says nothing of the line.
+    NoMemory,
+}
+
+impl<Why> LineRefused<Why> {
+    /// The refusal of a file that is refused for its line of this number.
+    pub fn at_line(self, line: u64) -> FileRefused<Why>
+        ensures { result ≡ refused_at line self }
+    {
+        match self {
+            LineRefused::Bad(why) => FileRefused::BadLine { line, why },
+            LineRefused::NoMemory => FileRefused::NoMemory,
+        }
+    }
+}
+
+impl<Why> From<AllocError> for LineRefused<Why> {
+    ghost use Rattle.std.specs.Prelude.{◌≡◌};
+    ghost use Rattle.mp_lines.specs.declared.refused.LineRefused.TheVariants.{NoMemory};
+
+    ghost from_gives = { λ _ refused. refused ≡ NoMemory };
+
+    fn from(_error: AllocError) -> LineRefused<Why> {
+        LineRefused::NoMemory
+    }
+}
+
+impl<T: Drop, Why> From<AllocFailed<T>> for LineRefused<Why> {
+    ghost use Rattle.std.specs.Prelude.{◌≡◌};
+    ghost use Rattle.mp_lines.specs.declared.refused.LineRefused.TheVariants.{NoMemory};
+
+    ghost from_gives = { λ _ refused. refused ≡ NoMemory };
+
+    fn from(_failed: AllocFailed<T>) -> LineRefused<Why> {
+        LineRefused::NoMemory
+    }
+}
+
+/// Why a file gives no items.
+#[derive(Debug, Drop)]
+pub enum FileRefused<Why> {
+    /// This line, numbered from 1 with blank lines counted, is the first that fails a check, and this is the first check
+    /// that it fails.
+    BadLine { line: u64, why: Why },
+    /// Want of memory, which says nothing of the file.
+    NoMemory,
+}
