@@ -1,0 +1,4 @@
+-- The lemmas of this crate.
+mod LineSteps
+mod LegalControls
+mod Numbers

@@ -1,0 +1,64 @@
+-- The control records of a configuration.
+use Rattle.std.specs.Prelude.{ℕ, ◌+◌, ◌++◌, ◌==◌, Bool, Option, Some, None, Result, List, [], ◌∷◌, drop, length, map, nat_le}
+use Rattle.std.specs.List.{list_all}
+use Rattle.mp_control.specs.declared.kinds.LineKind.{LineKind}
+use Rattle.mp_control.specs.declared.refused.ControlReason.{ControlReason}
+use Rattle.mp_control.specs.declared.refused.ControlReason.TheVariants.{Kind, Fields, Range, Count}
+use Rattle.mp_control.specs.declared.refused.ControlRefused.{ControlRefused}
+use Rattle.mp_control.specs.declared.refused.ControlRefused.TheVariants.{BadLine, NoMemory}
+use Rattle.mp_control.specs.Kinds.{kind_of, limits_of, records_by}
+use Rattle.mp_control.specs.Reasons.{reason_of}
+use Rattle.mp_job.specs.declared.limits.TheConstants.{MAX_CONTROLS}
+use Rattle.mp_lines.specs.Checks.{check, failures_of_fields, field_at}
+use Rattle.mp_lines.specs.Files.{file_of}
+use Rattle.mp_lines.specs.Limits.{failures_of_number}
+use Rattle.mp_lines.specs.Rules.{LineRules}
+use Rattle.mp_model.specs.declared.limits.TheConstants.{MAX_TIME}
+use Rattle.mp_names.specs.declared.controls.Control.{Control}
+use Rattle.mp_names.specs.declared.controls.Shape.{Shape}
+use Rattle.mp_text.specs.Numbers.{value_of}
+
+-- the numbers of the fields after the kind
+abbrev pub numbers_in : List (List ℕ) → List ℕ
+numbers_in fields = map value_of (drop 1 fields)
+
+-- a control record is at a time that isn't too late
+abbrev pub is_in_time : Control → Bool
+is_in_time control = nat_le control.time MAX_TIME
+
+-- the checks that a line of this kind fails, in their order, where so many control records stand before it
+abbrev pub failures_of_kind : Shape → ℕ → Option LineKind → List (List ℕ) → List ControlReason
+failures_of_kind shape before None fields = Kind ∷ []
+failures_of_kind shape before (Some kind) fields =
+    let records = records_by shape kind (numbers_in fields) in
+    check (length fields == length (limits_of shape kind) + 1) Fields
+    ++ map reason_of (failures_of_fields failures_of_number (limits_of shape kind) (drop 1 fields))
+    ++ check (list_all is_in_time records) Range
+    ++ check (nat_le (before + length records) MAX_CONTROLS) Count
+
+-- the checks that a line's fields fail
+abbrev pub failures_of : Shape → ℕ → List (List ℕ) → List ControlReason
+failures_of shape before fields = failures_of_kind shape before (kind_of (field_at fields 0)) fields
+
+-- the control records that a line of this kind says
+abbrev pub records_of_kind : Shape → Option LineKind → List (List ℕ) → List Control
+records_of_kind shape None fields = []
+records_of_kind shape (Some kind) fields = records_by shape kind (numbers_in fields)
+
+-- the control records that a line's fields say
+abbrev pub records_on : Shape → List (List ℕ) → List Control
+records_on shape fields = records_of_kind shape (kind_of (field_at fields 0)) fields
+
+-- the checks that a line fails, and the control records that it says
+abbrev pub control_rules : Shape → LineRules Control ControlReason
+control_rules shape = record { failures = failures_of shape; says = records_on shape }
+
+-- the control records of the lines of a file that aren't blank, or the number of its first line that fails a check and
+-- the first check that this line fails
+abbrev pub controls_of : List ℕ → Shape → Result (List Control) (ℕ × ControlReason)
+controls_of text shape = file_of (control_rules shape) text
+
+-- what is said of a bad line; want of memory says nothing of the file
+abbrev pub IfBadLine : ControlRefused → (ℕ → ControlReason → Type 0) → Type 0
+IfBadLine (BadLine line why) P = P line why
+IfBadLine NoMemory P = Unit {0}

@@ -1,0 +1,65 @@
+//! The control records of a whole file.
+ghost use Rattle.std.specs.Prelude.{◌≡◌, Ok, Err, IfOk, IfErr};
+ghost use Rattle.mp_control.specs.Controls.{IfBadLine, controls_of};
+ghost use Rattle.mp_job.specs.Legal.{ControlsFit};
+
+use crate::line::read_line;
+use crate::{ControlReason, ControlRefused};
+use mp_job::{Control, Shape};
+use mp_lines::{FileRefused, LineReader, LineRefused, read_lines};
+use mp_text::FieldList;
+use std::alloc::Global;
+
+/// The control records of a configuration file for a job of this shape, in file order: those of each line that isn't
+/// blank. A record's place in the list is its index. Times may come in any order.
+///
+/// `BadLine` comes exactly where a line fails a check, with the number of the first such line and the first check that
+/// it fails. `NoMemory` is want of memory alone.
+pub fn read_control(
+    alloc: Global,
+    text: &[u8],
+    shape: &Shape,
+) -> Result<Vec<Control>, ControlRefused>
+    ensures controls { IfOk result (λ controls. controls_of text.now shape.now ≡ Ok controls.items) }
+    ensures legal { IfOk result (λ controls. ControlsFit shape.now controls.items) }
+
+    ensures bad_line { IfErr result (λ refused.
+        IfBadLine refused (λ line why. controls_of text.now shape.now ≡ Err (line, why))) }
+{
+    match read_lines(alloc, &ControlReader { shape: *shape }, text) {
+        Ok(controls) => Ok(controls),
+        Err(FileRefused::BadLine { line, why }) => Err(ControlRefused::BadLine { line, why }),
+        Err(FileRefused::NoMemory) => Err(ControlRefused::NoMemory),
+    }
+}
+
+/// What the lines of a configuration for a job of this shape say.
+#[derive(Drop)]
+struct ControlReader {
+    shape: Shape,
+}
+
+impl LineReader for ControlReader {
+    ghost use Rattle.mp_control.specs.Controls.{control_rules};
+
+    type Item = Control;
+
+    type Reason = ControlReason;
+
+    ghost rules = { λ reader. control_rules reader.shape };
+
+    fn read(
+        &self,
+        _alloc: Global,
+        fields: &FieldList,
+        controls: &mut Vec<Control>,
+    ) -> Result<(), LineRefused<ControlReason>> {
+        match read_line(self.shape, fields, controls.len()) {
+            Ok(line) => {
+                controls.push(line.control())?;
+                Ok(())
+            }
+            Err(why) => Err(LineRefused::Bad(why)),
+        }
+    }
+}

@@ -1,0 +1,75 @@
+//! Why a configuration file is refused.
+ghost use Rattle.std.specs.Prelude.{◌≡◌};
+ghost use Rattle.mp_control.specs.Reasons.{reason_text};
+
+use mp_text::BadNumber;
+use std::fmt;
+use thiserror::Error;
+
+/// The check that a line fails. A line is checked in the order of these variants; `Number` and `Range` are checks of
+/// its fields, which go from left to right. All of them are this project's profile.
+#[derive(Clone, Copy, PartialEq, Eq, Debug)]
+pub enum ControlReason {
+    /// The first field isn't `M`.
+    Kind,
+    /// The line has more or fewer fields than its kind.
+    Fields,
+    /// A field is empty or has a byte that is no digit.
+    Number,
+    /// A number isn't within its limit.
+    Range,
+    /// As many control records as a file may say stand before the line.
+    Count,
+}
+
+impl ControlReason {
+    /// The reason in one word, as the program prints it.
+    pub fn text(self) -> &'static str
+        ensures { result.now ≡ reason_text self }
+    {
+        match self {
+            ControlReason::Kind => "kind",
+            ControlReason::Fields => "fields",
+            ControlReason::Number => "number",
+            ControlReason::Range => "range",
+            ControlReason::Count => "count",
+        }
+    }
+}
+
+impl fmt::Display for ControlReason {
+    ghost use Rattle.std.specs.Prelude.{Some};
+    ghost use Rattle.mp_control.specs.Reasons.{reason_text};
+
+    ghost output = { λ why. Some (reason_text why) };
+
+    fn fmt<W: fmt::Write>(&self, f: &mut fmt::Formatter<W>) -> fmt::Result {
+        f.write_str(self.text())
+    }
+}
+
+impl From<BadNumber> for ControlReason {
+    ghost use Rattle.std.specs.Prelude.{◌≡◌};
+    ghost use Rattle.mp_control.specs.Reasons.{reason_of};
+
+    ghost from_gives = { λ bad why. why ≡ reason_of bad };
+
+    fn from(bad: BadNumber) -> ControlReason {
+        match bad {
+            BadNumber::Digits => ControlReason::Number,
+            BadNumber::Range => ControlReason::Range,
+        }
+    }
+}
+
+/// Why a configuration file gives no control records.
+#[derive(Debug, Drop, Error)]
+pub enum ControlRefused {
+    /// This line, numbered from 1 with blank lines counted, is the first that fails a check, and this
+    /// is the first check that it fails.
+    #[error("line {line}: {why}")]
+    BadLine { line: u64, why: ControlReason },
+    /// Want of memory, which says nothing of the file.
+    #[error("out of memory")]
+    NoMemory,
+}
