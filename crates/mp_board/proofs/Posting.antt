@@ -14,11 +14,9 @@ use Rattle.mp_names.specs.Outlines.{Outline, OutlineIsSound}
 use Rattle.mp_names.proofs.Exact.{closed_from_passed}
 use Rattle.mp_names.proofs.Keeps.{empty_is_legal}
 use Rattle.mp_stamps.specs.declared.seen.Seen.{Seen}
+use Rattle.mp_stamps.specs.declared.seen.TheConstants.{MAX_STAGES}
 use Rattle.mp_stamps.specs.Seen.{HasLoc, seen_at}
 use Rattle.mp_machine.specs.Steps.{same_log, same_names}
-use Rattle.mp_model.specs.Facts.{JobFacts, QueryFacts}
-use Rattle.mp_job.specs.Legal.{JobIsLegal}
-use Rattle.mp_outline.specs.JobOutline.{outline_of}
 use Rattle.mp_rows.specs.Entries.{AreContributions, sum_at}
 use Rattle.mp_board.specs.declared.posted.PostedLog.{PostedLog}
 use Rattle.mp_board.specs.Boards.{ShowsFrontiers, TellsWorker}
@@ -146,31 +144,30 @@ few : (version next before after old new : ℕ) (same : Bool) → version ≤ be
 few version next before after old new true a b c d e = omega arith
 few version next before after old new false a b c d e = let f = d refl in omega arith
 
-module _ {Cell : Type 0} (q : QueryFacts Cell) (job : JobFacts) (posted : List PostedLog) (seen next : Seen) (w : ℕ) (p : PostedLog) (log : Log) (sound : BoardIsSound q job posted seen) where
+module _ (o : Outline) (posted : List PostedLog) (seen next : Seen) (w : ℕ) (p : PostedLog) (sound : BoardIsSound o posted seen) where
   pub log_posted :
-      w < job.shape.workers
-      → posted_log p ≡ log
-      → LogIsLegal (outline_of q job) w log
-      → LogGrows (log_at (logs_of posted) w) log
-      → AreContributions (outline_of q job) w log p.entries.items
-      → next.version ≡ cond (same_log log (log_at (logs_of posted) w)) seen.version (suc seen.version)
+      w < o.workers
+      → LogIsLegal o w (posted_log p)
+      → LogGrows (log_at (logs_of posted) w) (posted_log p)
+      → AreContributions o w (posted_log p) p.entries.items
+      → next.version ≡ cond (same_log (posted_log p) (log_at (logs_of posted) w)) seen.version (suc seen.version)
       → next.stages ≡ seen.stages
       → ((at : Loc) → HasLoc seen.stages at → IsFrontierOf (posted_sum (set posted w p)) at (seen_at next at))
-      → BoardIsSound q job (set posted w p) next
-  log_posted l is legal grows entries version stages frontiers =
-      let o = outline_of q job in
+      → BoardIsSound o (set posted w p) next
+  log_posted l legal grows entries version stages frontiers =
       let inside : w < length posted = omega (arith, sound.each_worker) in
-      let count : length (set posted w p) ≡ job.shape.workers = length-set posted w p ∙ sound.each_worker in
-      let here : log_at (logs_of (set posted w p)) w ≡ log = posted_here posted w p inside ∙ is in
-      let held = held_set (λ v r. AreContributions o v (posted_log r) r.entries.items) posted w p (subst (λ (x : Log). AreContributions o w x p.entries.items) (sym is) entries) sound.contributions in
-      let names = names_change w (log_at (logs_of posted)) (log_at (logs_of (set posted w p))) (others_stay posted w p inside) job.shape.workers l in
-      let sized : names_in job.shape.workers (log_at (logs_of (set posted w p))) + log_size (log_at (logs_of posted) w) ≡ names_in job.shape.workers (log_at (logs_of posted)) + log_size log = names ∙ ap (λ (x : Log). names_in job.shape.workers (log_at (logs_of posted)) + log_size x) here in
+      let count : length (set posted w p) ≡ o.workers = length-set posted w p ∙ sound.each_worker in
+      let here : log_at (logs_of (set posted w p)) w ≡ posted_log p = posted_here posted w p inside in
+      let held = held_set (λ v r. AreContributions o v (posted_log r) r.entries.items) posted w p entries sound.contributions in
+      let names = names_change w (log_at (logs_of posted)) (log_at (logs_of (set posted w p))) (others_stay posted w p inside) o.workers l in
+      let sized : names_in o.workers (log_at (logs_of (set posted w p))) + log_size (log_at (logs_of posted) w) ≡ names_in o.workers (log_at (logs_of posted)) + log_size (posted_log p) = names ∙ ap (λ (x : Log). names_in o.workers (log_at (logs_of posted)) + log_size x) here in
       record {
-        legal_job = sound.legal_job;
+        outline = sound.outline;
+        few_stages = sound.few_stages;
         each_worker = count;
-        legal_logs = logs_legal posted w p inside o (subst (LogIsLegal o w) (sym is) legal) sound.legal_logs;
+        legal_logs = logs_legal posted w p inside o legal sound.legal_logs;
         contributions = held;
-        few_versions = few seen.version next.version (names_in job.shape.workers (log_at (logs_of posted))) (names_in job.shape.workers (log_at (logs_of (set posted w p)))) (log_size (log_at (logs_of posted) w)) (log_size log) (same_log log (log_at (logs_of posted) w)) sound.few_versions sized (grows_in_size (log_at (logs_of posted) w) log grows) (changes_in_size (log_at (logs_of posted) w) log grows) version;
+        few_versions = few seen.version next.version (names_in o.workers (log_at (logs_of posted))) (names_in o.workers (log_at (logs_of (set posted w p)))) (log_size (log_at (logs_of posted) w)) (log_size (posted_log p)) (same_log (posted_log p) (log_at (logs_of posted) w)) sound.few_versions sized (grows_in_size (log_at (logs_of posted) w) (posted_log p) grows) (changes_in_size (log_at (logs_of posted) w) (posted_log p) grows) version;
         stages = stages ∙ sound.stages;
         frontiers = shown o (set posted w p) next count held (λ at has. frontiers at (subst (λ (n : ℕ). HasLoc n at) (sym sound.stages) has));
       }
@@ -188,22 +185,23 @@ empty_logs zero w = refl
 empty_logs (suc n) zero = refl
 empty_logs (suc n) (suc w) = empty_logs n w
 
-module _ {Cell : Type 0} (q : QueryFacts Cell) (job : JobFacts) (posted : List PostedLog) (seen : Seen) where
+module _ (o : Outline) (posted : List PostedLog) (seen : Seen) where
   pub empty_sound :
-      JobIsLegal q job
-      → logs_of posted ≡ replicate job.shape.workers empty_log
-      → HoldContributions (outline_of q job) posted
+      OutlineIsSound o
+      → o.stages ≤ MAX_STAGES
+      → logs_of posted ≡ replicate o.workers empty_log
+      → HoldContributions o posted
       → seen.version ≡ 0
-      → seen.stages ≡ job.shape.stages
-      → ((at : Loc) → HasLoc job.shape.stages at → IsFrontierOf (posted_sum posted) at (seen_at seen at))
-      → BoardIsSound q job posted seen
-  empty_sound legal empty held version stages frontiers =
-      let o = outline_of q job in
-      let count : length posted ≡ job.shape.workers = sym (length-map posted posted_log) ∙ ap length empty ∙ length-replicate job.shape.workers empty_log in
+      → seen.stages ≡ o.stages
+      → ((at : Loc) → HasLoc o.stages at → IsFrontierOf (posted_sum posted) at (seen_at seen at))
+      → BoardIsSound o posted seen
+  empty_sound ok few empty held version stages frontiers =
+      let count : length posted ≡ o.workers = sym (length-map posted posted_log) ∙ ap length empty ∙ length-replicate o.workers empty_log in
       record {
-        legal_job = legal;
+        outline = ok;
+        few_stages = few;
         each_worker = count;
-        legal_logs = λ w l. subst (LogIsLegal o w) (sym (ap (λ (logs : List Log). log_at logs w) empty ∙ empty_logs job.shape.workers w)) (empty_is_legal o w);
+        legal_logs = λ w l. subst (LogIsLegal o w) (sym (ap (λ (logs : List Log). log_at logs w) empty ∙ empty_logs o.workers w)) (empty_is_legal o w);
         contributions = held;
         few_versions = omega (arith, version);
         stages = stages;
@@ -234,3 +232,6 @@ standing ps w p l e = ap posted_log e ∙ sym (get_or-map posted_log ps w p empt
 
 pub version_is : (seen next version before : ℕ) (is_same same : Bool) → seen ≡ next → next ≡ cond is_same version (suc version) → version ≡ before → is_same ≡ same → seen ≡ cond same before (suc before)
 version_is seen next version before is_same same e f g h = e ∙ rw (← g, ← h) f
+
+pub same_as : (is_same : Bool) (log old stands : Log) → is_same ≡ same_log log old → old ≡ stands → is_same ≡ same_log log stands
+same_as is_same log old stands e f = rw (← f) e

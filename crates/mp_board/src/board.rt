@@ -11,6 +11,7 @@ ghost use Rattle.mp_board.specs.Posted.{logs_of, posted_log};
 ghost use Rattle.mp_board.specs.Soundness.{HoldContributions};
 
 use crate::causes::Cause;
+use crate::outlined::{OutlineOf, Outlined};
 use crate::posted::PostedLog;
 use crate::recount::{post, seen_of};
 use mp_rows::{Job, Log, Naming, Query};
@@ -18,19 +19,19 @@ use mp_stamps::Seen;
 use std::alloc::{AllocError, Global};
 use std::marker::{Model, PhantomData};
 
-/// The board of the job J. Contracts see a `Posted`.
+/// A board of a job with this outline. Contracts see a `Posted`.
 #[derive(Drop)]
-pub struct Board<Q: Query, J: Naming> {
+pub struct Board<O: Outlined> {
     alloc: Global,
     // By the workers' numbers.
     posted: Vec<PostedLog>,
     // The frontiers of the posted logs, and how often one of these has changed.
     seen: Seen,
     stopped: Option<Cause>,
-    of: PhantomData<(Q, J)>,
+    of: PhantomData<O>,
 }
 
-impl<Q: Query, J: Naming> Model for Board<Q, J> {
+impl<O: Outlined> Model for Board<O> {
     ghost use Rattle.mp_board.specs.Boards.{Posted};
     ghost use Rattle.mp_board.specs.Posted.{logs_of};
     ghost use Rattle.mp_board.specs.Soundness.{BoardIsSound};
@@ -39,12 +40,12 @@ impl<Q: Query, J: Naming> Model for Board<Q, J> {
 
     ghost view = { λ b. record { logs = logs_of b.posted.items; version = b.seen.version; stopped = b.stopped } };
 
-    ghost invariant = { λ b. BoardIsSound (Q.facts J.job.rules) J.job b.posted.items b.seen };
+    ghost invariant = { λ b. BoardIsSound O.outline b.posted.items b.seen };
 }
 
-impl<Q: Query, J: Naming> Board<Q, J> {
-    /// A board on which every worker posted its empty log. `AllocError`: no memory.
-    pub fn open(alloc: Global, job: &Job<Q>) -> Result<Board<Q, J>, AllocError>
+impl<Q: Query, J: Naming> Board<OutlineOf<Q, J>> {
+    /// A board on which every worker of the job posted its empty log. `AllocError`: no memory.
+    pub fn open(alloc: Global, job: &Job<Q>) -> Result<Board<OutlineOf<Q, J>>, AllocError>
         requires { job.now ≡ J.job }
         ensures logs { IfOk result (λ board. board.logs ≡ replicate J.job.shape.workers empty_log) }
         ensures version { IfOk result (λ board. board.version ≡ 0) }
@@ -61,36 +62,34 @@ impl<Q: Query, J: Naming> Board<Q, J> {
             of: PhantomData,
         })
     }
+}
 
-    /// Posts a worker's log, which has grown from the one that it posted last, and gives what all posted logs show then:
-    /// the frontier of each location, as in Naiad's progress protocol, and how often one of these logs has changed.
-    /// `AllocError`: no memory, and nothing changes; a version past a `u64` counts as that, since no memory holds so many
-    /// names.
-    pub fn exchange(&mut self, worker: u32, log: &mut Log<Q, J>) -> Result<Seen, AllocError>
-        requires worker { worker < J.job.shape.workers }
-        requires own { log.old.worker ≡ worker }
-        requires legal { LogIsLegal (outline_of (Q.facts J.job.rules) J.job) worker log.old.log }
-        requires grows { LogGrows (log_at self.old.logs worker) log.old.log }
-        ensures posted { OnOk result (self.new.logs ≡ slice_set self.old.logs worker log.old.log) }
-        ensures own_log { OnOk result (log_at self.new.logs worker ≡ log.old.log) }
-        ensures version { OnOk result (self.new.version ≡ version_with self.old worker log.old.log) }
+impl<O: Outlined> Board<O> {
+    /// Posts the copy of a worker's log, which has grown from the one that it posted last, and gives what all posted logs
+    /// show then: the frontier of each location, as in Naiad's progress protocol, and how often one of these logs has
+    /// changed. `AllocError`: no memory, and nothing changes; a version past a `u64` counts as that, since no memory holds
+    /// so many names.
+    pub fn exchange(&mut self, worker: u32, log: PostedLog) -> Result<Seen, AllocError>
+        requires worker { worker < O.outline.workers }
+        requires legal { LogIsLegal O.outline worker (posted_log log) }
+        requires grows { LogGrows (log_at self.old.logs worker) (posted_log log) }
+        requires contributions { AreContributions O.outline worker (posted_log log) log.entries.items }
+        ensures posted { OnOk result (self.new.logs ≡ slice_set self.old.logs worker (posted_log log)) }
+        ensures own_log { OnOk result (log_at self.new.logs worker ≡ posted_log log) }
+        ensures version { OnOk result (self.new.version ≡ version_with self.old worker (posted_log log)) }
         ensures cause { OnOk result (self.new.stopped ≡ self.old.stopped) }
 
         ensures seen_version { IfOk result (λ seen. seen.version ≡ self.new.version) }
-        ensures frontiers { let o = outline_of (Q.facts J.job.rules) J.job in
-            IfOk result (λ seen. ShowsFrontiers o self.new.logs seen) }
-        ensures told { let o = outline_of (Q.facts J.job.rules) J.job in
-            IfOk result (λ seen. TellsWorker o worker log.old.log seen) }
+        ensures frontiers { IfOk result (λ seen. ShowsFrontiers O.outline self.new.logs seen) }
+        ensures told { IfOk result (λ seen. TellsWorker O.outline worker (posted_log log) seen) }
 
-        ensures same_log { log.new ≡ log.old }
         ensures refused { OnErr result (self.new ≡ self.old) }
     {
         let index = worker as usize;
-        let posted = PostedLog::of(self.alloc, log)?;
-        let is_same = self.posted[index].is_same(log);
+        let is_same = self.posted[index].is_same(&log);
         let version = next_version(self.seen.version(), is_same)?;
         let stages = self.seen.stages();
-        let seen = post(self.alloc, stages, version, index, posted, &mut self.posted)?;
+        let seen = post(self.alloc, stages, version, index, log, &mut self.posted)?;
         self.seen = seen;
         Ok(seen)
     }
@@ -98,8 +97,8 @@ impl<Q: Query, J: Naming> Board<Q, J> {
     /// What the posted logs show.
     pub fn seen(&self) -> Seen
         ensures version { result.version ≡ self.now.version }
-        ensures frontiers { ShowsFrontiers (outline_of (Q.facts J.job.rules) J.job) self.now.logs result }
-        ensures few_versions { result.version ≤ names_in J.job.shape.workers (log_at self.now.logs) }
+        ensures frontiers { ShowsFrontiers O.outline self.now.logs result }
+        ensures few_versions { result.version ≤ names_in O.outline.workers (log_at self.now.logs) }
     {
         self.seen
     }

@@ -4,16 +4,20 @@ ghost use Rattle.mp_names.specs.Frontiers.{log_at};
 ghost use Rattle.mp_stamps.specs.declared.seen.Seen.{Seen};
 ghost use Rattle.mp_board.specs.declared.causes.Cause.{Cause};
 ghost use Rattle.mp_names.specs.Logs.{Log, LogGrows, LogIsLegal};
-ghost use Rattle.mp_outline.specs.JobOutline.{outline_of};
+ghost use Rattle.mp_rows.specs.Entries.{AreContributions};
 ghost use Rattle.mp_board.specs.Answers.{IfBusy, IfGot, IfNotPosted, IfStopped, IfTried};
+ghost use Rattle.mp_board.specs.Posted.{posted_log};
 ghost use Rattle.mp_board.specs.Boards.{ShowsFrontiers, TellsWorker, exchanged};
 
+use crate::board::Board;
 use crate::causes::{Answer, Cause, HubStop};
-use mp_rows::{Log, Naming, Query};
+use crate::outlined::Outlined;
+use crate::posted::PostedLog;
 use mp_stamps::Seen;
 
-/// Where workers of the job J post their logs: the board itself, or a way to it that may find it held by another.
-pub trait Hub<Q: Query, J: Naming> {
+/// Where workers of a job with this outline post their logs: the board itself, or a way to it that may find it held by
+/// another.
+pub trait Hub<O: Outlined> {
     /// The worker may post here.
     ghost serves: { Self → ℕ → Type 0 };
 
@@ -38,21 +42,20 @@ pub trait Hub<Q: Query, J: Naming> {
     /// Another worker may have held the board.
     ghost was_busy: { Self → Type 0 };
 
-    /// Posts a worker's log, which has grown from the one that it posted last, and gives what all posted logs show then.
+    /// Posts the copy of a worker's log, which has grown from the one that it posted last, and gives what all posted logs show then.
     /// `Busy` where another worker holds the board. `Other` exactly where a worker had stopped before; `NoMemory` where
     /// there is no memory for it. Only `Got` changes anything.
-    fn exchange(&mut self, worker: u32, log: &mut Log<Q, J>) -> Result<Answer, HubStop>
+    fn exchange(&mut self, worker: u32, log: PostedLog) -> Result<Answer, HubStop>
         requires serves { serves self.old worker }
-        requires worker { worker < J.job.shape.workers }
-        requires own { log.old.worker ≡ worker }
-        requires legal { LogIsLegal (outline_of (Q.facts J.job.rules) J.job) worker log.old.log }
-        requires grows { LogGrows (posted self.old worker) log.old.log }
+        requires worker { worker < O.outline.workers }
+        requires legal { LogIsLegal O.outline worker (posted_log log) }
+        requires grows { LogGrows (posted self.old worker) (posted_log log) }
+        requires contributions { AreContributions O.outline worker (posted_log log) log.entries.items }
 
-        ensures after { IfGot result (λ _. after self.old worker log.old.log self.new) }
-        ensures posted { IfGot result (λ _. posted self.new worker ≡ log.old.log) }
+        ensures after { IfGot result (λ _. after self.old worker (posted_log log) self.new) }
+        ensures posted { IfGot result (λ _. posted self.new worker ≡ posted_log log) }
         ensures shows { IfGot result (λ seen. shows self.new seen) }
-        ensures told { let o = outline_of (Q.facts J.job.rules) J.job in
-            IfGot result (λ seen. TellsWorker o worker log.old.log seen) }
+        ensures told { IfGot result (λ seen. TellsWorker O.outline worker (posted_log log) seen) }
 
         ensures busy { IfBusy result (was_busy self.old) }
         ensures stopped { IfStopped result (λ cause. was_stopped self.old cause) }
@@ -60,6 +63,34 @@ pub trait Hub<Q: Query, J: Naming> {
 
         ensures kept { IfNotPosted result (kept self.old self.new) }
         ensures still_posted { IfNotPosted result (posted self.new worker ≡ posted self.old worker) }
-        ensures still_serves { (w : ℕ) → serves self.old w → serves self.new w }
-        ensures same_log { log.new ≡ log.old };
+        ensures still_serves { (w : ℕ) → serves self.old w → serves self.new w };
+}
+
+/// A board serves every worker, and is never held by another.
+impl<O: Outlined> Hub<O> for Board<O> {
+    ghost serves = { λ _ w. w < O.outline.workers };
+
+    ghost posted = { λ b w. log_at b.logs w };
+
+    ghost after = { λ b w log c. c ≡ exchanged b w log };
+
+    ghost kept = { λ b c. c ≡ b };
+
+    ghost shows = { λ b seen. (seen.version ≡ b.version) × ShowsFrontiers O.outline b.logs seen };
+
+    ghost goes_on = { λ b. b.stopped ≡ None };
+
+    ghost was_stopped = { λ b cause. b.stopped ≡ Some cause };
+
+    ghost was_busy = { λ _. ⊥ };
+
+    fn exchange(&mut self, worker: u32, log: PostedLog) -> Result<Answer, HubStop> {
+        if let Some(cause) = self.stopped() {
+            return Err(HubStop::Other(cause));
+        }
+        match self.exchange(worker, log) {
+            Ok(seen) => Ok(Answer::Got(seen)),
+            Err(_) => Err(HubStop::NoMemory),
+        }
+    }
 }

@@ -4,6 +4,7 @@
 mod board;
 mod causes;
 mod hub;
+mod outlined;
 mod posted;
 mod recount;
 #[cfg(test)]
@@ -15,3 +16,5 @@ pub use causes::{Answer, Cause, HubStop};
 pub use hub::Hub;
 pub use mp_rows::{Change, Job, Loc, Log, Name, Naming, Query, Time};
 pub use mp_stamps::{Frontier, Seen};
+pub use outlined::{OutlineOf, Outlined};
+pub use posted::PostedLog;

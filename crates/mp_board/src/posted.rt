@@ -11,7 +11,7 @@ use mp_names::Name;
 use mp_rows::{Change, Log, LogList, Naming, Query};
 use std::alloc::{AllocError, Global};
 
-/// A log as it was posted, with its contributions.
+/// A copy of a log with its contributions, as it is posted.
 #[derive(Drop)]
 pub struct PostedLog {
     ingested: Vec<Name>,
@@ -41,15 +41,15 @@ impl PostedLog {
     }
 
     /// Whether a log, which has grown from this one, is still the same.
-    pub fn is_same<Q: Query, J: Naming>(&self, log: &Log<Q, J>) -> bool
-        requires { LogGrows (posted_log self.now) log.now.log }
-        ensures { result ≡ same_log log.now.log (posted_log self.now) }
+    pub(crate) fn is_same(&self, log: &PostedLog) -> bool
+        requires { LogGrows (posted_log self.now) (posted_log log.now) }
+        ensures { result ≡ same_log (posted_log log.now) (posted_log self.now) }
     {
-        let ingested = is_same(&self.ingested, log.names(LogList::Ingested));
-        let sent = is_same(&self.sent, log.names(LogList::Sent));
-        let took = is_same(&self.took, log.names(LogList::Took));
-        let applied = is_same(&self.applied, log.names(LogList::Applied));
-        let settled = is_same(&self.settled, log.names(LogList::Settled));
+        let ingested = is_same(&self.ingested, &log.ingested);
+        let sent = is_same(&self.sent, &log.sent);
+        let took = is_same(&self.took, &log.took);
+        let applied = is_same(&self.applied, &log.applied);
+        let settled = is_same(&self.settled, &log.settled);
         ingested && sent && took && applied && settled
     }
 

@@ -2,11 +2,18 @@
 ghost use Rattle.std.specs.Prelude.{◌≡◌, ◌<◌, [], IfOk, None, refl};
 ghost use Rattle.std.specs.Prelude.{replicate};
 ghost use Rattle.mp_names.specs.Logs.{empty_log};
+ghost use Rattle.mp_names.specs.Logs.{LogIsLegal};
+ghost use Rattle.mp_outline.specs.JobOutline.{outline_of};
+ghost use Rattle.mp_rows.specs.Entries.{AreContributions};
+ghost use Rattle.mp_board.specs.Posted.{posted_log};
 ghost use Rattle.mp_model.specs.Legal.{EventIsLegal, EventsAreLegal};
 ghost use Rattle.mp_job.specs.Samples.{bids_fit, bids_give_nothing, bids_have_keys, bids_have_stages};
 ghost use Rattle.mp_job.specs.Samples.{bids_post_later, bids_post_once, bids_stay_fresh, waking_bids};
 
-use crate::{Board, Cause, Frontier, Job, Loc, Log, Naming, Query, Time};
+use crate::{
+    Answer, Board, Cause, Frontier, Hub, HubStop, Job, Loc, Log, Naming, OutlineOf, PostedLog,
+    Query, Time,
+};
 use mp_job::{Event, Shape};
 use mp_model::{Group, PostList, Rec, Value};
 use std::alloc::{AllocError, Global};
@@ -113,6 +120,19 @@ fn two_bids(alloc: Global) -> Result<Job<WakingBids>, AllocError>
     Job::new(alloc, WakingBids, events, Vec::new(alloc), SHAPE)
 }
 
+// A copy of the empty log of worker 1.
+fn empty_copy<J: Naming>(alloc: Global, job: &Job<WakingBids>) -> Result<PostedLog, AllocError>
+    requires job { job.now ≡ J.job }
+    requires shape { job.now.shape ≡ SHAPE }
+    ensures log { IfOk result (λ p. posted_log p ≡ empty_log) }
+    ensures legal { IfOk result (λ p. LogIsLegal (outline_of waking_bids J.job) 1 (posted_log p)) }
+    ensures contributions { IfOk result (λ p. AreContributions (outline_of waking_bids J.job) 1 (posted_log p) p.entries.items) }
+{
+    let log = Log::<WakingBids, J>::open(alloc, job, 1)?;
+    let copy = PostedLog::of(alloc, &log)?;
+    Ok(copy)
+}
+
 // Posts the empty log of worker 1 once more.
 fn empty_log_again<J: Naming>(
     rt: &impl Abort,
@@ -122,9 +142,8 @@ fn empty_log_again<J: Naming>(
     requires job { job.now ≡ J.job }
     requires shape { job.now.shape ≡ SHAPE }
 {
-    let mut board = Board::<WakingBids, J>::open(alloc, job)?;
-    let mut log = Log::<WakingBids, J>::open(alloc, job, 1)?;
-    let seen = board.exchange(1, &mut log)?;
+    let mut board = Board::<OutlineOf<WakingBids, J>>::open(alloc, job)?;
+    let seen = board.exchange(1, empty_copy::<J>(alloc, job)?)?;
     assert_eq!(rt; seen.version(), 0);
     assert_eq!(rt; seen.frontier(Loc::Source), Frontier::At(20));
     assert_eq!(rt; seen.frontier(Loc::OutMail), Frontier::At(20));
@@ -141,19 +160,20 @@ fn shows_all_shares(rt: HostRuntime) -> Result<(), Fail> {
     empty_log_again::<Brand>(&rt, rt.alloc(), &job)
 }
 
-// Posts a log, and stops twice.
+// Stops twice, and asks for an exchange then.
 fn first_cause<J: Naming>(rt: &impl Abort, alloc: Global, job: &Job<WakingBids>) -> Result<(), Fail>
     requires job { job.now ≡ J.job }
     requires shape { job.now.shape ≡ SHAPE }
 {
-    let mut board = Board::<WakingBids, J>::open(alloc, job)?;
-    let mut log = Log::<WakingBids, J>::open(alloc, job, 1)?;
-    let seen = board.seen();
-    assert_eq!(rt; board.exchange(1, &mut log)?, seen);
+    let mut board = Board::<OutlineOf<WakingBids, J>>::open(alloc, job)?;
+    let posted = empty_copy::<J>(alloc, job)?;
     board.stop(Cause::Memory);
     board.stop(Cause::Write);
     assert_eq!(rt; board.stopped(), Some(Cause::Memory));
-    assert_eq!(rt; board.seen(), seen);
+    assert_eq!(rt;
+        Hub::exchange(&mut board, 1, posted),
+        Err(HubStop::Other(Cause::Memory))
+    );
     Ok(())
 }
 

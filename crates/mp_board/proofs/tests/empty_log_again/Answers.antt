@@ -1,11 +1,9 @@
-use Rattle.std.proofs.Common.{subst, sym}
-use Rattle.mp_names.specs.Logs.{LogIsLegal}
-use Rattle.mp_names.proofs.Keeps.{empty_is_legal}
-use Rattle.mp_job.specs.Samples.{waking_bids}
-use Rattle.mp_outline.specs.JobOutline.{outline_of}
+use Rattle.std.proofs.Common.{refl, subst, sym, []}
+use Rattle.mp_names.specs.Frontiers.{log_at}
+use Rattle.mp_names.specs.Logs.{Log, LogGrows}
 use Rattle.mp_board.proofs.tests.empty_log_again.Goals as goal
 
-pub exchange-requires-clause-legal : goal.exchange-requires-clause-legal
-exchange-requires-clause-legal g c = λ κs b.
-    let o = outline_of waking_bids g.J.Naming.job in
-    subst (LogIsLegal o 1) (sym c.in_ok-log.ensures.log) (empty_is_legal o 1)
+pub exchange-requires-clause-grows : goal.exchange-requires-clause-grows
+exchange-requires-clause-grows g c =
+    subst (λ (l : Log). LogGrows (log_at c.in_ok-board.board.logs 1) l) (sym c.in_ok-empty_copy.ensures.log)
+    (rw (c.in_ok-board.ensures.logs, ← c.requires.job, c.requires.shape) (record { ingested = ([], refl); sent = ([], refl); took = ([], refl); applied = ([], refl); settled = ([], refl) }))
