@@ -12,11 +12,6 @@ impl Order<Rec> for ByGroup {
     ghost rank = { group_rank };
 
     fn is_before(first: &Rec, second: &Rec) -> bool {
-        first.time < second.time
-            || first.time == second.time
-                && (first.key < second.key
-                    || first.key == second.key
-                        && (first.tag.0 < second.tag.0
-                            || first.tag.0 == second.tag.0 && first.tag.1 < second.tag.1))
+        (first.time, first.key, first.tag) < (second.time, second.key, second.tag)
     }
 }
