@@ -36,6 +36,8 @@ impl<M: Named + Drop> Post<M> for PlainPost<M> {
 
     ghost workers = { λ p. p.workers };
 
+    ghost depth = { λ p. p.depth };
+
     ghost serves = { λ p worker. Unit {0} };
 
     ghost stands = { PlainStands M.names M.from M.to };

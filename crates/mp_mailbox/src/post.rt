@@ -34,6 +34,9 @@ pub trait Post<M: Named> {
     // The number of workers.
     ghost workers: { Self → ℕ };
 
+    // How many messages each queue takes; 0 where the post doesn't tell.
+    ghost depth: { Self → ℕ } = { λ _. 0 };
+
     // This worker's ends are here: the ends at which it pushes and those at which it pops.
     ghost serves: { Self → ℕ → Type 0 };
 
@@ -66,6 +69,7 @@ pub trait Post<M: Named> {
 
         ensures others { KeepsOthers (stands self.old) (stands self.new) from to }
         ensures same_workers { workers self.new ≡ workers self.old }
+        ensures same_depth { depth self.new ≡ depth self.old }
         ensures same_ends { (worker : ℕ) → serves self.old worker → serves self.new worker };
 
     /// Pops the message that was pushed first of those that wait on the edge, or answers `None` where
@@ -84,5 +88,6 @@ pub trait Post<M: Named> {
 
         ensures others { KeepsOthers (stands self.old) (stands self.new) from to }
         ensures same_workers { workers self.new ≡ workers self.old }
+        ensures same_depth { depth self.new ≡ depth self.old }
         ensures same_ends { (worker : ℕ) → serves self.old worker → serves self.new worker };
 }
