@@ -3,3 +3,5 @@ pub mod Held
 pub mod Writing
 pub mod AnswerLines
 pub mod Whole
+pub mod Sending
+pub mod RowsAlone

@@ -1,7 +1,9 @@
 -- A job for tests: two bids at 5 and one at 8, of a query that gives a row of the auction for each time of its bids.
-use Rattle.std.specs.Prelude.{[], ◌∷◌}
-use Rattle.mp_model.specs.declared.value.Value.TheVariants.{Bid}
+use Rattle.std.specs.Prelude.{ℕ, [], ◌∷◌}
+use Rattle.mp_model.specs.declared.record.Output.{Output}
+use Rattle.mp_model.specs.declared.value.Value.TheVariants.{Bid, Row}
 use Rattle.mp_model.specs.Facts.{JobFacts}
+use Rattle.mp_msg.specs.Samples.{fields_of}
 
 -- bids on auctions 7, 3 and 2
 abbrev pub three_bids : JobFacts
@@ -11,3 +13,7 @@ three_bids = record {
   controls = [];
   shape = record { workers = 3; bins = 4; stages = 1 };
 }
+
+-- the output of a key's group at a time
+abbrev pub row_at : ℕ → ℕ → Output
+row_at time key = record { time = time; tag = record { 0 = key; 1 = 0 }; value = Row (fields_of key) }

@@ -130,6 +130,10 @@ impl<Q: Query, J: Naming> Rows<Q, J> {
         ensures part { OnErr result ((t k : ℕ) × IsDue (seen_at seen.now OutMail) self.old.rows t
             × (k ≤ length (lines_of (rows_at t self.old.rows)))
             × (S.written sink.new ≡ grown (S.written sink.old) (take k (lines_of (rows_at t self.old.rows))))) }
+        ensures part_of_answer { OnErr result ((log : Log) (t : ℕ) → let q = Q.facts J.job.rules in
+            HoldsUnwritten log self.old.rows → IsDue (seen_at seen.now OutMail) self.old.rows t
+            → IsLeast (IsUnwritten log) (Written t) × (IsClosedForOne (outline_of q J.job) 0 log OutMail t
+            → lines_of (rows_at t self.old.rows) ≡ answer_at q J.job.events t)) }
         ensures failed { result ≡ Err WriteFault → Rose (S.faults sink.old) (S.faults sink.new) }
         ensures beside { S.beside sink.new ≡ S.beside sink.old }
         ensures writes { S.faults sink.old ≤ S.faults sink.new }

@@ -1,12 +1,12 @@
-//! Rows of two times, received in another order than that of the answer.
+//! Rows of two times, received or held in another order than that of the answer.
 ghost use Rattle.std.specs.Prelude.{◌≡◌, [], IfOk, refl};
 ghost use Rattle.mp_job.specs.Samples.{bids_have_stages, bids_post_later, bids_post_once};
 ghost use Rattle.mp_msg.specs.Samples.{answering_bids, cells_stay_fresh, one_is_enough, rows_have_no_key, sums_fit};
 ghost use Rattle.mp_msg.specs.Samples.{fields_of, row_of};
-ghost use Rattle.mp_output.specs.Samples.{three_bids};
+ghost use Rattle.mp_output.specs.Samples.{row_at, three_bids};
 
-use crate::{OutRefused, Rows, Wrote};
-use mp_model::{Field, Fields, Group, Naming, PostList, Query, Rec, Tag, Time, Value};
+use crate::{OutRefused, Rows, Unsent, Wrote, answer_rows_are_rows};
+use mp_model::{Field, Fields, Group, Naming, Output, PostList, Query, Rec, Tag, Time, Value};
 use mp_outside::{MemSink, Op};
 use mp_stamps::{Counts, Loc, Seen};
 use std::alloc::{AllocError, Global};
@@ -167,4 +167,49 @@ fn fault_leaves_rows<J: Naming>(rt: &impl Abort, alloc: Global) -> Result<(), Fa
 #[test]
 fn a_fault_leaves_the_rows(rt: HostRuntime) -> Result<(), Fail> {
     fault_leaves_rows::<Brand>(&rt, rt.alloc())
+}
+
+// The output of this key's group at a time.
+fn row_at(time: Time, key: u64) -> Output
+    ensures { result ≡ row_at time key }
+{
+    Output {
+        time,
+        tag: Tag(key, 0),
+        value: Value::Row(fields_of(key)),
+    }
+}
+
+// The key of the row that is given up.
+fn key_sent<J: Naming>(unsent: &mut Unsent<AnsweringBids, J>) -> Option<u64> {
+    let row = unsent.pop_first()?;
+    Some(row.tag.0)
+}
+
+// Gives a row up, and takes it back.
+fn send_in_vain<J: Naming>(unsent: &mut Unsent<AnsweringBids, J>) -> Result<(), AllocError> {
+    match unsent.pop_first() {
+        Some(row) => unsent.hold(row),
+        None => Ok(()),
+    }
+}
+
+fn rows_go_in_order<J: Naming>(rt: &impl Abort, alloc: Global) -> Result<(), Fail>
+    requires { J.job ≡ three_bids }
+{
+    let mut unsent = Unsent::<AnsweringBids, J>::new(alloc);
+    unsent.make_room(2)?;
+    unsent.hold(row_at(8, 2))?;
+    unsent.hold(row_at(5, 7))?;
+    send_in_vain(&mut unsent)?;
+    assert_eq!(rt; key_sent(&mut unsent), Some(7));
+    assert_eq!(rt; key_sent(&mut unsent), Some(2));
+    assert_eq!(rt; key_sent(&mut unsent), None);
+    Ok(())
+}
+
+#[test]
+fn a_row_that_is_held_again_goes_in_front(rt: HostRuntime) -> Result<(), Fail> {
+    answer_rows_are_rows::<AnsweringBids>();
+    rows_go_in_order::<Brand>(&rt, rt.alloc())
 }

@@ -15,6 +15,24 @@ returns-in_default-clause-none_passed g c = λ log t h l p. none_is_passed log (
 pub returns-in_err-piece-clause-part : goal.returns-in_err-piece-clause-part
 returns-in_err-piece-clause-part g c = on_err c.from_residual.result (c.in-Some.time, 0, c.in-Some.ensures.some, omega arith, sym (grown-nothing (g.S.Sink.written c.args.sink.now)))
 
+pub returns-in_err-piece-clause-part_of_answer : goal.returns-in_err-piece-clause-part_of_answer
+returns-in_err-piece-clause-part_of_answer g c =
+    let q = g.Q.Query.facts g.J.Naming.job.rules in
+    let seen = seen_at c.args.seen.now OutMail in
+    let rows = c.self.inside.rows.items in
+    let order = rw (← c.self.view_is) at c.due.ensures.in_order in
+    on_err c.from_residual.result
+    (rw (← c.self.view_is) (λ log t h due. (due_is_least log seen rows t order due h, λ closed. time_is_whole q g.J.Naming.job log seen rows t order c.self.invariant due h closed)))
+
+pub returns-in_err-write_piece-clause-part_of_answer : goal.returns-in_err-write_piece-clause-part_of_answer
+returns-in_err-write_piece-clause-part_of_answer g c =
+    let q = g.Q.Query.facts g.J.Naming.job.rules in
+    let seen = seen_at c.args.seen.now OutMail in
+    let rows = c.self.inside.rows.items in
+    let order = rw (← c.self.view_is) at c.due.ensures.in_order in
+    on_err c.from_residual-in_err-write_piece.result
+    (rw (← c.self.view_is) (λ log t h due. (due_is_least log seen rows t order due h, λ closed. time_is_whole q g.J.Naming.job log seen rows t order c.self.invariant due h closed)))
+
 pub invariant_of-self : goal.invariant_of-self
 invariant_of-self g c = rw c.drop_first.ensures.items (All-drop (Contains (answer_rows (g.Q.Query.facts g.J.Naming.job.rules) g.J.Naming.job.events)) (length c.rows_of-rows.result.now) c.self.inside.rows.items c.self.invariant)
 
