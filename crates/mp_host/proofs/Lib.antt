@@ -4,3 +4,4 @@ pub mod Kept
 pub mod Standing
 pub mod Stepped
 pub mod Told
+pub mod Enough

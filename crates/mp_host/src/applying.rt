@@ -1,13 +1,12 @@
 //! The application of the group that is ready.
 ghost use Rattle.std.specs.Prelude.{◌≡◌, ◌==◌, ℕ, Some, true, filter, not, IfNone, IfOk, OnErr, OnOk};
-ghost use Rattle.std.specs.List.{list_any};
 ghost use Rattle.mp_names.specs.Logs.{Log};
 ghost use Rattle.mp_model.specs.Ascending.{ascending};
 ghost use Rattle.mp_model.specs.Folds.{cell_before};
 ghost use Rattle.mp_model.specs.Stages.{stage_records};
 ghost use Rattle.mp_outline.specs.Laws.{group_at};
 ghost use Rattle.mp_hosting.specs.Applying.{IsApplied, group_here, posts_here, woken_by};
-ghost use Rattle.mp_hosting.specs.Hosted.{cell_in, first_group, has_wake_at, is_of, waits_at};
+ghost use Rattle.mp_hosting.specs.Hosted.{cell_in, first_group, has_wake_at, waits_at};
 ghost use Rattle.mp_hosting.specs.HostOf.{IsInformed, KnowsOwners};
 ghost use Rattle.mp_host.specs.Ready.{IsReadyHere};
 ghost use Rattle.mp_host.specs.Telling.{AppliesGroup, IfDid};
@@ -121,28 +120,6 @@ impl<'a, Q: Query, J: Naming> Host<'a, Q, J> {
             .copied()
             .filter(|time| !self.is_woken(*time, key))
             .collect(alloc)
-    }
-
-    // Whether the group of a key at a time waits.
-    fn waits(&self, time: Time, key: u64) -> bool
-        ensures { result ≡ waits_at self.now time key }
-    {
-        self.has_record(time, key) || self.is_woken(time, key)
-    }
-
-    fn has_record(&self, time: Time, key: u64) -> bool
-        ensures { result ≡ list_any (is_of time key) self.now.records }
-    {
-        self.records
-            .as_slice()
-            .iter()
-            .any(|rec| rec.time == time && rec.key == key)
-    }
-
-    pub(crate) fn is_woken(&self, time: Time, key: u64) -> bool
-        ensures { result ≡ has_wake_at self.now time key }
-    {
-        self.wakes.has(time, key)
     }
 
     // Steps the cell of the first group's key. The group's records and its wake are used up, and these new wakes are made.

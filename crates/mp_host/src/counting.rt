@@ -1,10 +1,13 @@
 //! How many groups wait at a time, and how much a group may give.
-ghost use Rattle.std.specs.Prelude.{◌≡◌, ◌+◌, ◌<◌, ◌-◌, ◌^◌, ℕ, length, min, option_map};
+ghost use Rattle.std.specs.Prelude.{◌≡◌, ◌≤◌, ◌+◌, ◌<◌, ◌-◌, ◌^◌, ℕ, length, min, option_map};
 ghost use Rattle.mp_names.specs.Frontiers.{number_at};
 ghost use Rattle.mp_names.specs.Logs.{Log, LogIsLegal, is_pending};
 ghost use Rattle.mp_names.specs.Outlines.{groups_of};
+ghost use Rattle.mp_model.specs.Folds.{cell_before};
+ghost use Rattle.mp_model.specs.Stages.{stage_records};
 ghost use Rattle.mp_outline.specs.JobOutline.{outline_of};
-ghost use Rattle.mp_hosting.specs.Applying.{group_here, posts_here};
+ghost use Rattle.mp_outline.specs.Laws.{group_at};
+ghost use Rattle.mp_hosting.specs.Applying.{group_here, posts_here, woken_by};
 ghost use Rattle.mp_hosting.specs.Hosted.{cell_in, keys_at};
 ghost use Rattle.mp_hosting.specs.HostOf.{IsHostOf, IsInformed, KnowsOwners};
 ghost use Rattle.mp_host.specs.Ready.{IsReadyHere};
@@ -70,6 +73,9 @@ impl<'a, Q: Query, J: Naming> Host<'a, Q, J> {
             (t k : ℕ) → IsReadyHere J.job seen.now owners.now h t k
             → result ≡ min (q.most h.stage (cell_in (q.fresh h.stage) h.cells k) (group_here h t k) + length (posts_here q h t k)) (2 ^ 64 - 1) }
         ensures none { ((t k : ℕ) → ¬ IsReadyHere J.job seen.now owners.now self.now t k) → result ≡ 0 }
+        ensures enough { let q = Q.facts J.job.rules in let h = self.now in let j = h.stage in
+            (t k : ℕ) → IsReadyHere J.job seen.now owners.now h t k → result < 2 ^ 64 - 1
+            → length (q.gives j (cell_before q j (stage_records q J.job.events j) k t) (group_at q J.job j t k)) + length (woken_by q h t k) ≤ result }
     {
         let Some((time, key)) = self.first_ready(seen, owners) else {
             return 0;

@@ -13,6 +13,7 @@ mod posts;
 mod reading;
 #[cfg(test)]
 mod tests;
+mod waiting;
 
 pub use applied::Applied;
 pub use host::Host;

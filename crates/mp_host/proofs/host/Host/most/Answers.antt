@@ -2,6 +2,7 @@ use Rattle.std.proofs.Common.{ap, refl, ◌∙◌}
 use Rattle.mp_model.specs.Facts.{JobFacts}
 use Rattle.mp_host.specs.Hosts.{hosted_of}
 use Rattle.mp_host.proofs.Stepped.{cut_sum, group_is, step_fits, step_most}
+use Rattle.mp_host.proofs.Enough.{most_holds}
 use Rattle.mp_host.proofs.Told.{group_is_in_time, none_before, one_ready, whole_here}
 use Rattle.mp_host.proofs.host.Host.most.Goals as goal
 
@@ -50,3 +51,11 @@ returns-clause-ready g c = λ t k ready.
     let posts = rw (rules_are, c.first_records-recs.ensures.records) at c.count_posts.ensures in
     let sum = rw (outputs, posts) at c.saturating_add.ensures in
     rw (same.0, same.1, ← c.self.view_is) (sum ∙ cut_sum _ _ _)
+
+pub returns-clause-enough : goal.returns-clause-enough
+returns-clause-enough g c = λ t k ready.
+    let laws = g.met.Q.Query g.world.𝓛 g.world.𝓜 g.world.𝓡 ((λ s x. x), (λ x. x), (λ x. x), λ x. x) in
+    let job = g.J.Naming.job in
+    let rules = job.rules in
+    let whole = whole_here (g.Q.Query.facts rules) (record { stages = laws.has_stages rules; later = laws.posts_are_later rules; nothing = laws.later_stages_post_nothing rules; fit = laws.sums_fit rules }) job job c.args.self.now c.first_ready.ensures.hosted c.args.seen.now c.args.owners.now t k ready c.requires.informed in
+    most_holds (g.Q.Query.facts rules) (laws.most_is_enough rules) job c.args.self.now t k whole _ (returns-clause-ready g c t k ready)

@@ -1,0 +1,41 @@
+//! Whether a group waits.
+ghost use Rattle.std.specs.Prelude.{◌≡◌};
+ghost use Rattle.std.specs.List.{list_any};
+ghost use Rattle.mp_names.specs.declared.names.Name.TheVariants.{Group as GroupName};
+ghost use Rattle.mp_names.specs.Logs.{Log, LogIsLegal, is_pending};
+ghost use Rattle.mp_outline.specs.JobOutline.{outline_of};
+ghost use Rattle.mp_hosting.specs.Hosted.{has_wake_at, is_of, waits_at};
+ghost use Rattle.mp_hosting.specs.HostOf.{IsHostOf};
+ghost use Rattle.mp_host.specs.Hosts.{IsHosted};
+
+use crate::Host;
+use mp_model::{Naming, Query, Time};
+
+impl<'a, Q: Query, J: Naming> Host<'a, Q, J> {
+    /// Whether the group of a key at a time waits: a record of it is here, or the key is to be woken then. Takes no
+    /// memory.
+    pub fn waits(&self, time: Time, key: u64) -> bool
+        ensures here { result ≡ waits_at self.now time key }
+        ensures told { let q = Q.facts J.job.rules in let o = outline_of q J.job in
+            (log : Log) → IsHostOf q J.job log self.now → LogIsLegal o self.now.worker log
+            → result ≡ is_pending o log (GroupName self.now.stage time key) }
+    {
+        self.has_record(time, key) || self.is_woken(time, key)
+    }
+
+    fn has_record(&self, time: Time, key: u64) -> bool
+        ensures here { result ≡ list_any (is_of time key) self.now.records }
+        ensures hosted { IsHosted (Q.facts J.job.rules) J.job J.job self.now }
+    {
+        self.records
+            .as_slice()
+            .iter()
+            .any(|rec| rec.time == time && rec.key == key)
+    }
+
+    pub(crate) fn is_woken(&self, time: Time, key: u64) -> bool
+        ensures { result ≡ has_wake_at self.now time key }
+    {
+        self.wakes.has(time, key)
+    }
+}
