@@ -1,0 +1,6 @@
+-- What the contracts of this crate cite.
+pub mod State
+pub mod Ends
+pub mod Mail
+pub mod Together
+pub mod Laws

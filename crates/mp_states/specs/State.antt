@@ -1,0 +1,35 @@
+-- What contracts see of a worker, and the steps that it can make.
+use Rattle.std.specs.Prelude.{◌≡◌, ℕ}
+use Rattle.mp_names.specs.declared.kinds.Kind.{Kind}
+use Rattle.mp_names.specs.declared.names.Name.{Name}
+use Rattle.mp_names.specs.Outlines.{Outline}
+use Rattle.mp_names.specs.Logs.{Log, empty_log}
+use Rattle.mp_stamps.specs.declared.seen.Seen.{Seen}
+use Rattle.mp_stamps.specs.Seen.{seen_at}
+use Rattle.mp_machine.specs.Steps.{IsNext, IsReady, KindFits, logged}
+use Rattle.mp_machine.specs.Worlds.{Worker}
+
+-- a worker's number, its log, and what it saw at its last exchange
+pub record WorkerState : Type 0 where
+  pub number : ℕ
+  pub log : Log
+  pub seen : Seen
+
+-- the worker as the machine has it; what it posted is not its own to say
+abbrev pub as_machine : WorkerState → Worker
+as_machine s = record { log = s.log; posted = empty_log; seen = seen_at s.seen; version = s.seen.version }
+
+-- By its log and what it saw the worker can make the step of this kind with this name; whether a mailbox lets it is not asked
+pub record CanMake (o : Outline) (kind : Kind) (s : WorkerState) (x : Name) : Type 0 where
+  pub fits : KindFits o kind
+  pub next : IsNext o s.number (as_machine s) kind x
+  pub ready : IsReady o s.number (as_machine s) kind x
+
+-- the worker with the name in the list that the kind fills
+abbrev pub with_step : Kind → Name → WorkerState → WorkerState
+with_step kind x s = record s { log = logged kind s.log x }
+
+-- The worker could make the step, and has: its log has the name, and nothing else of it changed
+pub record Makes (o : Outline) (kind : Kind) (old : WorkerState) (x : Name) (new : WorkerState) : Type 0 where
+  pub can : CanMake o kind old x
+  pub after : new ≡ with_step kind x old
