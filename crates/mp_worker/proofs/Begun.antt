@@ -1,0 +1,52 @@
+-- A new worker: its parts hold nothing, as its empty log says.
+use Rattle.std.proofs.Common.{◌≡◌, ℕ, ◌+◌, ◌<◌, List, [], ◌∷◌, ◌++◌, arith, get_or, length, length-append, subst, sym, ⊎_elim}
+use Rattle.std.specs.Prelude.{replicate}
+use Rattle.std.proofs.lemmas.Bool.{cases_eq}
+use Rattle.std.proofs.Math.ListN.{get_or-append}
+use Rattle.std.proofs.Math.Seq.{get_or-append_seam}
+use Rattle.mp_names.specs.Logs.{empty_log}
+use Rattle.mp_names.specs.Outlines.{OutlineIsSound}
+use Rattle.mp_stamps.specs.declared.seen.Seen.{Seen}
+use Rattle.mp_bins.specs.Notes.{IsShape}
+use Rattle.mp_model.specs.Facts.{JobFacts, QueryFacts}
+use Rattle.mp_board.specs.Boards.{ShowsFrontiers}
+use Rattle.mp_outline.specs.JobOutline.{outline_of}
+use Rattle.mp_rows.specs.WorkerLog.{WorkerLog}
+use Rattle.mp_route.specs.Routed.{Routed}
+use Rattle.mp_hosting.specs.Hosted.{Hosted}
+use Rattle.mp_output.specs.Unwritten.{Unwritten}
+use Rattle.mp_parts.specs.Kept.{IsHostAt, IsRouterAt}
+use Rattle.mp_parts.specs.Parts.{ArePartsOf, AtEach}
+use Rattle.mp_parts.proofs.Asked.{parts_begin}
+use Rattle.mp_states.proofs.Begins.{opening_is_told}
+use Rattle.mp_worker.specs.Kept.{parts_with}
+
+-- what holds of each item and its place holds of one more
+pub one_more_at : {X : Type 0} (P : ℕ → X → Type 0) (xs : List X) (x : X) → AtEach xs P → P (length xs) x → AtEach (xs ++ x ∷ []) P
+one_more_at P xs x each new j d l =
+    let inside : j < length xs + 1 = omega (arith, length-append xs (x ∷ [])) in
+    ⊎_elim
+    (λ (last : j ≡ length xs). subst (λ (i : ℕ). P i (get_or (xs ++ x ∷ []) i d)) (sym last) (subst (P (length xs)) (sym (get_or-append_seam xs x [] d)) new))
+    (λ (apart : j ≡ length xs → ⊥). let before : j < length xs = omega arith in subst (P j) (sym (get_or-append xs (x ∷ []) d j before)) (each j d before))
+    (cases_eq j (length xs))
+
+module _ {Cell : Type 0} (q : QueryFacts Cell) (job : JobFacts) (sound : OutlineIsSound (outline_of q job)) where
+  -- there is a worker, a bin and a stage
+  pub some_of_each : IsShape job.shape
+  some_of_each = let bin = sound.bins_fit 0 in (sound.some_worker, omega arith, sound.some_stage)
+
+  module _ (w : ℕ) (seen : Seen) (inside : w < job.shape.workers) (none : job.controls ≡ []) (opening : ShowsFrontiers (outline_of q job) (replicate job.shape.workers empty_log) seen) where
+    pub parts_at_first :
+        (log : WorkerLog) (routers : List Routed) (hosts : List (Hosted Cell)) (unsent unwritten : Unwritten)
+        → log.worker ≡ w
+        → log.log ≡ empty_log
+        → length routers ≡ job.shape.stages
+        → AtEach routers (IsRouterAt q job w empty_log)
+        → length hosts ≡ job.shape.stages
+        → AtEach hosts (IsHostAt q job w empty_log)
+        → unsent.rows ≡ []
+        → unwritten.rows ≡ []
+        → ArePartsOf q job (parts_with log seen routers hosts unsent unwritten)
+    parts_at_first log routers hosts unsent unwritten number empty all_routers at_routers all_hosts at_hosts no_unsent no_unwritten =
+        rw (number, empty, no_unsent, no_unwritten)
+        (parts_begin q job w seen routers hosts inside none (opening_is_told (outline_of q job) w seen sound inside opening) all_routers at_routers all_hosts at_hosts)

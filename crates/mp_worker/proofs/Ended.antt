@@ -1,0 +1,36 @@
+-- Done is seen of each location of a job where it is seen of those of each stage and of the others.
+use Rattle.std.proofs.Common.{ℕ, ◌<◌}
+use Rattle.mp_names.specs.declared.locations.Loc.TheVariants.{Ctl, CtlMail, Source, Route, Mail, Move, State, Host, OutRoute, OutMail}
+use Rattle.mp_stamps.specs.declared.seen.Seen.{Seen}
+use Rattle.mp_worker.specs.Done.{AllAreDone, OthersAreDone, StageIsDone}
+
+module _ (n : ℕ) (seen : Seen) where
+  pub stage_of_all : AllAreDone n seen → (j : ℕ) → j < n → StageIsDone j seen
+  stage_of_all all j l = record {
+    route = all (Route j) l;
+    mail = all (Mail j) l;
+    move = all (Move j) l;
+    state = all (State j) l;
+    host = all (Host j) l;
+  }
+
+  pub others_of_all : AllAreDone n seen → OthersAreDone seen
+  others_of_all all = record {
+    ctl = all Ctl tt;
+    ctl_mail = all CtlMail tt;
+    source = all Source tt;
+    out_route = all OutRoute tt;
+    out_mail = all OutMail tt;
+  }
+
+  pub all_of_both : ((j : ℕ) → j < n → StageIsDone j seen) → OthersAreDone seen → AllAreDone n seen
+  all_of_both stages others Ctl has = others.ctl
+  all_of_both stages others CtlMail has = others.ctl_mail
+  all_of_both stages others Source has = others.source
+  all_of_both stages others OutRoute has = others.out_route
+  all_of_both stages others OutMail has = others.out_mail
+  all_of_both stages others (Route j) has = (stages j has).route
+  all_of_both stages others (Mail j) has = (stages j has).mail
+  all_of_both stages others (Move j) has = (stages j has).move
+  all_of_both stages others (State j) has = (stages j has).state
+  all_of_both stages others (Host j) has = (stages j has).host

@@ -1,0 +1,15 @@
+pub mod Applied
+pub mod Begun
+pub mod Counted
+pub mod Ended
+pub mod Going
+pub mod InTurn
+pub mod Ingested
+pub mod Popped
+pub mod Received
+pub mod Rooms
+pub mod RowSent
+pub mod Routed
+pub mod Sent
+pub mod Stepped
+pub mod Written

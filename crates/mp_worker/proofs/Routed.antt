@@ -1,0 +1,75 @@
+-- The router of a stage while its first record is sent.
+use Rattle.std.proofs.Common.{◌≡◌, ℕ, ◌<◌, List, [], get_or, sym, ap, ◌∙◌, subst}
+use Rattle.mp_names.specs.declared.controls.Shape.{Shape}
+use Rattle.mp_names.specs.declared.names.Name.{Name}
+use Rattle.mp_names.specs.Outlines.{receiver}
+use Rattle.mp_names.specs.Logs.{Log, with_sent}
+use Rattle.mp_stamps.specs.declared.seen.Seen.{Seen}
+use Rattle.mp_bins.specs.Bins.{bin_of_key}
+use Rattle.mp_bins.specs.Notes.{Notes, owner_at as noted_owner}
+use Rattle.mp_model.specs.declared.record.Rec.{Rec as Record}
+use Rattle.mp_model.specs.Facts.{JobFacts, QueryFacts}
+use Rattle.mp_ordered.specs.InOrder.{put_in_order}
+use Rattle.mp_outline.specs.JobOutline.{name_of_record, outline_of}
+use Rattle.mp_rows.specs.WorkerLog.{WorkerLog}
+use Rattle.mp_msg.specs.declared.message.Body.TheVariants.{Rec}
+use Rattle.mp_msg.specs.Contents.{IsRecordOf}
+use Rattle.mp_msg.proofs.Telling.{bodies_follow_names}
+use Rattle.mp_route.specs.Routed.{GivesUp, Routed, tag_rank}
+use Rattle.mp_route.specs.Unsent.{HoldsUnsent, MayGo}
+use Rattle.mp_parts.specs.Kept.{IsRouterAt}
+use Rattle.mp_parts.specs.Parts.{ArePartsOf, Parts}
+use Rattle.mp_parts.proofs.Asked.{owners_are_known}
+use Rattle.mp_worker.specs.Kept.{IsKept}
+
+-- it holds what is unsent, whatever its room
+other_room : {Cell : Type 0} (q : QueryFacts Cell) (job : JobFacts) (w : ℕ) (log : Log) (old new : Routed)
+    → new.stage ≡ old.stage → new.held ≡ old.held → HoldsUnsent q job w log old → HoldsUnsent q job w log new
+other_room q job w log old new e f h =
+    let same : HoldsUnsent q job w log (record { stage = old.stage; held = old.held; room = new.room }) = record { once = h.once; unsent = h.unsent } in
+    subst (λ (j : ℕ). HoldsUnsent q job w log (record { stage = j; held = new.held; room = new.room })) (sym e)
+    (subst (λ (rs : List Record). HoldsUnsent q job w log (record { stage = old.stage; held = rs; room = new.room })) (sym f) same)
+
+same_record : (i j : ℕ) (r s : Record) → Rec i r ≡ Rec j s → r ≡ s
+same_record i j r s e = cc
+
+-- where all is seen to be over every owner is known
+abbrev all_over : Seen
+all_over = record { version = 0; stages = 0; frontiers = [] }
+
+module _ {Cell : Type 0} {q : QueryFacts Cell} {job : JobFacts} where
+  -- the owner by the notes is the receiver of the record's name
+  pub owner_is : {its : JobFacts} {number : ℕ} {log : WorkerLog} {owners : Notes} {p : Parts Cell} → IsKept q job its number log owners p
+      → (j : ℕ) (r : Record) (shape : Shape) (bin n : ℕ) → shape ≡ its.shape → bin ≡ bin_of_key r.key shape.bins → n ≡ noted_owner owners j bin r.time → n ≡ receiver (outline_of q job) (name_of_record j r)
+  owner_is {owners = owners} kept j r shape bin n its_shape at owns =
+      let same : shape ≡ job.shape = its_shape ∙ ap (λ (f : JobFacts). f.shape) kept.same in
+      let known = owners_are_known q job kept.parts.no_controls owners kept.shape kept.none_noted all_over j in
+      owns ∙ ap (λ (b : ℕ). noted_owner owners j b r.time) (at ∙ ap (λ (s : Shape). bin_of_key r.key s.bins) same) ∙ known.owners r.time (bin_of_key r.key job.shape.bins) tt
+
+  -- the router of a stage
+  pub router_at : {p : Parts Cell} → ArePartsOf q job p → (j : ℕ) (h : Routed) → j < job.shape.stages → h ≡ get_or p.routers j h → IsRouterAt q job p.number p.log j h
+  router_at {p} parts j h fits is =
+      subst (IsRouterAt q job p.number p.log j) (sym is) (parts.routers j h (subst (λ (n : ℕ). j < n) (sym parts.all_routers) fits))
+
+  module _ {w : ℕ} {log : Log} {j : ℕ} {old : Routed} (here : IsRouterAt q job w log j old) where
+    -- where it gives none up, no record may go
+    pub none_goes : (seen : Seen) → ((w : ℕ) (l : Log) (x : Name) → HoldsUnsent q job w l old → MayGo q job w l old.stage seen x → ⊥) → (x : Name) → MayGo q job w log j seen x → ⊥
+    none_goes seen none x may = none w log x here.1 (subst (λ (n : ℕ). MayGo q job w log n seen x) (sym here.0) may)
+
+    module _ (r : Record) where
+      -- the record that it gives up may go
+      pub goes : (seen : Seen) → ((w : ℕ) (l : Log) → HoldsUnsent q job w l old → MayGo q job w l old.stage seen (name_of_record old.stage r)) → MayGo q job w log j seen (name_of_record j r)
+      goes seen may = subst (λ (n : ℕ). MayGo q job w log n seen (name_of_record n r)) here.0 (may w log here.1)
+
+      -- and it holds the others
+      pub gone : (new : Routed) → ((w : ℕ) (l : Log) → HoldsUnsent q job w l old → HoldsUnsent q job w (with_sent l (name_of_record old.stage r)) new) → GivesUp old r new
+          → IsRouterAt q job w (with_sent log (name_of_record j r)) j new
+      gone new left gives = (gives.stage ∙ here.0, subst (λ (n : ℕ). HoldsUnsent q job w (with_sent log (name_of_record n r)) new) here.0 (left w log here.1))
+
+      -- a record of this name is the one that it gave up, so with that put back it holds what it held
+      pub back : (i : ℕ) (s : Record) (new last : Routed) → IsRecordOf q job old.stage r → IsRecordOf q job i s → name_of_record i s ≡ name_of_record j r → GivesUp old r new
+          → last.held ≡ put_in_order tag_rank s new.held → last.stage ≡ new.stage → IsRouterAt q job w log j last
+      back i s new last was comes named gives held stage =
+          let same : s ≡ r = same_record i j s r (bodies_follow_names q job (Rec i s) (Rec j r) comes (subst (λ (n : ℕ). IsRecordOf q job n r) here.0 was) named) in
+          let all = held ∙ ap (λ (t : Record). put_in_order tag_rank t new.held) same ∙ gives.back in
+          (stage ∙ gives.stage ∙ here.0, other_room q job w log old last (stage ∙ gives.stage) all here.1)

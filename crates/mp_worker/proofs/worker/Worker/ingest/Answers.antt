@@ -1,0 +1,93 @@
+use Rattle.std.proofs.Common.{arith, refl}
+use Rattle.std.proofs.lemmas.List.{set-set}
+use Rattle.mp_outline.proofs.Soundness.{outline_is_sound}
+use Rattle.mp_worker.proofs.Ingested.{can_ingest, has_record, ingested_counts, next_record, none_to_ingest, record_fits, record_ingested, roomy_router, some_router}
+use Rattle.mp_worker.proofs.worker.Worker.ingest.Goals as goal
+
+pub returns-in_default-clause-none : goal.returns-in_default-clause-none
+returns-in_default-clause-none g c = λ x can.
+    let laws = g.met.Q.Query g.world.𝓛 g.world.𝓜 g.world.𝓡 ((λ s x. x), (λ x. x), (λ x. x), λ x. x) in
+    let job = g.J.Naming.job in
+    let q = g.Q.Query.facts job.rules in
+    let kept = c.self.invariant in
+    let sound = outline_is_sound q (laws.has_stages job.rules) (laws.posts_are_later job.rules) (laws.later_stages_post_nothing job.rules) job kept.legal in
+    let share = rw kept.same at c.share.ensures in
+    none_to_ingest q job sound _ kept.parts c.self.inside.number kept.number _ c.names-next.ensures _ share c.in_default.ensures.lookup.3 x (rw c.self.view_is can)
+
+pub rec_at-requires-after_bounds : goal.rec_at-requires-after_bounds
+rec_at-requires-after_bounds g c κs within =
+    let found = c.in-Some.ensures.lookup.3 in
+    let its = c.self.inside.job.now in
+    has_record (g.Q.Query.facts its.rules) its c.self.inside.number _ _ _ c.share.ensures found.0 (found.1 _)
+
+pub index_mut-requires : goal.index_mut-requires
+index_mut-requires g c =
+    let laws = g.met.Q.Query g.world.𝓛 g.world.𝓜 g.world.𝓡 ((λ s x. x), (λ x. x), (λ x. x), λ x. x) in
+    let job = g.J.Naming.job in
+    let q = g.Q.Query.facts job.rules in
+    let sound = outline_is_sound q (laws.has_stages job.rules) (laws.posts_are_later job.rules) (laws.later_stages_post_nothing job.rules) job c.self.invariant.legal in
+    let some = some_router q job sound _ c.self.invariant.parts in
+    omega (arith, some, c.self.inside.routers.ok.0)
+
+pub index_mut-requires-2 : goal.index_mut-requires-2
+index_mut-requires-2 g c =
+    let laws = g.met.Q.Query g.world.𝓛 g.world.𝓜 g.world.𝓡 ((λ s x. x), (λ x. x), (λ x. x), λ x. x) in
+    let job = g.J.Naming.job in
+    let q = g.Q.Query.facts job.rules in
+    let sound = outline_is_sound q (laws.has_stages job.rules) (laws.posts_are_later job.rules) (laws.later_stages_post_nothing job.rules) job c.self.invariant.legal in
+    let some = some_router q job sound _ c.self.invariant.parts in
+    omega (arith, some, c.self.inside.routers.ok.0)
+
+pub hold-requires-after_bounds : goal.hold-requires-after_bounds
+hold-requires-after_bounds g c κs within =
+    let laws = g.met.Q.Query g.world.𝓛 g.world.𝓜 g.world.𝓡 ((λ s x. x), (λ x. x), (λ x. x), λ x. x) in
+    let job = g.J.Naming.job in
+    let q = g.Q.Query.facts job.rules in
+    let kept = c.self.invariant in
+    let sound = outline_is_sound q (laws.has_stages job.rules) (laws.posts_are_later job.rules) (laws.later_stages_post_nothing job.rules) job kept.legal in
+    let share = rw kept.same at c.share.ensures in
+    let found = c.in-Some.ensures.lookup.3 in
+    let next = next_record q job sound _ kept.parts c.self.inside.number kept.number _ c.names-next.ensures _ share _ _ found.0 (found.1 _) (rw kept.same at c.in_ok-rec.ensures) in
+    let room = c.in_ok-make_room-2.ensures in
+    record_fits q job sound _ kept.parts _ _ next (roomy_router q job sound _ kept.parts _ _ _ c.index_mut.ensures.value room.held room.stage c.index_mut-2.ensures.value)
+
+pub push-requires-clause-changes : goal.push-requires-clause-changes
+push-requires-clause-changes g c κs within =
+    let laws = g.met.Q.Query g.world.𝓛 g.world.𝓜 g.world.𝓡 ((λ s x. x), (λ x. x), (λ x. x), λ x. x) in
+    let job = g.J.Naming.job in
+    let q = g.Q.Query.facts job.rules in
+    let kept = c.self.invariant in
+    let sound = outline_is_sound q (laws.has_stages job.rules) (laws.posts_are_later job.rules) (laws.later_stages_post_nothing job.rules) job kept.legal in
+    let share = rw kept.same at c.share.ensures in
+    let found = c.in-Some.ensures.lookup.3 in
+    let next = next_record q job sound _ kept.parts c.self.inside.number kept.number _ c.names-next.ensures _ share _ _ found.0 (found.1 _) (rw kept.same at c.in_ok-rec.ensures) in
+    rw c.in_ok-make_room.ensures.made (ingested_counts q job sound _ kept.parts _ next)
+
+pub invariant_of-self-2 : goal.invariant_of-self-2
+invariant_of-self-2 g c =
+    let laws = g.met.Q.Query g.world.𝓛 g.world.𝓜 g.world.𝓡 ((λ s x. x), (λ x. x), (λ x. x), λ x. x) in
+    let job = g.J.Naming.job in
+    let q = g.Q.Query.facts job.rules in
+    let kept = c.self.invariant in
+    let sound = outline_is_sound q (laws.has_stages job.rules) (laws.posts_are_later job.rules) (laws.later_stages_post_nothing job.rules) job kept.legal in
+    let share = rw kept.same at c.share.ensures in
+    let found = c.in-Some.ensures.lookup.3 in
+    let next = next_record q job sound _ kept.parts c.self.inside.number kept.number _ c.names-next.ensures _ share _ _ found.0 (found.1 _) (rw kept.same at c.in_ok-rec.ensures) in
+    let room = c.in_ok-make_room-2.ensures in
+    let router = roomy_router q job sound _ kept.parts _ _ _ c.index_mut.ensures.value room.held room.stage c.index_mut-2.ensures.value in
+    let parts = record_ingested q job sound _ kept.parts _ _ c.hold.new.self next router c.in_ok-hold.ensures.stage c.in_ok-hold.ensures.unsent in
+    rw (c.in_ok-push.ensures.pushed, c.in_ok-make_room.ensures.made, set-set)
+    (record { same = kept.same; legal = kept.legal; rows = kept.rows; number = kept.number; shape = kept.shape; none_noted = kept.none_noted; parts = parts })
+
+pub returns-clause-did : goal.returns-clause-did
+returns-clause-did g c =
+    let laws = g.met.Q.Query g.world.𝓛 g.world.𝓜 g.world.𝓡 ((λ s x. x), (λ x. x), (λ x. x), λ x. x) in
+    let job = g.J.Naming.job in
+    let q = g.Q.Query.facts job.rules in
+    let kept = c.self.invariant in
+    let sound = outline_is_sound q (laws.has_stages job.rules) (laws.posts_are_later job.rules) (laws.later_stages_post_nothing job.rules) job kept.legal in
+    let share = rw kept.same at c.share.ensures in
+    let found = c.in-Some.ensures.lookup.3 in
+    let next = next_record q job sound _ kept.parts c.self.inside.number kept.number _ c.names-next.ensures _ share _ _ found.0 (found.1 _) (rw kept.same at c.in_ok-rec.ensures) in
+    rw (← c.self.view_is, c.in_ok-push.ensures.pushed, c.in_ok-make_room.ensures.made)
+    (record { can = can_ingest q job sound _ kept.parts _ next _ kept.number; after = refl })

@@ -1,0 +1,72 @@
+use Rattle.std.proofs.Common.{refl, ◌∙◌}
+use Rattle.mp_names.specs.Names.{is_row}
+use Rattle.mp_changes.proofs.Sent.{row_sent}
+use Rattle.mp_outline.specs.JobOutline.{name_of_row, outline_of}
+use Rattle.mp_outline.proofs.Soundness.{outline_is_sound}
+use Rattle.mp_worker.proofs.Going.{ends_asked, ends_told, makes_send_row, row_sent_kept, rows_still_kept}
+use Rattle.mp_worker.proofs.RowSent.{holds_row, least_row, rows_back, rows_left}
+use Rattle.mp_worker.proofs.worker.Worker.send_row.Goals as goal
+
+pub unreachable-requires : goal.unreachable-requires
+unreachable-requires g c =
+    let job = g.J.Naming.job in
+    holds_row (g.Q.Query.facts job.rules) job c.in-Some.field-0 c.in-Some.ensures.content c.self.invariant.rows c.in_default-value.not-Row
+
+pub send-requires-clause-log : goal.send-requires-clause-log
+send-requires-clause-log g c = λ κs b. rw c.in_ok-make_room.ensures.made c.self.invariant.parts.legal
+
+pub send-requires-clause-held : goal.send-requires-clause-held
+send-requires-clause-held g c = λ κs b.
+    let least = least_row c.self.invariant.parts.unsent c.in-Some.ensures.some c.in-Some.ensures.in_order in
+    rw (c.in_ok-make_room.ensures.made, c.row-row.ensures) (is_row, least.0)
+
+pub send-requires-clause-changes : goal.send-requires-clause-changes
+send-requires-clause-changes g c = λ κs b.
+    let laws = g.met.Q.Query g.world.𝓛 g.world.𝓜 g.world.𝓡 ((λ s x. x), (λ x. x), (λ x. x), λ x. x) in
+    let job = g.J.Naming.job in
+    let sound = outline_is_sound (g.Q.Query.facts job.rules) (laws.has_stages job.rules) (laws.posts_are_later job.rules) (laws.later_stages_post_nothing job.rules) job c.self.invariant.legal in
+    let least = least_row c.self.invariant.parts.unsent c.in-Some.ensures.some c.in-Some.ensures.in_order in
+    let i = c.self.inside in
+    let row = c.in-Some.field-0 in
+    rw (c.in_ok-make_room.ensures.made, c.row-row.ensures) (row_sent (outline_of (g.Q.Query.facts job.rules) job) i.log.worker i.log.log sound row.time row.tag least.0)
+
+pub send-requires-clause-ends : goal.send-requires-clause-ends
+send-requires-clause-ends g c = λ κs b.
+    rw c.in_ok-make_room.ensures.made (ends_asked c.self.invariant refl c.args.self.now c.self.view_is (g.P.Post.stands c.args.post.now) c.requires.ends)
+
+pub invariant_of-self-in-Ok : goal.invariant_of-self-in-Ok
+invariant_of-self-in-Ok g c =
+    let laws = g.met.Q.Query g.world.𝓛 g.world.𝓜 g.world.𝓡 ((λ s x. x), (λ x. x), (λ x. x), λ x. x) in
+    let job = g.J.Naming.job in
+    let sound = outline_is_sound (g.Q.Query.facts job.rules) (laws.has_stages job.rules) (laws.posts_are_later job.rules) (laws.later_stages_post_nothing job.rules) job c.self.invariant.legal in
+    let least = least_row c.self.invariant.parts.unsent c.in-Some.ensures.some c.in-Some.ensures.in_order in
+    let left = rows_left c.self.invariant.parts.unsent c.in-Some.ensures.some in
+    let worker = rw c.in_ok-make_room.ensures.made at c.in-Ok.ensures.worker in
+    let sent = rw (c.in_ok-make_room.ensures.made, c.row-row.ensures) at c.in-Ok.ensures.sent in
+    row_sent_kept c.self.invariant refl c.send.new.log worker sound (name_of_row c.in-Some.field-0) c.pop_first.new.self.rows sent least left
+
+pub returns-in-Ok-clause-did : goal.returns-in-Ok-clause-did
+returns-in-Ok-clause-did g c =
+    let least = least_row c.self.invariant.parts.unsent c.in-Some.ensures.some c.in-Some.ensures.in_order in
+    let sent = rw (c.in_ok-make_room.ensures.made, c.row-row.ensures) at c.in-Ok.ensures.sent in
+    rw (← c.self.view_is, c.in-Ok.ensures.name, c.row-row.ensures) (makes_send_row c.self.invariant refl c.send.new.log.log _ sent least)
+
+pub returns-in-Ok-clause-ends : goal.returns-in-Ok-clause-ends
+returns-in-Ok-clause-ends g c =
+    let ends = rw c.in_ok-make_room.ensures.made at c.in-Ok.ensures.ends in
+    ends_told c.self.invariant refl c.args.self.now c.self.view_is (g.P.Post.stands c.args.post.now) (g.P.Post.stands c.send.new.post) c.send.new.log.log ends
+
+pub invariant_of-self-2 : goal.invariant_of-self-2
+invariant_of-self-2 g c =
+    let job = g.J.Naming.job in
+    let worker = rw c.in_ok-make_room.ensures.made at c.in-Err.ensures.worker in
+    let unsent = rw c.in_ok-make_room.ensures.made at c.in-Err.ensures.unsent in
+    let named = c.in-Row-into_body.ensures.name ∙ c.in-Err.ensures.back ∙ c.row-row.ensures in
+    let back = c.in-Row-into_body in
+    let last = rows_back (g.Q.Query.facts job.rules) job c.in-Some.field-0 c.in-Some.ensures.content c.in-Row.fields c.in-Row.is _ c.pop_first.new.self.rows c.in-Some.ensures.back back.time back.tag back.fields back.ensures.content named _ c.in_ok-hold.ensures.put in
+    rows_still_kept c.self.invariant refl c.send.new.log worker c.hold.new.self.rows unsent last
+
+pub returns-clause-ends : goal.returns-clause-ends
+returns-clause-ends g c =
+    let ends = rw c.in_ok-make_room.ensures.made at c.in-Err.ensures.ends in
+    ends_told c.self.invariant refl c.args.self.now c.self.view_is (g.P.Post.stands c.args.post.now) (g.P.Post.stands c.send.new.post) c.send.new.log.log ends

@@ -1,0 +1,45 @@
+use Rattle.std.proofs.Common.{List, ℕ, ◌∙◌, ap, inr}
+use Rattle.mp_outside.specs.Sink.{grown}
+use Rattle.mp_outline.specs.JobOutline.{outline_of}
+use Rattle.mp_outline.proofs.Soundness.{outline_is_sound}
+use Rattle.mp_changes.proofs.Settled.{written}
+use Rattle.mp_output.proofs.Writing.{on_err}
+use Rattle.mp_worker.proofs.Written.{part_written, rows_have_come, time_written}
+use Rattle.mp_worker.proofs.worker.Worker.write.Goals as goal
+
+pub returns-in_err-time-clause-part : goal.returns-in_err-time-clause-part
+returns-in_err-time-clause-part g c =
+    let job = g.J.Naming.job in
+    let q = g.Q.Query.facts job.rules in
+    let kept = c.self.invariant in
+    let part = c.in_err-time.ensures.part in
+    let told = c.in_err-time.ensures.part_of_answer _ part.0 kept.parts.unwritten part.2 in
+    rw (← c.self.view_is)
+    (on_err c.from_residual-in_err-time.result (inr (part_written q job _ kept.parts _ kept.number c.if-self-ne0.false part.0 part.2 told part.1 _ _ part.4)))
+
+pub push-requires-clause-changes : goal.push-requires-clause-changes
+push-requires-clause-changes g c κs within =
+    rw c.in_ok-make_room.ensures.made (written (outline_of (g.Q.Query.facts g.J.Naming.job.rules) g.J.Naming.job) c.self.inside.log.worker c.self.inside.log.log c.in-Time.time)
+
+pub invariant_of-self-in-Time : goal.invariant_of-self-in-Time
+invariant_of-self-in-Time g c =
+    let laws = g.met.Q.Query g.world.𝓛 g.world.𝓜 g.world.𝓡 ((λ s x. x), (λ x. x), (λ x. x), λ x. x) in
+    let job = g.J.Naming.job in
+    let q = g.Q.Query.facts job.rules in
+    let kept = c.self.invariant in
+    let sound = outline_is_sound q (laws.has_stages job.rules) (laws.posts_are_later job.rules) (laws.later_stages_post_nothing job.rules) job kept.legal in
+    let due = rw c.in-Time.is at c.in_ok-time.ensures.due in
+    let next = rw c.in-Time.is at c.in_ok-time.ensures.next in
+    let parts = time_written q job _ kept.parts _ kept.number c.if-self-ne0.false _ due sound _ (next _ kept.parts.unwritten) in
+    rw (c.in_ok-push-in-Time.ensures.pushed, c.in_ok-make_room.ensures.made)
+    (record { same = kept.same; legal = kept.legal; rows = kept.rows; number = kept.number; shape = kept.shape; none_noted = kept.none_noted; parts = parts })
+
+pub returns-in_ok-push-in-Time-clause-lines : goal.returns-in_ok-push-in-Time-clause-lines
+returns-in_ok-push-in-Time-clause-lines g c =
+    let job = g.J.Naming.job in
+    let q = g.Q.Query.facts job.rules in
+    let kept = c.self.invariant in
+    let due = rw c.in-Time.is at c.in_ok-time.ensures.due in
+    let lines = rw c.in-Time.is at c.in_ok-time.ensures.lines in
+    let answer = rw c.in-Time.is at c.in_ok-time.ensures.answer in
+    lines ∙ ap (λ (bytes : List ℕ). grown (g.S.Sink.written c.args.sink.now) bytes) (answer _ kept.parts.unwritten (rows_have_come q job _ kept.parts _ kept.number c.if-self-ne0.false _ due))

@@ -1,0 +1,18 @@
+//! One worker of a running dataflow: its parts, and the ten kinds of step that it makes, each as the machine has it.
+#![tactic(auto)]
+
+mod applying;
+mod beginning;
+mod ending;
+mod exchanging;
+mod ingesting;
+mod onward;
+mod receiving;
+mod sending;
+mod stepping;
+mod turn;
+mod worker;
+mod writing;
+
+pub use turn::{Stop, Turn};
+pub use worker::Worker;

@@ -1,0 +1,168 @@
+//! How a worker sends records and answer rows.
+ghost use Rattle.std.specs.Prelude.{◌≡◌, ◌<◌, ◌≤◌, ℕ, Bool, IfErr, IfOk, OnErr, OnOk, length};
+ghost use Rattle.mp_names.specs.declared.names.Name.{Name};
+ghost use Rattle.mp_names.specs.declared.kinds.Kind.TheVariants.{Route, SendRow};
+ghost use Rattle.mp_names.specs.Keeping.{IsHeld};
+ghost use Rattle.mp_names.specs.Logs.{LogIsLegal, with_sent};
+ghost use Rattle.mp_names.specs.Outlines.{receiver};
+ghost use Rattle.mp_job.specs.Legal.{JobIsLegal};
+ghost use Rattle.mp_outline.specs.JobOutline.{outline_of};
+ghost use Rattle.mp_rows.specs.Entries.{AreChanges};
+ghost use Rattle.mp_states.specs.Ends.{AtEnds, FollowsLog};
+ghost use Rattle.mp_states.specs.Mail.{MailHinders, MailLets};
+ghost use Rattle.mp_states.specs.State.{CanMake, Makes};
+ghost use Rattle.mp_worker.specs.Turns.{IfMade, IfNoName};
+
+use crate::Worker;
+use mp_bins::bin_of;
+use mp_mailbox::Post;
+use mp_model::{Naming, Output, Query, Value};
+use mp_msg::{Body, Msg};
+use mp_names::{Loc, Name};
+use mp_rows::{Change, Log, LogList};
+use std::alloc::AllocError;
+
+impl<'a, Q: Query, J: Naming> Worker<'a, Q, J> {
+    /// The least record that a stage's router holds goes to the owner of its bin, once the owner is known: its name, or
+    /// `None` exactly where no record may go or the mailbox was full. `AllocError`: no memory, and nothing changes.
+    pub(crate) fn route<P: Post<Msg<Q, J>>>(
+        &mut self,
+        stage: u32,
+        post: &mut P,
+    ) -> Result<Option<Name>, AllocError>
+        requires stage { stage < J.job.shape.stages }
+        requires workers { P.workers post.old ≡ J.job.shape.workers }
+        requires serves { P.serves post.old self.old.number }
+        requires ends { AtEnds (P.stands post.old) (outline_of (Q.facts J.job.rules) J.job) self.old.number self.old.log }
+
+        ensures did { let o = outline_of (Q.facts J.job.rules) J.job in
+            IfMade result (λ x. Makes o (Route stage) self.old x self.new) }
+        ensures mail { let o = outline_of (Q.facts J.job.rules) J.job in
+            IfMade result (MailLets (P.had_room post.old) o self.old.number (Route stage)) }
+        ensures none { let o = outline_of (Q.facts J.job.rules) J.job in
+            IfNoName result ((x : Name) → CanMake o (Route stage) self.old x
+            → MailHinders (P.was_full post.old) (P.was_empty post.old) o self.old.number (Route stage) x) }
+        ensures unchanged { IfNoName result (self.new ≡ self.old) }
+        ensures refused { OnErr result (self.new ≡ self.old) }
+
+        ensures ends { let o = outline_of (Q.facts J.job.rules) J.job in
+            FollowsLog (P.stands post.old) (P.stands post.new) o self.old.number self.old.log self.new.log }
+        ensures same_workers { P.workers post.new ≡ P.workers post.old }
+        ensures same_depth { P.depth post.new ≡ P.depth post.old }
+        ensures same_ends { (worker : ℕ) → P.serves post.old worker → P.serves post.new worker }
+    {
+        self.log.make_room(2)?;
+        let router = &mut self.routers[stage as usize];
+        let Some(rec) = router.send_one(&self.seen) else {
+            return Ok(None);
+        };
+        let time = rec.time;
+        let bin = bin_of(rec.key, self.job.shape().bins);
+        let owner = self.owners.owner(stage, bin, time);
+        let changes = [(Loc::Route(stage), time, -1), (Loc::Mail(stage), time, 1)];
+        let message = match send(&mut self.log, post, owner, Msg::rec(stage, rec), &changes) {
+            Ok(name) => return Ok(Some(name)),
+            Err(message) => message,
+        };
+        let Body::Rec { rec, .. } = message.into_body() else {
+            unreachable!()
+        };
+        router.hold(rec)?;
+        Ok(None)
+    }
+
+    /// The least answer row that the worker has to send goes to worker 0: its name, or `None` exactly where there is none
+    /// or the mailbox was full. `AllocError`: no memory, and nothing changes.
+    pub(crate) fn send_row<P: Post<Msg<Q, J>>>(
+        &mut self,
+        post: &mut P,
+    ) -> Result<Option<Name>, AllocError>
+        requires workers { P.workers post.old ≡ J.job.shape.workers }
+        requires serves { P.serves post.old self.old.number }
+        requires ends { AtEnds (P.stands post.old) (outline_of (Q.facts J.job.rules) J.job) self.old.number self.old.log }
+
+        ensures did { let o = outline_of (Q.facts J.job.rules) J.job in
+            IfMade result (λ x. Makes o SendRow self.old x self.new) }
+        ensures mail { let o = outline_of (Q.facts J.job.rules) J.job in
+            IfMade result (MailLets (P.had_room post.old) o self.old.number SendRow) }
+        ensures none { let o = outline_of (Q.facts J.job.rules) J.job in
+            IfNoName result ((x : Name) → CanMake o SendRow self.old x
+            → MailHinders (P.was_full post.old) (P.was_empty post.old) o self.old.number SendRow x) }
+        ensures unchanged { IfNoName result (self.new ≡ self.old) }
+        ensures refused { OnErr result (self.new ≡ self.old) }
+
+        ensures ends { let o = outline_of (Q.facts J.job.rules) J.job in
+            FollowsLog (P.stands post.old) (P.stands post.new) o self.old.number self.old.log self.new.log }
+        ensures same_workers { P.workers post.new ≡ P.workers post.old }
+        ensures same_depth { P.depth post.new ≡ P.depth post.old }
+        ensures same_ends { (worker : ℕ) → P.serves post.old worker → P.serves post.new worker }
+    {
+        self.log.make_room(2)?;
+        let Some(Output { time, tag, value }) = self.unsent.pop_first() else {
+            return Ok(None);
+        };
+        let Value::Row(fields) = value else {
+            unreachable!()
+        };
+        let changes = [(Loc::OutRoute, time, -1), (Loc::OutMail, time, 1)];
+        let row = Msg::row(time, tag, fields);
+        let message = match send(&mut self.log, post, 0, row, &changes) {
+            Ok(name) => return Ok(Some(name)),
+            Err(message) => message,
+        };
+        let Body::Row { time, tag, fields } = message.into_body() else {
+            unreachable!()
+        };
+        let value = Value::Row(fields);
+        self.unsent.hold(Output { time, tag, value })?;
+        Ok(None)
+    }
+}
+
+// Pushes a message that the log's worker has to send and hasn't sent, and puts its name into the log, with what that
+// changes at the counts. `Err`: the mailbox was full; the message comes back, and the log is as it was.
+fn send<Q: Query, J: Naming, P: Post<Msg<Q, J>>>(
+    log: &mut Log<Q, J>,
+    post: &mut P,
+    to: u32,
+    message: Msg<Q, J>,
+    changes: &[Change],
+) -> Result<Name, Msg<Q, J>>
+    requires job { JobIsLegal (Q.facts J.job.rules) J.job }
+    requires worker { log.old.worker < J.job.shape.workers }
+    requires log { LogIsLegal (outline_of (Q.facts J.job.rules) J.job) log.old.worker log.old.log }
+    requires held { (kind : Name → Bool) × IsHeld (outline_of (Q.facts J.job.rules) J.job) log.old.worker log.old.log kind message }
+    requires to { to ≡ receiver (outline_of (Q.facts J.job.rules) J.job) message }
+    requires changes { let o = outline_of (Q.facts J.job.rules) J.job in
+        AreChanges o log.old.worker log.old.log (with_sent log.old.log message) changes.now }
+    requires room { (1 ≤ log.old.room_for_names) × (length changes.now ≤ log.old.room_for_changes) }
+    requires workers { P.workers post.old ≡ J.job.shape.workers }
+    requires serves { P.serves post.old log.old.worker }
+    requires ends { AtEnds (P.stands post.old) (outline_of (Q.facts J.job.rules) J.job) log.old.worker log.old.log }
+
+    ensures name { IfOk result (λ x. x ≡ message) }
+    ensures sent { OnOk result (log.new.log ≡ with_sent log.old.log message) }
+    ensures room { OnOk result (P.had_room post.old log.old.worker to) }
+
+    ensures back { IfErr result (λ m. m ≡ message) }
+    ensures unsent { OnErr result (log.new.log ≡ log.old.log) }
+    ensures full { OnErr result (P.was_full post.old log.old.worker to) }
+
+    ensures worker { log.new.worker ≡ log.old.worker }
+    ensures ends { let o = outline_of (Q.facts J.job.rules) J.job in
+        FollowsLog (P.stands post.old) (P.stands post.new) o log.old.worker log.old.log log.new.log }
+    ensures same_workers { P.workers post.new ≡ P.workers post.old }
+    ensures same_depth { P.depth post.new ≡ P.depth post.old }
+    ensures same_ends { (worker : ℕ) → P.serves post.old worker → P.serves post.new worker }
+{
+    let name = message.name();
+    match post.push(log.worker(), to, message) {
+        Ok(()) => {
+            let Ok(()) = log.push(LogList::Sent, name, changes) else {
+                unreachable!()
+            };
+            Ok(name)
+        }
+        Err(full) => Err(full.message),
+    }
+}

@@ -1,0 +1,63 @@
+//! What a step answers.
+ghost use Rattle.std.specs.Prelude.{◌≡◌};
+ghost use Rattle.mp_worker.specs.declared.turn.Stop.TheVariants.{Memory};
+ghost use Rattle.mp_worker.specs.Stops.{stop_at_hub, stop_of_write};
+
+use mp_board::{Cause, HubStop};
+use mp_names::Name;
+use mp_output::OutRefused;
+use std::alloc::AllocError;
+
+/// What came of a step.
+#[derive(Clone, Copy, PartialEq, Eq, Debug)]
+pub enum Turn {
+    /// The step was made: this name was put into the worker's log.
+    Did(Name),
+    /// The log was posted, or the board had changed: this version of the board was seen.
+    Seen(u64),
+    /// The step can't be made now. Nothing changed.
+    NotNow,
+    /// Another worker held the board. Nothing changed.
+    Busy,
+}
+
+/// Why a worker stops.
+#[derive(Clone, Copy, PartialEq, Eq, Debug)]
+pub enum Stop {
+    /// A write failed.
+    Write,
+    /// There was no memory.
+    Memory,
+    /// Another worker stopped before, by this cause.
+    Other(Cause),
+}
+
+impl From<AllocError> for Stop {
+    ghost from_gives = { λ _ stop. stop ≡ Memory };
+
+    fn from(_: AllocError) -> Self {
+        Stop::Memory
+    }
+}
+
+impl From<OutRefused> for Stop {
+    ghost from_gives = { λ refused stop. stop ≡ stop_of_write refused };
+
+    fn from(refused: OutRefused) -> Self {
+        match refused {
+            OutRefused::WriteFault => Stop::Write,
+            OutRefused::NoMemory => Stop::Memory,
+        }
+    }
+}
+
+impl From<HubStop> for Stop {
+    ghost from_gives = { λ refused stop. stop ≡ stop_at_hub refused };
+
+    fn from(refused: HubStop) -> Self {
+        match refused {
+            HubStop::NoMemory => Stop::Memory,
+            HubStop::Other(cause) => Stop::Other(cause),
+        }
+    }
+}

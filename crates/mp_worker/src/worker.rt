@@ -1,0 +1,50 @@
+//! A worker and its parts.
+ghost use Rattle.std.specs.Prelude.{◌≡◌, ◌<◌, ◌↔◌, IfOk, IsTrue, replicate};
+ghost use Rattle.mp_names.specs.Logs.{empty_log};
+ghost use Rattle.mp_board.specs.Boards.{ShowsFrontiers};
+ghost use Rattle.mp_outline.specs.JobOutline.{outline_of};
+ghost use Rattle.mp_output.specs.Rows.{GivesRows};
+ghost use Rattle.mp_states.specs.Together.{KnowsTheEnd};
+
+use mp_bins::Owners;
+use mp_host::Host;
+use mp_job::Job;
+use mp_model::{Naming, Query};
+use mp_output::{Rows, Unsent};
+use mp_route::Router;
+use mp_rows::Log;
+use mp_stamps::Seen;
+use std::alloc::{AllocError, Global};
+use std::marker::Model;
+
+/// One worker of the job J of the query Q. Contracts see a `WorkerState`: its number, its log, and what it saw at its last
+/// exchange. The query's last stage gives rows alone, and the job has no control records yet.
+#[derive(Drop)]
+pub struct Worker<'a, Q: Query, J: Naming> {
+    pub(crate) alloc: Global,
+    pub(crate) job: &'a Job<Q>,
+    pub(crate) number: u32,
+    pub(crate) log: Log<Q, J>,
+    pub(crate) seen: Seen,
+    pub(crate) owners: Owners,
+    // By the stages' numbers.
+    pub(crate) routers: Vec<Router<Q, J>>,
+    pub(crate) hosts: Vec<Host<'a, Q, J>>,
+    // The answer rows of its own groups.
+    pub(crate) unsent: Unsent<Q, J>,
+    // The answer rows that it took, on worker 0.
+    pub(crate) rows: Rows<Q, J>,
+}
+
+impl<'a, Q: Query, J: Naming> Model for Worker<'a, Q, J> {
+    ghost use Rattle.mp_states.specs.State.{WorkerState};
+    ghost use Rattle.mp_worker.specs.Kept.{IsKept, parts_with};
+
+    ghost Value = { WorkerState };
+
+    ghost view = { λ w. record { number = w.number; log = w.log.log; seen = w.seen } };
+
+    ghost invariant = { λ w.
+        IsKept (Q.facts J.job.rules) J.job w.job.now w.number w.log w.owners
+        (parts_with w.log w.seen w.routers.items w.hosts.items w.unsent w.rows) };
+}
