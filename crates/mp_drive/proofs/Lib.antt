@@ -1,0 +1,8 @@
+pub mod Ended
+pub mod Leading
+pub mod Listed
+pub mod Numbered
+pub mod Opened
+pub mod Tried
+pub mod Turned
+pub mod Written

@@ -1,0 +1,49 @@
+-- Workers that have done nothing are at the start of the machine.
+use Rattle.std.proofs.Common.{◌≡◌, ℕ, zero, suc, List, [], ◌∷◌, ◌++◌, Some, length, sym, ap, ◌∙◌, subst}
+use Rattle.std.specs.Prelude.{replicate, slice_get}
+use Rattle.mp_names.specs.declared.names.Name.{Name}
+use Rattle.mp_names.specs.Logs.{empty_log}
+use Rattle.mp_names.specs.Outlines.{Outline, OutlineIsSound}
+use Rattle.mp_stamps.specs.declared.seen.Seen.{Seen}
+use Rattle.mp_mailbox.specs.Queues.{Queues, empty_queues}
+use Rattle.mp_machine.specs.Worlds.{start_of_machine}
+use Rattle.mp_board.specs.Boards.{ShowsFrontiers}
+use Rattle.mp_states.specs.Laws.{IsNewWorker}
+use Rattle.mp_states.specs.State.{WorkerState}
+use Rattle.mp_states.specs.Together.{AreWorld, Together}
+use Rattle.mp_states.proofs.Begins.{opening_is_the_start}
+use Rattle.mp_drive.specs.Driven.{AreReached}
+
+some_is : {X : Type 0} (x y : X) → Some x ≡ Some y → x ≡ y
+some_is x y e = cc
+
+-- what holds of each element at its place, and of the new one behind them, holds of all
+push_all : {X : Type 0} (P : ℕ → X → Type 0) (xs : List X) (x : X) → ((i : ℕ) (y : X) → slice_get xs i ≡ Some y → P i y) → P (length xs) x → (i : ℕ) (y : X) → slice_get (xs ++ x ∷ []) i ≡ Some y → P i y
+push_all P [] x h here zero y e = subst (P 0) (some_is x y e) here
+push_all P [] x h here (suc i) y e = absurd (cc)
+push_all P (z ∷ xs) x h here zero y e = h zero y e
+push_all P (z ∷ xs) x h here (suc i) y e = push_all (λ n. P (suc n)) xs x (λ j a f. h (suc j) a f) here i y e
+
+-- a worker that has done nothing, by its parts
+pub is_new : (o : Outline) (w : ℕ) (s : WorkerState) (seen : Seen) → s.number ≡ w → s.log ≡ empty_log → s.seen ≡ seen → seen.version ≡ 0 → ShowsFrontiers o (replicate o.workers empty_log) seen → IsNewWorker o w s
+is_new o w s seen number log saw version shows =
+    record {
+      number = number;
+      log = log;
+      version = ap (λ (x : Seen). x.version) saw ∙ version;
+      seen = subst (ShowsFrontiers o (replicate o.workers empty_log)) (sym saw) shows;
+    }
+
+-- one more of them
+pub one_more_new : (o : Outline) (n : ℕ) (xs ys : List WorkerState) (x : WorkerState) → ((w : ℕ) (s : WorkerState) → slice_get xs w ≡ Some s → IsNewWorker o w s) → length xs ≡ n → IsNewWorker o n x → ys ≡ xs ++ x ∷ [] → (w : ℕ) (s : WorkerState) → slice_get ys w ≡ Some s → IsNewWorker o w s
+one_more_new o n xs ys x new many is grown =
+    subst (λ (l : List WorkerState). (w : ℕ) (s : WorkerState) → slice_get l w ≡ Some s → IsNewWorker o w s) (sym grown)
+    (push_all (IsNewWorker o) xs x new (subst (λ (k : ℕ). IsNewWorker o k x) (sym many) is))
+
+module _ (o : Outline) (ok : OutlineIsSound o) (t : Together) (depth : ℕ) (all : length t.workers ≡ o.workers) (new : (w : ℕ) (s : WorkerState) → slice_get t.workers w ≡ Some s → IsNewWorker o w s)
+    (logs : t.board.logs ≡ replicate o.workers empty_log) (version : t.board.version ≡ 0) (post : t.post ≡ empty_queues o.workers depth) where
+  pub are_at_start : AreWorld o depth t (start_of_machine o)
+  are_at_start = opening_is_the_start o depth t ok all new logs version post
+
+  pub begin_reached : AreReached o t
+  begin_reached = ([], subst (λ (d : ℕ). AreWorld o d t (start_of_machine o)) (sym (ap (λ (p : Queues Name). p.depth) post)) are_at_start)

@@ -1,0 +1,123 @@
+-- Places whose steps were tried, one after another from some place on.
+use Rattle.std.proofs.Common.{◌≡◌, ℕ, ◌+◌, ◌-◌, ◌%◌, ◌<◌, ◌≤◌, ◌⊎◌, true, All, List, [], ◌∷◌, length, Some, refl, sym, ◌∙◌, ap, subst, inl, inr, ⊎_elim, arith, slice_index_or, below_more}
+use Rattle.std.proofs.Math.Nat.{add-mod_right, mod-eq_of_lt}
+use Rattle.std.specs.List.{Contains, slice_get}
+use Rattle.std.proofs.lemmas.List.{append-nil}
+use Rattle.std.proofs.lemmas.Option.{slice_get-get_or}
+use Rattle.mp_names.specs.declared.kinds.Kind.{Kind}
+use Rattle.mp_names.specs.declared.locations.Loc.{Loc}
+use Rattle.mp_names.specs.declared.locations.Loc.TheVariants.{Ctl, CtlMail, Source, Route, Mail, Move, State, Host, OutRoute, OutMail}
+use Rattle.mp_names.specs.declared.names.Name.{Name}
+use Rattle.mp_names.specs.declared.names.Name.TheVariants.{Row, Written}
+use Rattle.mp_names.specs.Logs.{Log}
+use Rattle.mp_names.specs.Names.{In}
+use Rattle.mp_names.specs.Outlines.{Outline, OutlineIsSound}
+use Rattle.mp_stamps.specs.Seen.{HasLoc}
+use Rattle.mp_machine.specs.Places.{places}
+use Rattle.mp_machine.specs.Runs.{IsLocation, NotNow, WorkerIsFinished, is_made, run_of_machine, turn_of_machine}
+use Rattle.mp_machine.specs.Steps.{IsPlace}
+use Rattle.mp_machine.specs.Worlds.{World}
+use Rattle.mp_machine.proofs.Ends.{all_over}
+use Rattle.mp_machine.proofs.Places.{place_listed}
+use Rattle.mp_machine.proofs.Worlds.{run_right}
+use Rattle.mp_states.specs.State.{WorkerState}
+use Rattle.mp_states.specs.Together.{AreWorld, KnowsTheEnd, Together}
+use Rattle.mp_drive.specs.Driven.{AllKnowTheEnd, AreAfter, AreReached, LeadsOn, turn_in}
+use Rattle.mp_worker.specs.declared.turn.Turn.{Turn as Answered}
+use Rattle.mp_worker.specs.declared.turn.Turn.TheVariants as worker
+use Rattle.mp_drive.proofs.Leading.{was_not_now}
+
+-- what a worker answers of a step that was made, and of one that was not
+pub made_turn : (turn : Answered) → ((x : Name) × (turn ≡ worker.Did x)) ⊎ ((version : ℕ) × (turn ≡ worker.Seen version)) → is_made (turn_in turn) ≡ true
+made_turn turn h =
+    ⊎_elim
+    (λ (k : (x : Name) × (turn ≡ worker.Did x)). ap (λ (t : Answered). is_made (turn_in t)) k.1)
+    (λ (k : (version : ℕ) × (turn ≡ worker.Seen version)). ap (λ (t : Answered). is_made (turn_in t)) k.1)
+    h
+
+pub idle_turn : (turn : Answered) → ((x : Name) → turn ≡ worker.Did x → ⊥) → ((version : ℕ) → turn ≡ worker.Seen version → ⊥) → turn_in turn ≡ NotNow
+idle_turn (worker.Did x) did seen = absurd (did x refl)
+idle_turn (worker.Seen version) did seen = absurd (seen version refl)
+idle_turn worker.NotNow did seen = refl
+idle_turn worker.Busy did seen = refl
+
+-- whatever steps led here, the step of this place is not made now
+abbrev pub IsNotNow : Outline → Together → ℕ × Kind → Type 0
+IsNotNow o t p = (before : List (ℕ × Kind)) → AreAfter o before t → turn_of_machine o t.post.depth (run_of_machine o t.post.depth before) p.0 p.1 ≡ NotNow
+
+-- of so many places from this one on, wrapping round, no step is made now
+abbrev pub NoneOf : Outline → Together → (start tried : ℕ) → Type 0
+NoneOf o t start tried = (k : ℕ) → k < tried → (p : ℕ × Kind) → slice_get (places o) ((start + k) % length (places o)) ≡ Some p → IsNotNow o t p
+
+-- all places are tried, wherever that begins
+wraps_to : (start place n : ℕ) → start < n → place < n → (k : ℕ) × (k < n) × ((start + k) % n ≡ place)
+wraps_to start place n l m =
+    ⊎_elim
+    (λ (h : start ≤ place).
+    let e : start + (place - start) ≡ place = omega arith in
+    (place - start, omega arith, ap (λ (x : ℕ). x % n) e ∙ mod-eq_of_lt m))
+    (λ (h : place < start).
+    let e : start + (place + n - start) ≡ place + n = omega arith in
+    (place + n - start, omega arith, ap (λ (x : ℕ). x % n) e ∙ add-mod_right place n ∙ mod-eq_of_lt m))
+    (either start place)
+  where
+    either : (a b : ℕ) → (a ≤ b) ⊎ (b < a)
+    either a b = grind arith
+
+module _ (o : Outline) (t : Together) where
+  none_of_any : (start : ℕ) → start < length (places o) → NoneOf o t start (length (places o)) → (w : ℕ) (kind : Kind) → IsPlace o w kind → IsNotNow o t (w, kind)
+  none_of_any start l none w kind is =
+      let c = place_listed o w kind is in
+      let k = wraps_to start c.0 (length (places o)) l c.1 in
+      none k.0 k.1 (w, kind) (ap (slice_get (places o)) k.2 ∙ slice_get-get_or (places o) c.0 (w, kind) c.1 ∙ ap Some c.2)
+
+  -- a worker that is finished knows the end
+  is_location : (at : Loc) → HasLoc o.stages at → IsLocation o at
+  is_location Ctl h = h
+  is_location CtlMail h = h
+  is_location Source h = h
+  is_location (Route j) h = h
+  is_location (Mail j) h = h
+  is_location (Move j) h = h
+  is_location (State j) h = h
+  is_location (Host j) h = h
+  is_location OutRoute h = h
+  is_location OutMail h = h
+
+  knows : (depth : ℕ) (world : World) (w : ℕ) (s : WorkerState) → AreWorld o depth t world → slice_get t.workers w ≡ Some s → WorkerIsFinished o world w → KnowsTheEnd o s
+  knows depth world w s are is finished =
+      let it = are.workers w s is in
+      record {
+        done = λ at has. it.seen at has ∙ finished.done at (is_location at has);
+        written = λ z u g i.
+            let first : w ≡ 0 = sym it.number ∙ z in
+            let taken : In (Row u g) (world.worker w).log.took = subst (λ (log : Log). In (Row u g) log.took) it.log i in
+            subst (λ (log : Log). In (Written u) log.settled) (sym it.log) (finished.written first u g taken);
+      }
+
+  -- where no step is made now, each worker knows that all is over
+  pub all_know : OutlineIsSound o → 0 < t.post.depth → AreReached o t → (start : ℕ) → start < length (places o) → NoneOf o t start (length (places o)) → AllKnowTheEnd o t
+  all_know ok deep reached start l none =
+      let depth = t.post.depth in
+      let world = run_of_machine o depth reached.0 in
+      let over = all_over o ok depth deep world (run_right o ok depth reached.0) (λ w kind is. none_of_any start l none w kind is reached.0 reached.1) in
+      λ k d m.
+      let all = reached.1.all_workers in
+      knows depth world k (slice_index_or t.workers k d) reached.1 (slice_get-get_or t.workers k d m) (over.1 k (omega arith))
+
+  -- one place more was tried, in a state to which nothing has led on
+  pub none_more : (start tried : ℕ) (p : ℕ × Kind) (mid new : Together) → NoneOf o t start tried → LeadsOn o [] [] t mid → slice_get (places o) ((start + tried) % length (places o)) ≡ Some p → LeadsOn o (p ∷ []) (NotNow ∷ []) mid new → NoneOf o t start (tried + 1)
+  none_more start tried p mid new none still is lead =
+      below_more
+      (λ (k : ℕ). (q : ℕ × Kind) → slice_get (places o) ((start + k) % length (places o)) ≡ Some q → IsNotNow o t q)
+      tried
+      none
+      (λ q e. let same : p ≡ q = some_same p q (sym is ∙ e) in subst (IsNotNow o t) same here)
+    where
+      some_same : (a b : ℕ × Kind) → Some a ≡ Some b → a ≡ b
+      some_same a b e = cc
+
+      here : IsNotNow o t p
+      here before are =
+          let there : AreAfter o before mid = subst (λ (steps : List (ℕ × Kind)). AreAfter o steps mid) (append-nil before) (still.state_is before are) in
+          subst (λ (d : ℕ). turn_of_machine o d (run_of_machine o d before) p.0 p.1 ≡ NotNow) still.depth (was_not_now o p mid new lead before there)

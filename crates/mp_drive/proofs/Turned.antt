@@ -1,0 +1,230 @@
+-- What a worker says of its step leads the workers on by one turn of the machine, or leaves them where they are.
+use Rattle.std.proofs.Common.{◌≡◌, ◌⊎◌, ℕ, ◌<◌, List, [], ◌∷◌, ◌++◌, Some, Ok, Err, get_or, length, refl, sym, ap, ◌∙◌, subst, inl, inr, ⊎_elim, append-nil, arith}
+use Rattle.std.specs.Prelude.{IfOk, OnErr, slice_get, slice_set}
+use Rattle.std.specs.declared.result.Result.{Result}
+use Rattle.std.proofs.lemmas.Option.{slice_get_read}
+use Rattle.mp_names.specs.declared.kinds.Kind.{Kind}
+use Rattle.mp_names.specs.declared.kinds.Kind.TheVariants.{Exchange}
+use Rattle.mp_names.specs.declared.names.Name.{Name}
+use Rattle.mp_names.specs.Outlines.{Outline, OutlineIsSound}
+use Rattle.mp_names.specs.Frontiers.{log_at}
+use Rattle.mp_names.specs.Logs.{Log, LogGrows}
+use Rattle.mp_stamps.specs.declared.seen.Seen.{Seen}
+use Rattle.mp_mailbox.specs.Queues.{HadRoom, Queues, WasEmpty, WasFull}
+use Rattle.mp_machine.specs.Worlds.{World, start_of_machine}
+use Rattle.mp_machine.specs.Runs.{Did, NotNow, Saw, Turn, after_turn, run_of_machine, step_of_machine, turn_of_machine}
+use Rattle.mp_machine.proofs.Worlds.{after_more, run_right}
+use Rattle.mp_board.specs.Boards.{Posted, ShowsFrontiers, exchanged, version_with}
+use Rattle.mp_states.specs.Ends.{AtEnds, FollowsLog}
+use Rattle.mp_states.specs.Laws.{MailFollows, StepsMayBeAsked}
+use Rattle.mp_states.specs.Mail.{MailHinders, MailLets}
+use Rattle.mp_states.specs.State.{CanMake, Makes, WorkerState}
+use Rattle.mp_states.specs.Together.{AreWorld, Together, queues_stand}
+use Rattle.mp_states.proofs.Asked.{may_be_asked}
+use Rattle.mp_states.proofs.Exchanges as exchanges
+use Rattle.mp_states.proofs.Steps as steps
+use Rattle.mp_worker.specs.declared.turn.Stop.{Stop}
+use Rattle.mp_worker.specs.declared.turn.Turn.{Turn as Answered}
+use Rattle.mp_worker.specs.declared.turn.Turn.TheVariants as worker
+use Rattle.mp_worker.specs.Turns.{IfBusy, IfDid, IfHeld, IfNotMade, IfNotNow, IfSaw}
+use Rattle.mp_drive.specs.declared.stop.DriveStop.{DriveStop}
+use Rattle.mp_drive.specs.Driven.{AreAfter, AreReached, LeadsOn, turn_in}
+
+-- What a worker may be asked for where a run leads to the workers' state
+
+pub placed : (o : Outline) (t : Together) → AreReached o t → (w : ℕ) (s : WorkerState) → w < o.workers → s ≡ get_or t.workers w s → slice_get t.workers w ≡ Some s
+placed o t reached w s l e = let all = reached.1.all_workers in slice_get_read t.workers (length t.workers) w s refl (omega arith) e
+
+module _ (o : Outline) (ok : OutlineIsSound o) (t : Together) (reached : AreReached o t) (w : ℕ) (s : WorkerState) (was : slice_get t.workers w ≡ Some s) where
+  asked : StepsMayBeAsked o t
+  asked = let depth = t.post.depth in may_be_asked o depth t (run_of_machine o depth reached.0) (run_right o ok depth reached.0) reached.1
+
+  pub number_is : s.number ≡ w
+  number_is = (asked.fits w s was).1
+
+  pub number_fits : s.number < o.workers
+  number_fits = let fits = asked.fits w s was in omega arith
+
+  pub ends_are : AtEnds (queues_stand o t.post) o s.number s.log
+  ends_are = subst (λ (n : ℕ). AtEnds (queues_stand o t.post) o n s.log) (sym number_is) (asked.ends w s was)
+
+  pub posted_is : LogGrows (log_at t.board.logs s.number) s.log
+  posted_is = subst (λ (n : ℕ). LogGrows (log_at t.board.logs n) s.log) (sym number_is) (asked.posted w s was)
+
+-- What a worker with this number says of its step, on a board and on plain queues
+pub record Says (o : Outline) (kind : Kind) (board after : Posted) (post left : Queues Name) (s new : WorkerState) (r : Result Answered Stop) (w : ℕ) : Type 0 where
+  pub did : IfDid r (λ x. Makes o kind s x new)
+  pub mail : IfDid r (MailLets (HadRoom post) o w kind)
+  pub saw : IfSaw r (λ version. (kind ≡ Exchange) × (new ≡ record s { seen = new.seen }) × (new.seen.version ≡ version) × (version ≡ s.seen.version → ⊥))
+  pub shown : IfSaw r (λ _. (after ≡ exchanged board w s.log) × ((new.seen.version ≡ after.version) × ShowsFrontiers o after.logs new.seen))
+  pub not_now : IfNotNow r ((x : Name) → CanMake o kind s x → MailHinders (WasFull post) (WasEmpty post) o w kind x)
+  pub same : IfNotNow r (kind ≡ Exchange → (after ≡ exchanged board w s.log) × ((seen : Seen) × ((seen.version ≡ after.version) × ShowsFrontiers o after.logs seen) × (seen.version ≡ s.seen.version)))
+  pub busy : IfBusy r ((kind ≡ Exchange) × ⊥)
+  pub unchanged : IfNotMade r (new ≡ s)
+  pub follows : FollowsLog (queues_stand o post) (queues_stand o left) o w s.log new.log
+  pub workers : left.workers ≡ post.workers
+  pub depth : left.depth ≡ post.depth
+  pub others : (kind ≡ Exchange → ⊥) → after ≡ board
+  pub kept : IfHeld r ((after ≡ board) ⊎ (after ≡ board))
+
+-- the turn is handed on, and so is why there is none, under another name
+abbrev pub Passes : Result Answered Stop → Result Answered DriveStop → Type 0
+Passes (Ok turn) r = r ≡ Ok turn
+Passes (Err stop) r = (reason : DriveStop) × (r ≡ Err reason)
+
+is_exchange : (kind : Kind) → (kind ≡ Exchange) ⊎ (kind ≡ Exchange → ⊥)
+is_exchange Exchange = inl refl
+is_exchange kind = inr (λ e. cc)
+
+-- an exchange puts no name into the log
+names_none : (o : Outline) (kind : Kind) (s : WorkerState) (x : Name) → CanMake o kind s x → kind ≡ Exchange → ⊥
+names_none o kind s x can e = (subst (λ (k : Kind). CanMake o k s x) e can).next
+
+-- the workers with another one at a number, another board and other mailboxes
+abbrev pub left_with : Together → ℕ → WorkerState → Posted → Queues Name → Together
+left_with t w s board post = record { workers = slice_set t.workers w s; board = board; post = post }
+
+module _ (o : Outline) (t : Together) where
+  -- no step
+  stays : (new : Together) → new.post.depth ≡ t.post.depth → ((before : List (ℕ × Kind)) → AreAfter o before t → AreWorld o t.post.depth new (run_of_machine o t.post.depth before)) → LeadsOn o [] [] t new
+  stays new deep h =
+      record {
+        turns_are = λ before are. refl;
+        state_is = λ before are.
+            subst (λ (steps : List (ℕ × Kind)). AreAfter o steps new) (sym (append-nil before))
+            (subst (λ (d : ℕ). AreWorld o d new (run_of_machine o d before)) (sym deep) (h before are));
+        depth = deep;
+      }
+
+  -- one step
+  goes_on : (w : ℕ) (kind : Kind) (turn : Turn) (new : Together) → new.post.depth ≡ t.post.depth
+      → ((before : List (ℕ × Kind)) → AreAfter o before t → let world = run_of_machine o t.post.depth before in
+      (turn_of_machine o t.post.depth world w kind ≡ turn) × AreWorld o t.post.depth new (step_of_machine o t.post.depth world w kind))
+      → LeadsOn o ((w, kind) ∷ []) (turn ∷ []) t new
+  goes_on w kind turn new deep h =
+      record {
+        turns_are = λ before are. ap (λ (u : Turn). u ∷ []) (sym (h before are).0);
+        state_is = λ before are.
+            subst (λ (d : ℕ). AreWorld o d new (run_of_machine o d (before ++ (w, kind) ∷ []))) (sym deep)
+            (subst (AreWorld o t.post.depth new) (sym (after_more o t.post.depth before ((w, kind) ∷ []) (start_of_machine o))) (h before are).1);
+        depth = deep;
+      }
+
+-- where the condition is false nothing changes
+still : (o : Outline) (depth : ℕ) (world : World) (w : ℕ) (kind : Kind) → turn_of_machine o depth world w kind ≡ NotNow → world ≡ step_of_machine o depth world w kind
+unfolding step_of_machine
+still o depth world w kind e = sym (ap (after_turn o world w kind) e)
+
+module _ (o : Outline) (ok : OutlineIsSound o) (t : Together) (w : ℕ) (kind : Kind) (s new : WorkerState) (after : Posted) (left : Queues Name) (was : slice_get t.workers w ≡ Some s) where
+  abbrev Told : Result Answered Stop → ℕ → Type 0
+  Told r n = Says o kind t.board after t.post left s new r n
+
+  abbrev next : Together
+  next = left_with t w new after left
+
+  -- the mailboxes, where nothing was put into the log
+  same_mail : (r : Result Answered Stop) → Told r w → new.log ≡ s.log → MailFollows o w t.post s s left
+  same_mail r says e =
+      record {
+        workers = says.workers;
+        depth = says.depth;
+        follows = subst (λ (log : Log). FollowsLog (queues_stand o t.post) (queues_stand o left) o w s.log log) e says.follows;
+      }
+
+  -- nothing changed but what the mailboxes hold
+  unmoved : (r : Result Answered Stop) → Told r w → new ≡ s → after ≡ t.board → (depth : ℕ) (before : List (ℕ × Kind)) → AreWorld o depth t (run_of_machine o depth before) → AreWorld o depth next (run_of_machine o depth before)
+  unmoved r says same board depth before are =
+      let world = run_of_machine o depth before in
+      let h = steps.same_world o ok depth t world (run_right o ok depth before) are w s was left (same_mail r says (ap (λ (x : WorkerState). x.log) same)) in
+      subst (λ (x : WorkerState). AreWorld o depth (left_with t w x after left) world) (sym same) (subst (λ (b : Posted). AreWorld o depth (left_with t w s b left) world) (sym board) h)
+
+  module _ (depth : ℕ) (before : List (ℕ × Kind)) (are : AreWorld o depth t (run_of_machine o depth before)) where
+    abbrev IsTurn : Turn → Type 0
+    IsTurn turn = (turn_of_machine o depth (run_of_machine o depth before) w kind ≡ turn) × AreWorld o depth next (step_of_machine o depth (run_of_machine o depth before) w kind)
+
+    did_turn : (x : Name) → Told (Ok (worker.Did x)) w → IsTurn (Did x)
+    did_turn x says =
+        let h = steps.did o ok depth t (run_of_machine o depth before) (run_right o ok depth before) are w s was kind x new left says.did says.mail (record { workers = says.workers; depth = says.depth; follows = says.follows }) in
+        let board = says.others (names_none o kind s x says.did.can) in
+        (h.0, subst (λ (b : Posted). AreWorld o depth (left_with t w new b left) (step_of_machine o depth (run_of_machine o depth before) w kind)) (sym board) h.1)
+
+    saw_turn : (version : ℕ) → Told (Ok (worker.Seen version)) w → IsTurn (Saw version)
+    saw_turn version says =
+        let what = says.saw in
+        let board = says.shown.0 in
+        let seen = new.seen in
+        let shows : ShowsFrontiers o (exchanged t.board w s.log).logs seen = subst (λ (b : Posted). ShowsFrontiers o b.logs seen) board says.shown.1.1 in
+        let level : seen.version ≡ version_with t.board w s.log = says.shown.1.0 ∙ ap (λ (b : Posted). b.version) board in
+        let mail = same_mail (Ok (worker.Seen version)) says (ap (λ (x : WorkerState). x.log) what.1) in
+        let h = exchanges.saw o ok depth t (run_of_machine o depth before) (run_right o ok depth before) are w s was seen level shows left (λ e. what.3 (sym what.2 ∙ e)) mail in
+        let there = subst (λ (x : WorkerState). AreWorld o depth (left_with t w x (exchanged t.board w s.log) left) (step_of_machine o depth (run_of_machine o depth before) w Exchange)) (sym what.1) h.1 in
+        let here = subst (λ (b : Posted). AreWorld o depth (left_with t w new b left) (step_of_machine o depth (run_of_machine o depth before) w Exchange)) (sym board) there in
+        subst (λ (k : Kind). (turn_of_machine o depth (run_of_machine o depth before) w k ≡ Saw version) × AreWorld o depth next (step_of_machine o depth (run_of_machine o depth before) w k)) (sym what.0) (h.0 ∙ ap Saw what.2, here)
+
+    -- the machine's turn is NotNow
+    idle : Told (Ok worker.NotNow) w → (turn_of_machine o depth (run_of_machine o depth before) w kind ≡ NotNow) × (after ≡ t.board) → IsTurn NotNow
+    idle says h =
+        let there = unmoved (Ok worker.NotNow) says says.unchanged h.1 depth before are in
+        (h.0, subst (AreWorld o depth next) (still o depth (run_of_machine o depth before) w kind h.0) there)
+
+    not_now_turn : Told (Ok worker.NotNow) w → IsTurn NotNow
+    not_now_turn says =
+        idle says
+        (⊎_elim
+        (λ (e : kind ≡ Exchange).
+        let what = says.same e in
+        let level : (exchanged t.board w s.log).version ≡ s.seen.version = ap (λ (b : Posted). b.version) (sym what.0) ∙ sym what.1.1.0 ∙ what.1.2 in
+        let turn = exchanges.saw_nothing o ok depth t (run_of_machine o depth before) (run_right o ok depth before) are w s was level in
+        let board = exchanges.same_board o ok depth t (run_of_machine o depth before) (run_right o ok depth before) are w s was level in
+        (subst (λ (k : Kind). turn_of_machine o depth (run_of_machine o depth before) w k ≡ NotNow) (sym e) turn, what.0 ∙ board))
+        (λ (n : kind ≡ Exchange → ⊥). (steps.not_now o ok depth t (run_of_machine o depth before) (run_right o ok depth before) are w s was kind n says.not_now, says.others n))
+        (is_exchange kind))
+
+    turn : (turn : Answered) → Told (Ok turn) w → IsTurn (turn_in turn)
+    turn (worker.Did x) says = did_turn x says
+    turn (worker.Seen version) says = saw_turn version says
+    turn worker.NotNow says = not_now_turn says
+    turn worker.Busy says = absurd says.busy.1
+
+  -- its number is that of its place
+  of_place : (r : Result Answered Stop) → Told r s.number → (depth : ℕ) (world : World) → AreWorld o depth t world → Told r w
+  of_place r says depth world are = subst (Told r) (are.workers w s was).number says
+
+  leads_on : (turn : Answered) → Told (Ok turn) s.number → LeadsOn o ((w, kind) ∷ []) (turn_in turn ∷ []) t next
+  leads_on answered says =
+      goes_on o t w kind (turn_in answered) next says.depth
+      (λ before are. turn t.post.depth before are answered (of_place (Ok answered) says t.post.depth (run_of_machine o t.post.depth before) are))
+
+  leads_nowhere : (stop : Stop) → Told (Err stop) s.number → LeadsOn o [] [] t next
+  leads_nowhere stop says =
+      let board : after ≡ t.board = ⊎_elim (λ (e : after ≡ t.board). e) (λ (e : after ≡ t.board). e) says.kept in
+      stays o t next says.depth
+      (λ before are.
+      unmoved (Err stop) (of_place (Err stop) says t.post.depth (run_of_machine o t.post.depth before) are) says.unchanged board t.post.depth before are)
+
+  -- no worker is told to stop
+  pub same_cause : (r : Result Answered Stop) → Told r s.number → after.stopped ≡ t.board.stopped
+  same_cause (Ok (worker.Did x)) says = ap (λ (b : Posted). b.stopped) (says.others (names_none o kind s x says.did.can))
+  same_cause (Ok (worker.Seen version)) says = ap (λ (b : Posted). b.stopped) says.shown.0
+  same_cause (Ok worker.NotNow) says =
+      ⊎_elim
+      (λ (e : kind ≡ Exchange). ap (λ (b : Posted). b.stopped) (says.same e).0)
+      (λ (n : kind ≡ Exchange → ⊥). ap (λ (b : Posted). b.stopped) (says.others n))
+      (is_exchange kind)
+  same_cause (Ok worker.Busy) says = absurd says.busy.1
+  same_cause (Err stop) says = ap (λ (b : Posted). b.stopped) (⊎_elim (λ (e : after ≡ t.board). e) (λ (e : after ≡ t.board). e) says.kept)
+
+  -- the same of what is handed on
+
+  pub leads_on_if_ok : (r : Result Answered Stop) (given : Result Answered DriveStop) → Passes r given → Told r s.number → IfOk given (λ turn. LeadsOn o ((w, kind) ∷ []) (turn_in turn ∷ []) t next)
+  leads_on_if_ok (Ok turn) given is says = subst (λ (g : Result Answered DriveStop). IfOk g (λ turn. LeadsOn o ((w, kind) ∷ []) (turn_in turn ∷ []) t next)) (sym is) (leads_on turn says)
+  leads_on_if_ok (Err stop) given is says = subst (λ (g : Result Answered DriveStop). IfOk g (λ turn. LeadsOn o ((w, kind) ∷ []) (turn_in turn ∷ []) t next)) (sym is.1) tt
+
+  pub leads_nowhere_on_err : (r : Result Answered Stop) (given : Result Answered DriveStop) → Passes r given → Told r s.number → OnErr given (LeadsOn o [] [] t next)
+  leads_nowhere_on_err (Ok turn) given is says = subst (λ (g : Result Answered DriveStop). OnErr g (LeadsOn o [] [] t next)) (sym is) tt
+  leads_nowhere_on_err (Err stop) given is says = subst (λ (g : Result Answered DriveStop). OnErr g (LeadsOn o [] [] t next)) (sym is.1) (leads_nowhere stop says)
+
+  -- a run leads to where the workers are then
+  pub still_reached : (r : Result Answered Stop) → Told r s.number → AreReached o t → AreReached o next
+  still_reached (Ok turn) says from = (from.0 ++ (w, kind) ∷ [], (leads_on turn says).state_is from.0 from.1)
+  still_reached (Err stop) says from = (from.0 ++ [], (leads_nowhere stop says).state_is from.0 from.1)

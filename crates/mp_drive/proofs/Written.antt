@@ -1,0 +1,172 @@
+-- What a step leaves in a sink: the lines that worker 0 has written, or a beginning of the one-thread answer.
+use Rattle.std.proofs.Common.{◌≡◌, ◌⊎◌, ℕ, zero, suc, ◌<◌, List, [], ◌∷◌, ◌++◌, Some, Ok, Err, length, set, take, refl, sym, ap, ◌∙◌, subst, inl, inr, ⊎_elim, arith}
+use Rattle.std.specs.Option.{option_map_or}
+use Rattle.std.specs.Prelude.{OnErr, OnOk, Option, slice_get}
+use Rattle.std.specs.declared.result.Result.{Result}
+use Rattle.mp_names.specs.declared.kinds.Kind.{Kind}
+use Rattle.mp_names.specs.declared.kinds.Kind.TheVariants.{Exchange, Write}
+use Rattle.mp_names.specs.declared.names.Name.{Name}
+use Rattle.mp_names.specs.declared.names.Name.TheVariants.{Written}
+use Rattle.mp_names.specs.Keeping.{IsUnwritten}
+use Rattle.mp_names.specs.Logs.{Log, LogIsLegal, empty_log, with_settled}
+use Rattle.mp_names.specs.Outlines.{Outline, OutlineIsSound}
+use Rattle.mp_mailbox.specs.Queues.{Queues}
+use Rattle.mp_model.specs.Answers.{one_thread_answer}
+use Rattle.mp_model.specs.Facts.{JobFacts, QueryFacts}
+use Rattle.mp_outline.specs.JobOutline.{outline_of}
+use Rattle.mp_outside.specs.Sink.{grown}
+use Rattle.mp_outside.proofs.SinkLemmas.{grown-grown}
+use Rattle.mp_output.specs.Holding.{answer_at}
+use Rattle.mp_machine.specs.Runs.{run_of_machine, step_of_machine}
+use Rattle.mp_machine.specs.Steps.{logged}
+use Rattle.mp_machine.proofs.Worlds.{run_right, step_right}
+use Rattle.mp_board.specs.Boards.{Posted}
+use Rattle.mp_states.specs.State.{CanMake, Makes, WorkerState, as_machine, with_step}
+use Rattle.mp_states.specs.Together.{AreWorld, Together, with_worker}
+use Rattle.mp_states.proofs.Asked.{may_be_asked}
+use Rattle.mp_states.proofs.Steps as steps
+use Rattle.mp_answer.specs.Lines.{lines_of_time, written_lines}
+use Rattle.mp_answer.proofs.Written.{others_write_nothing, parts_of_lines_begin, writing_adds_lines, written_lines_begin}
+use Rattle.mp_worker.specs.declared.turn.Stop.{Stop}
+use Rattle.mp_worker.specs.declared.turn.Turn.{Turn as Answered}
+use Rattle.mp_worker.specs.declared.turn.Turn.TheVariants as worker
+use Rattle.mp_worker.specs.Turns.{IfDid, IfNotNow}
+use Rattle.mp_worker.specs.Writing.{WritesPart}
+use Rattle.mp_drive.specs.declared.stop.DriveStop.{DriveStop}
+use Rattle.mp_drive.specs.Driven.{HasBegun, HasWritten, first_log}
+use Rattle.mp_drive.proofs.Turned.{Passes, Says, left_with}
+
+is_write : (kind : Kind) → (kind ≡ Write) ⊎ (kind ≡ Write → ⊥)
+is_write Write = inl refl
+is_write kind = inr (λ e. cc)
+
+exchange_no_write : (kind : Kind) → kind ≡ Exchange → kind ≡ Write → ⊥
+exchange_no_write kind e f = cc
+
+-- what follows where the step couldn't be made
+pub if_not_now : (P Q : Type 0) → (P → Q) → (r : Result Answered Stop) → IfNotNow r P → IfNotNow r Q
+if_not_now P Q f (Ok worker.NotNow) h = f h
+if_not_now P Q f r h = tt
+
+slice_get-set_same : {X : Type 0} (xs : List X) (i : ℕ) (x y : X) → slice_get xs i ≡ Some y → slice_get (set xs i x) i ≡ Some x
+slice_get-set_same [] i x y e = absurd (cc)
+slice_get-set_same (z ∷ xs) zero x y e = refl
+slice_get-set_same (z ∷ xs) (suc i) x y e = slice_get-set_same xs i x y e
+
+first_stays : {X : Type 0} (xs : List X) (i : ℕ) (x : X) → slice_get (set xs (suc i) x) 0 ≡ slice_get xs 0
+first_stays [] i x = refl
+first_stays (z ∷ xs) i x = refl
+
+abbrev log_of : Option WorkerState → Log
+log_of r = option_map_or (λ s. s.log) r empty_log
+
+pub some_first : (xs : List WorkerState) → 0 < length xs → (s : WorkerState) × (slice_get xs 0 ≡ Some s)
+some_first [] l = absurd (omega arith)
+some_first (s ∷ xs) l = (s, refl)
+
+-- The log of worker 0 is legal
+
+module _ (o : Outline) (ok : OutlineIsSound o) (t : Together) (depth : ℕ) (before : List (ℕ × Kind)) (are : AreWorld o depth t (run_of_machine o depth before)) where
+  pub first_legal : LogIsLegal o 0 (first_log t)
+  first_legal =
+      let l = ok.some_worker in
+      let e = are.all_workers in
+      let first = some_first t.workers (omega arith) in
+      let world = run_of_machine o depth before in
+      subst (LogIsLegal o 0) (sym (ap log_of first.1)) ((may_be_asked o depth t world (run_right o ok depth before) are).legal 0 first.0 first.1)
+
+  -- and so it is once another time is written
+  legal_with : (s : WorkerState) (x : Name) → slice_get t.workers 0 ≡ Some s → CanMake o Write s x → LogIsLegal o 0 (with_settled s.log x)
+  legal_with s x was can =
+      let world = run_of_machine o depth before in
+      let right = run_right o ok depth before in
+      let new = with_step Write x s in
+      let h = steps.did o ok depth t world right are 0 s was Write x new t.post (record { can = can; after = refl }) tt (record { workers = refl; depth = refl; follows = λ a b pushed popped la lb h. h }) in
+      let asked = may_be_asked o depth (with_worker t 0 new t.post) (step_of_machine o depth world 0 Write) (step_right o ok depth world 0 Write right).0 h.1 in
+      asked.legal 0 new (slice_get-set_same t.workers 0 new s was)
+
+module _ {Cell : Type 0} (q : QueryFacts Cell) (job : JobFacts) where
+  -- What a worker's step says of the bytes of a sink
+  pub record Writes (kind : Kind) (s : WorkerState) (written now : Option (List ℕ)) (r : Result Answered Stop) : Type 0 where
+    pub others : (kind ≡ Write → ⊥) → now ≡ written
+    pub lines : IfDid r (λ x. kind ≡ Write → now ≡ grown written (lines_of_time q job.events x))
+    pub nothing : IfNotNow r (now ≡ written)
+    pub part : OnErr r ((now ≡ written) ⊎ WritesPart q job s written now)
+
+  -- a written time adds its lines
+  adds : (log : Log) (x : Name) → IsUnwritten log x → written_lines q job.events (with_settled log x) ≡ written_lines q job.events log ++ lines_of_time q job.events x
+  adds log (Written t) h = writing_adds_lines q job log t
+  adds log x h = absurd h
+
+  -- where a worker's log has the same lines, so has that of worker 0
+  same_lines : (t : Together) (w : ℕ) (s new : WorkerState) (after : Posted) (left : Queues Name) → slice_get t.workers w ≡ Some s → written_lines q job.events new.log ≡ written_lines q job.events s.log
+      → written_lines q job.events (first_log (left_with t w new after left)) ≡ written_lines q job.events (first_log t)
+  same_lines t zero s new after left was e =
+      ap (λ (r : Option WorkerState). written_lines q job.events (log_of r)) (slice_get-set_same t.workers 0 new s was) ∙ e ∙ ap (λ (r : Option WorkerState). written_lines q job.events (log_of r)) (sym was)
+  same_lines t (suc w) s new after left was e = ap (λ (r : Option WorkerState). written_lines q job.events (log_of r)) (first_stays t.workers w new)
+
+  module _ (ok : OutlineIsSound (outline_of q job)) (t : Together) (w : ℕ) (kind : Kind) (s new : WorkerState) (after : Posted) (left : Queues Name) (was : slice_get t.workers w ≡ Some s) (number : s.number ≡ w) (written now before : Option (List ℕ)) (has : HasWritten q job.events before t written) where
+    abbrev o : Outline
+    o = outline_of q job
+
+    abbrev next : Together
+    next = left_with t w new after left
+
+    abbrev lines : Log → List ℕ
+    lines log = written_lines q job.events log
+
+    -- nothing is written
+    silent : now ≡ written → lines new.log ≡ lines s.log → HasWritten q job.events before next now
+    silent same e = same ∙ has ∙ ap (grown before) (sym (same_lines t w s new after left was e))
+
+    -- worker 0 writes a time
+    writes : (x : Name) → w ≡ 0 → IsUnwritten s.log x → new.log ≡ with_settled s.log x → now ≡ grown written (lines_of_time q job.events x) → HasWritten q job.events before next now
+    writes x zeroth unwritten log grew =
+        let first : slice_get t.workers 0 ≡ Some s = subst (λ (n : ℕ). slice_get t.workers n ≡ Some s) zeroth was in
+        let here : first_log next ≡ new.log = subst (λ (n : ℕ). first_log (left_with t n new after left) ≡ new.log) (sym zeroth) (ap log_of (slice_get-set_same t.workers 0 new s first)) in
+        let more : lines (first_log t) ++ lines_of_time q job.events x ≡ lines (first_log next) =
+        ap (λ (r : Option WorkerState). lines (log_of r) ++ lines_of_time q job.events x) first ∙ sym (adds s.log x unwritten) ∙ ap lines (sym log) ∙ ap lines (sym here) in
+        grew ∙ ap (λ (b : Option (List ℕ)). grown b (lines_of_time q job.events x)) has ∙ grown-grown before (lines (first_log t)) (lines_of_time q job.events x) ∙ ap (grown before) more
+
+    did : (x : Name) → Makes o kind s x new → Writes kind s written now (Ok (worker.Did x)) → HasWritten q job.events before next now
+    did x makes says =
+        let log : new.log ≡ logged kind s.log x = ap (λ (n : WorkerState). n.log) makes.after in
+        ⊎_elim
+        (λ (e : kind ≡ Write).
+        let can = subst (λ (k : Kind). CanMake o k s x) e makes.can in
+        writes x (sym number ∙ can.next.0) can.next.1.0 (log ∙ ap (λ (k : Kind). logged k s.log x) e) (says.lines e))
+        (λ (n : kind ≡ Write → ⊥). silent (says.others n) (ap lines log ∙ others_write_nothing q job s.number (as_machine s) kind x n makes.can.next))
+        (is_write kind)
+
+    module _ (board : Posted) (post : Queues Name) where
+      written_on : (turn : Answered) → Says o kind board after post left s new (Ok turn) s.number → Writes kind s written now (Ok turn) → HasWritten q job.events before next now
+      written_on (worker.Did x) told says = did x told.did says
+      written_on (worker.Seen version) told says =
+          silent (says.others (exchange_no_write kind told.saw.0)) (ap (λ (n : WorkerState). lines n.log) told.saw.1)
+      written_on worker.NotNow told says = silent says.nothing (ap (λ (n : WorkerState). lines n.log) told.unchanged)
+      written_on worker.Busy told says = absurd told.busy.1
+
+      pub written_on_ok : (r : Result Answered Stop) (given : Result Answered DriveStop) → Passes r given → Says o kind board after post left s new r s.number → Writes kind s written now r → OnOk given (HasWritten q job.events before next now)
+      written_on_ok (Ok turn) given is told says = subst (λ (g : Result Answered DriveStop). OnOk g (HasWritten q job.events before next now)) (sym is) (written_on turn told says)
+      written_on_ok (Err stop) given is told says = subst (λ (g : Result Answered DriveStop). OnOk g (HasWritten q job.events before next now)) (sym is.1) tt
+
+    module _ (depth : ℕ) (made : List (ℕ × Kind)) (are : AreWorld o depth t (run_of_machine o depth made)) where
+      begun_on : (stop : Stop) → Writes kind s written now (Err stop) → HasBegun q job.events before now
+      begun_on stop says =
+          ⊎_elim
+          (λ (same : now ≡ written).
+          let b = written_lines_begin q job (first_log t) (first_legal o ok t depth made are) in
+          (b.0, same ∙ has ∙ ap (grown before) b.1))
+          (λ (p : WritesPart q job s written now).
+          let zeroth : w ≡ 0 = sym number ∙ p.2.next.0 in
+          let first : slice_get t.workers 0 ≡ Some s = subst (λ (n : ℕ). slice_get t.workers n ≡ Some s) zeroth was in
+          let legal = legal_with o ok t depth made are s (Written p.0) first p.2 in
+          let b = parts_of_lines_begin q job s.log p.0 p.1 legal in
+          let part = take p.1 (answer_at q job.events p.0) in
+          let all : lines (first_log t) ++ part ≡ take b.0 (one_thread_answer q job.events) = ap (λ (r : Option WorkerState). lines (log_of r) ++ part) first ∙ b.1 in
+          (b.0, p.3 ∙ ap (λ (b : Option (List ℕ)). grown b part) has ∙ grown-grown before (lines (first_log t)) part ∙ ap (grown before) all))
+          says.part
+
+      pub begun_on_err : (r : Result Answered Stop) (given : Result Answered DriveStop) → Passes r given → Writes kind s written now r → OnErr given (HasBegun q job.events before now)
+      begun_on_err (Ok turn) given is says = subst (λ (g : Result Answered DriveStop). OnErr g (HasBegun q job.events before now)) (sym is) tt
+      begun_on_err (Err stop) given is says = subst (λ (g : Result Answered DriveStop). OnErr g (HasBegun q job.events before now)) (sym is.1) (begun_on stop says)

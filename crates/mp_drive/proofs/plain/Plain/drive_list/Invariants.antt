@@ -1,0 +1,14 @@
+use Rattle.std.proofs.Common.{◌≡◌, ◌≤◌, ℕ, List, Option, length, map, take, vec_capacity}
+use Rattle.mp_outline.specs.JobOutline.{outline_of}
+use Rattle.mp_drive.specs.Driven.{HasWritten, LeadsOn, turn_in}
+use Rattle.mp_drive.proofs.plain.Plain.drive_list.Given as goal
+
+abbrev pub invariant-loop-worker : goal.invariant-loop-worker
+invariant-loop-worker g l = let job = g.J.Naming.job in let q = g.Q.Query.facts job.rules in record {
+  room : length l.steps ≤ vec_capacity l.turns;
+  many : length l.turns.items ≡ l.worker-index;
+  lead : LeadsOn (outline_of q job) (take l.worker-index l.steps) (map turn_in l.turns.items) l.initial.self l.self;
+  written : (before : Option (List ℕ)) → HasWritten q job.events before l.initial.self (g.S.Sink.written l.initial.sink) → HasWritten q job.events before l.self (g.S.Sink.written l.sink);
+  beside : g.S.Sink.beside l.sink ≡ g.S.Sink.beside l.initial.sink;
+  faults : g.S.Sink.faults l.initial.sink ≤ g.S.Sink.faults l.sink;
+}

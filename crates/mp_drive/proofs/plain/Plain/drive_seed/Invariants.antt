@@ -1,0 +1,19 @@
+use Rattle.std.proofs.Common.{◌≡◌, ◌≤◌, ◌-◌, ◌^◌, ℕ, List, Option}
+use Rattle.mp_outline.specs.JobOutline.{outline_of}
+use Rattle.mp_drive.specs.Driven.{HasWritten}
+use Rattle.mp_drive.proofs.Leading.{LeadsBy}
+use Rattle.mp_drive.proofs.plain.Plain.drive_seed.Given as goal
+
+abbrev pub invariant-loop-draws : goal.invariant-loop-draws
+invariant-loop-draws g l =
+    let q = g.Q.Query.facts g.J.Naming.job.rules in
+    record {
+      by : LeadsBy (outline_of q g.J.Naming.job) l.made l.fn.self l.self;
+      few : l.made ≤ 2 ^ 50;
+      written : (before : Option (List ℕ)) → HasWritten q g.J.Naming.job.events before l.fn.self (g.S.Sink.written l.fn.sink) → HasWritten q g.J.Naming.job.events before l.self (g.S.Sink.written l.sink);
+      beside : g.S.Sink.beside l.sink ≡ g.S.Sink.beside l.fn.sink;
+      writes : g.S.Sink.faults l.fn.sink ≤ g.S.Sink.faults l.sink;
+    }
+
+abbrev pub decreases-loop-draws : goal.decreases-loop-draws
+decreases-loop-draws g l = 2 ^ 50 - l.made

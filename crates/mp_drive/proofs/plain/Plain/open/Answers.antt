@@ -1,0 +1,53 @@
+use Rattle.std.proofs.Common.{◌≡◌, ℕ, List, ap, ◌∙◌, subst}
+use Rattle.mp_names.specs.Logs.{Log}
+use Rattle.mp_names.specs.Outlines.{OutlineIsSound}
+use Rattle.mp_board.specs.Boards.{ShowsFrontiers}
+use Rattle.mp_job.specs.Legal.{JobIsLegal}
+use Rattle.mp_mailbox.specs.Queues.{empty_queues}
+use Rattle.mp_model.specs.Facts.{JobFacts}
+use Rattle.mp_outline.specs.JobOutline.{outline_of}
+use Rattle.mp_outline.proofs.Soundness.{outline_is_sound}
+use Rattle.mp_drive.specs.Kept.{together}
+use Rattle.mp_drive.proofs.Opened.{are_at_start, begin_reached}
+use Rattle.mp_drive.proofs.plain.Plain.open.Given as given
+use Rattle.mp_drive.proofs.plain.Plain.open.Goals as goal
+
+pub new_workers-requires-clause-opening : goal.new_workers-requires-clause-opening
+new_workers-requires-clause-opening g c κs within =
+    let o = outline_of (g.Q.Query.facts g.J.Naming.job.rules) g.J.Naming.job in
+    subst (λ (logs : List Log). ShowsFrontiers o logs c.seen.result) c.in_ok-board.ensures.logs c.seen.ensures.frontiers
+
+legal : (g : given.Over) (c : goal.In_ok-post g) → let job = g.J.Naming.job in JobIsLegal (g.Q.Query.facts job.rules) job
+legal g c = subst (λ (job : JobFacts). JobIsLegal (g.Q.Query.facts job.rules) job) c.requires.job c.shape.ensures.legal
+
+sound : (g : given.Over) (c : goal.In_ok-post g) → let job = g.J.Naming.job in OutlineIsSound (outline_of (g.Q.Query.facts job.rules) job)
+sound g c =
+    let laws = g.met.Q.Query g.world.𝓛 g.world.𝓜 g.world.𝓡 ((λ s x. x), (λ x. x), (λ x. x), λ x. x) in
+    let job = g.J.Naming.job in
+    outline_is_sound (g.Q.Query.facts job.rules) (laws.has_stages job.rules) (laws.posts_are_later job.rules) (laws.later_stages_post_nothing job.rules) job (legal g c)
+
+empty : (g : given.Over) (c : goal.In_ok-post g) → c.in_ok-post.post ≡ empty_queues g.J.Naming.job.shape.workers c.args.depth
+empty g c =
+    let count = ap (λ s. s.workers) c.shape.ensures.shape ∙ ap (λ (job : JobFacts). job.shape.workers) c.requires.job in
+    subst (λ (n : ℕ). c.in_ok-post.post ≡ empty_queues n c.args.depth) count c.in_ok-post.ensures.empty
+
+pub invariant_of-result : goal.invariant_of-result
+invariant_of-result g c =
+    let o = outline_of (g.Q.Query.facts g.J.Naming.job.rules) g.J.Naming.job in
+    let board = c.in_ok-board.ensures in
+    let workers = c.in_ok-workers.ensures in
+    let t = together c.in_ok-workers.workers.items c.in_ok-board.board c.in_ok-post.post in
+    record {
+      same = c.requires.job;
+      legal = legal g c;
+      reached = begin_reached o (sound g c) t c.args.depth workers.all workers.new board.logs board.version (empty g c);
+      goes_on = board.cause;
+    }
+
+pub returns-clause-start : goal.returns-clause-start
+returns-clause-start g c =
+    let o = outline_of (g.Q.Query.facts g.J.Naming.job.rules) g.J.Naming.job in
+    let board = c.in_ok-board.ensures in
+    let workers = c.in_ok-workers.ensures in
+    let t = together c.in_ok-workers.workers.items c.in_ok-board.board c.in_ok-post.post in
+    are_at_start o (sound g c) t c.args.depth workers.all workers.new board.logs board.version (empty g c)

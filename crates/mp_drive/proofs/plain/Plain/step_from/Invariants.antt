@@ -1,0 +1,17 @@
+use Rattle.std.proofs.Common.{◌≡◌, ◌≤◌, ℕ, List, [], Option}
+use Rattle.mp_outline.specs.JobOutline.{outline_of}
+use Rattle.mp_drive.specs.Driven.{HasWritten, LeadsOn}
+use Rattle.mp_drive.proofs.Tried.{NoneOf}
+use Rattle.mp_drive.proofs.plain.Plain.step_from.Given as goal
+
+abbrev pub invariant-loop-tried : goal.invariant-loop-tried
+invariant-loop-tried g l =
+    let q = g.Q.Query.facts g.J.Naming.job.rules in
+    let o = outline_of q g.J.Naming.job in
+    record {
+      still : LeadsOn o [] [] l.fn.self l.self;
+      none : NoneOf o l.fn.self l.start l.tried;
+      written : (before : Option (List ℕ)) → HasWritten q g.J.Naming.job.events before l.fn.self (g.S.Sink.written l.fn.sink) → HasWritten q g.J.Naming.job.events before l.self (g.S.Sink.written l.sink);
+      beside : g.S.Sink.beside l.sink ≡ g.S.Sink.beside l.fn.sink;
+      writes : g.S.Sink.faults l.fn.sink ≤ g.S.Sink.faults l.sink;
+    }

@@ -1,0 +1,20 @@
+use Rattle.std.proofs.Common.{[], ◌∷◌, length, ap, arith, length-append}
+use Rattle.mp_outline.specs.JobOutline.{outline_of}
+use Rattle.mp_drive.proofs.Opened.{is_new, one_more_new}
+use Rattle.mp_drive.proofs.plain.new_workers.Goals as goal
+
+pub loop-number-preserved : goal.loop-number-preserved
+loop-number-preserved g c =
+    let o = outline_of (g.Q.Query.facts g.J.Naming.job.rules) g.J.Naming.job in
+    let i = c.loop-number.invariant in
+    let number = c.loop-number.number in
+    let workers = c.loop-number.workers.items in
+    let worker = c.in_ok-new.field-0 in
+    let made = c.in_ok-new.ensures in
+    let pushed = c.push_reserved.ensures in
+    let is = is_new o number worker c.args.seen made.number made.log made.seen c.requires.version c.requires.opening in
+    record {
+      room = omega (arith, i.room, pushed.capacity);
+      many = omega (arith, ap length pushed.items, length-append workers (worker ∷ []), i.many);
+      new = one_more_new o number workers c.push_reserved.new.self.items worker i.new i.many is pushed.items;
+    }

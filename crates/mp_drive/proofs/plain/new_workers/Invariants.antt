@@ -1,0 +1,13 @@
+use Rattle.std.proofs.Common.{◌≡◌, ◌≤◌, ℕ, Some, length, vec_capacity}
+use Rattle.std.specs.Prelude.{slice_get}
+use Rattle.mp_outline.specs.JobOutline.{outline_of}
+use Rattle.mp_states.specs.Laws.{IsNewWorker}
+use Rattle.mp_states.specs.State.{WorkerState}
+use Rattle.mp_drive.proofs.plain.new_workers.Given as goal
+
+abbrev pub invariant-loop-number : goal.invariant-loop-number
+invariant-loop-number g l = record {
+  room : l.count ≤ vec_capacity l.workers;
+  many : length l.workers.items ≡ l.number;
+  new : (w : ℕ) (s : WorkerState) → slice_get l.workers.items w ≡ Some s → IsNewWorker (outline_of (g.Q.Query.facts g.J.Naming.job.rules) g.J.Naming.job) w s;
+}

@@ -1,0 +1,21 @@
+-- A run begins with nothing written, so what stands in the sink at its end is what the schedule wrote.
+use Rattle.std.proofs.Common.{◌≡◌, ℕ, OnErr, Option, List, sym, ap, ◌∙◌}
+use Rattle.std.proofs.lemmas.Result.{on_err_weaker}
+use Rattle.mp_outside.specs.Sink.{grown}
+use Rattle.mp_outside.proofs.SinkLemmas.{grown-nothing}
+use Rattle.mp_output.proofs.Writing.{on_err}
+use Rattle.mp_drive.specs.Driven.{HasWritten}
+use Rattle.mp_drive.proofs.run.replay.Goals as goal
+
+pub returns-in_err-plain-clause-part : goal.returns-in_err-plain-clause-part
+returns-in_err-plain-clause-part g c = on_err c.from_residual.result (0, sym (grown-nothing (g.S.Sink.written c.args.sink.now)))
+
+pub returns-clause-answer : goal.returns-clause-answer
+returns-clause-answer g c =
+    let before = g.S.Sink.written c.args.sink.now in
+    c.drive_seed.ensures.answer before (sym (grown-nothing before) ∙ ap (grown before) (sym c.in_ok-plain.ensures.nothing_written))
+
+pub returns-clause-part : goal.returns-clause-part
+returns-clause-part g c =
+    let before = g.S.Sink.written c.args.sink.now in
+    c.drive_seed.ensures.part before (sym (grown-nothing before) ∙ ap (grown before) (sym c.in_ok-plain.ensures.nothing_written))

@@ -1,0 +1,5 @@
+-- What the contracts of this crate cite.
+pub mod Draws
+pub mod Driven
+pub mod Kept
+pub mod Stops

@@ -1,0 +1,18 @@
+//! Workers driven on one thread, by any list of steps or by the seeded schedule: each run is a run of the machine, and what
+//! a finished run wrote is the one-thread answer.
+#![tactic(auto)]
+
+mod draws;
+mod list;
+mod places;
+mod plain;
+mod run;
+mod seed;
+mod stop;
+#[cfg(test)]
+mod tests;
+
+pub use draws::Draws;
+pub use plain::Plain;
+pub use run::replay;
+pub use stop::DriveStop;

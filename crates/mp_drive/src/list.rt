@@ -1,0 +1,50 @@
+//! Driving by a list of steps.
+ghost use Rattle.std.specs.Prelude.{◌≡◌, ◌≢◌, ◌<◌, ◌≤◌, ℕ, All, Err, IfOk, List, OnErr, OnOk, Option, map};
+ghost use Rattle.mp_outside.specs.Fault.{Rose};
+ghost use Rattle.mp_outline.specs.JobOutline.{outline_of};
+ghost use Rattle.mp_drive.specs.declared.stop.DriveStop.TheVariants.{Unfinished, Write};
+ghost use Rattle.mp_drive.specs.Driven.{HasBegun, HasWritten, LeadsOn, turn_in};
+
+use crate::{DriveStop, Plain};
+use mp_model::{Naming, Query};
+use mp_names::Kind;
+use mp_outside::Sink;
+use mp_worker::Turn;
+use std::alloc::Global;
+
+impl<'a, Q: Query, J: Naming> Plain<'a, Q, J> {
+    /// Makes the steps of a list, each a worker and a kind, in order: what each answered. The room for the answers is taken
+    /// before the first step. `Memory` and `Write` are those of the step that answered them; the steps before it stay.
+    pub fn drive_list<S: Sink>(
+        &mut self,
+        alloc: Global,
+        steps: &[(u32, Kind)],
+        sink: &mut S,
+    ) -> Result<Vec<Turn>, DriveStop>
+        requires workers { All (λ step. step.0 < J.job.shape.workers) steps.now }
+        ensures turns { let o = outline_of (Q.facts J.job.rules) J.job in
+            IfOk result (λ turns. LeadsOn o steps.now (map turn_in turns.items) self.old self.new) }
+        ensures never_unfinished { (n : ℕ) → result ≢ Err (Unfinished n) }
+
+        ensures written { let q = Q.facts J.job.rules in
+            (before : Option (List ℕ)) → HasWritten q J.job.events before self.old (S.written sink.old)
+            → OnOk result (HasWritten q J.job.events before self.new (S.written sink.new)) }
+        ensures part { let q = Q.facts J.job.rules in
+            (before : Option (List ℕ)) → HasWritten q J.job.events before self.old (S.written sink.old)
+            → OnErr result (HasBegun q J.job.events before (S.written sink.new)) }
+        ensures failed { result ≡ Err Write → Rose (S.faults sink.old) (S.faults sink.new) }
+        ensures beside { S.beside sink.new ≡ S.beside sink.old }
+        ensures writes { S.faults sink.old ≤ S.faults sink.new }
+    {
+        // From here on the invariant is known: what is written so far is a beginning of the answer.
+        let _ = &self.job;
+        let Ok(mut turns) = Vec::with_capacity(alloc, steps.len()) else {
+            return Err(DriveStop::Memory);
+        };
+        for (worker, kind) in steps {
+            let turn = self.step(*worker, *kind, sink)?;
+            turns.push_reserved(turn);
+        }
+        Ok(turns)
+    }
+}

@@ -1,0 +1,143 @@
+//! The workers of a job on one thread.
+ghost use Rattle.std.specs.Prelude.{◌≡◌, ◌≢◌, take, ◌<◌, ◌≤◌, ◌↔◌, ◌∷◌, [], ℕ, Err, IfOk, IsTrue, List, OnErr, OnOk, Option, Some, length, replicate, slice_get};
+ghost use Rattle.mp_names.specs.Logs.{empty_log};
+ghost use Rattle.mp_outside.specs.Fault.{Rose};
+ghost use Rattle.mp_model.specs.Answers.{one_thread_answer};
+ghost use Rattle.mp_outline.specs.JobOutline.{outline_of};
+ghost use Rattle.mp_machine.specs.Worlds.{start_of_machine};
+ghost use Rattle.mp_output.specs.Rows.{GivesRows};
+ghost use Rattle.mp_board.specs.Boards.{ShowsFrontiers};
+ghost use Rattle.mp_states.specs.Laws.{IsNewWorker};
+ghost use Rattle.mp_states.specs.State.{WorkerState};
+ghost use Rattle.mp_states.specs.Together.{AreWorld};
+ghost use Rattle.mp_answer.specs.Lines.{written_lines};
+ghost use Rattle.mp_drive.specs.declared.stop.DriveStop.TheVariants.{Unfinished, Write};
+ghost use Rattle.mp_drive.specs.Driven.{AllKnowTheEnd, HasBegun, HasWritten, LeadsOn, first_log, turn_in};
+
+use crate::DriveStop;
+use mp_board::{Board, OutlineOf};
+use mp_job::Job;
+use mp_mailbox::PlainPost;
+use mp_model::{Naming, Query};
+use mp_msg::Msg;
+use mp_names::Kind;
+use mp_outside::Sink;
+use mp_stamps::Seen;
+use mp_worker::{Stop, Turn, Worker};
+use std::alloc::{AllocError, Global};
+use std::marker::Model;
+
+/// The workers of the job J, their board and the mailboxes between them, for one thread. Contracts see a `Together`.
+#[derive(Drop)]
+pub struct Plain<'a, Q: Query, J: Naming> {
+    pub(crate) job: &'a Job<Q>,
+    // By their numbers.
+    pub(crate) workers: Vec<Worker<'a, Q, J>>,
+    pub(crate) board: Board<OutlineOf<Q, J>>,
+    pub(crate) post: PlainPost<Msg<Q, J>>,
+}
+
+impl<'a, Q: Query, J: Naming> Model for Plain<'a, Q, J> {
+    ghost use Rattle.mp_states.specs.Together.{Together};
+    ghost use Rattle.mp_drive.specs.Kept.{IsKept, together};
+
+    ghost Value = { Together };
+
+    ghost view = { λ p. together p.workers.items p.board p.post };
+
+    ghost invariant = { λ p.
+        IsKept (Q.facts J.job.rules) J.job p.job.now (together p.workers.items p.board p.post) };
+}
+
+impl<'a, Q: Query, J: Naming> Plain<'a, Q, J> {
+    /// Workers that have done nothing, with mailboxes that take `depth` messages each. The job has no control records yet,
+    /// and the query's last stage gives rows alone. `AllocError`: no memory.
+    pub fn open(alloc: Global, job: &'a Job<Q>, depth: u32) -> Result<Plain<'a, Q, J>, AllocError>
+        requires job { job.now ≡ J.job }
+        requires no_controls { J.job.controls ≡ [] }
+        requires rows { GivesRows (Q.facts J.job.rules) }
+        ensures start { let o = outline_of (Q.facts J.job.rules) J.job in
+            IfOk result (λ p. AreWorld o depth p (start_of_machine o)) }
+        ensures depth { IfOk result (λ p. p.post.depth ≡ depth) }
+        ensures nothing_written { IfOk result (λ p. written_lines (Q.facts J.job.rules) J.job.events (first_log p) ≡ []) }
+    {
+        let board = Board::open(alloc, job)?;
+        let workers = new_workers(alloc, job, board.seen())?;
+        let post = PlainPost::new(alloc, job.shape().workers, depth)?;
+        Ok(Plain {
+            job,
+            workers,
+            board,
+            post,
+        })
+    }
+
+    /// One step of a worker. `Memory`: no memory; `Write`: a write failed, which comes only of a write, where the sink's
+    /// count of faults rose in this call or stands at its last value, 2^64 - 1. With either no step is made, and a part of
+    /// the lines of the next time, from their front, may be written.
+    pub fn step<S: Sink>(
+        &mut self,
+        worker: u32,
+        kind: Kind,
+        sink: &mut S,
+    ) -> Result<Turn, DriveStop>
+        requires worker { worker < J.job.shape.workers }
+        ensures turn { let o = outline_of (Q.facts J.job.rules) J.job in
+            IfOk result (λ turn. LeadsOn o ((worker, kind) ∷ []) (turn_in turn ∷ []) self.old self.new) }
+        ensures refused { let o = outline_of (Q.facts J.job.rules) J.job in OnErr result (LeadsOn o [] [] self.old self.new) }
+        ensures steps { (n : ℕ) → result ≢ Err (Unfinished n) }
+
+        ensures written { let q = Q.facts J.job.rules in
+            (before : Option (List ℕ)) → HasWritten q J.job.events before self.old (S.written sink.old)
+            → OnOk result (HasWritten q J.job.events before self.new (S.written sink.new)) }
+        ensures part { let q = Q.facts J.job.rules in
+            (before : Option (List ℕ)) → HasWritten q J.job.events before self.old (S.written sink.old)
+            → OnErr result (HasBegun q J.job.events before (S.written sink.new)) }
+        ensures failed { result ≡ Err Write → Rose (S.faults sink.old) (S.faults sink.new) }
+        ensures beside { S.beside sink.new ≡ S.beside sink.old }
+        ensures writes { S.faults sink.old ≤ S.faults sink.new }
+    {
+        let worker = &mut self.workers[worker as usize];
+        match worker.step(kind, &mut self.post, &mut self.board, sink) {
+            Ok(turn) => Ok(turn),
+            Err(Stop::Write) => Err(DriveStop::Write),
+            Err(Stop::Memory) => Err(DriveStop::Memory),
+            Err(Stop::Other(_)) => unreachable!(),
+        }
+    }
+
+    /// Whether each worker knows that all is over. What worker 0 has written is a beginning of the one-thread answer, and
+    /// then all of it.
+    pub fn is_finished(&self) -> bool
+        ensures known { IsTrue result ↔ AllKnowTheEnd (outline_of (Q.facts J.job.rules) J.job) self.now }
+        ensures answer { let q = Q.facts J.job.rules in
+            IsTrue result → written_lines q J.job.events (first_log self.now) ≡ one_thread_answer q J.job.events }
+        ensures begun { let q = Q.facts J.job.rules in
+            (k : ℕ) × (written_lines q J.job.events (first_log self.now) ≡ take k (one_thread_answer q J.job.events)) }
+    {
+        self.workers.iter().all(|worker| worker.is_finished())
+    }
+}
+
+// A worker for each number, which has done nothing.
+fn new_workers<'a, Q: Query, J: Naming>(
+    alloc: Global,
+    job: &'a Job<Q>,
+    seen: Seen,
+) -> Result<Vec<Worker<'a, Q, J>>, AllocError>
+    requires job { job.now ≡ J.job }
+    requires no_controls { J.job.controls ≡ [] }
+    requires rows { GivesRows (Q.facts J.job.rules) }
+    requires version { seen.version ≡ 0 }
+    requires opening { ShowsFrontiers (outline_of (Q.facts J.job.rules) J.job) (replicate J.job.shape.workers empty_log) seen }
+    ensures all { IfOk result (λ workers. length workers.items ≡ J.job.shape.workers) }
+    ensures new { let o = outline_of (Q.facts J.job.rules) J.job in
+        IfOk result (λ workers. (w : ℕ) (s : WorkerState) → slice_get workers.items w ≡ Some s → IsNewWorker o w s) }
+{
+    let count = job.shape().workers;
+    let mut workers = Vec::with_capacity(alloc, count as usize)?;
+    for number in 0..count {
+        workers.push_reserved(Worker::new(alloc, job, number, seen)?);
+    }
+    Ok(workers)
+}

@@ -1,0 +1,24 @@
+//! Why driving ends early.
+ghost use Rattle.std.specs.Prelude.{◌≡◌};
+ghost use Rattle.mp_drive.specs.declared.stop.DriveStop.TheVariants.{Memory};
+
+use std::alloc::AllocError;
+
+/// Why workers on one thread are driven no further.
+#[derive(Clone, Copy, PartialEq, Eq, Debug)]
+pub enum DriveStop {
+    /// A write failed.
+    Write,
+    /// There was no memory.
+    Memory,
+    /// So many steps were made, and some worker doesn't know the end.
+    Unfinished(u64),
+}
+
+impl From<AllocError> for DriveStop {
+    ghost from_gives = { λ _ stop. stop ≡ Memory };
+
+    fn from(_: AllocError) -> Self {
+        DriveStop::Memory
+    }
+}
