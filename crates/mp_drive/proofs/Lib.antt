@@ -3,6 +3,7 @@ pub mod Leading
 pub mod Listed
 pub mod Numbered
 pub mod Opened
+pub mod RowsOfQ1
 pub mod Tried
 pub mod Turned
 pub mod Written

@@ -11,6 +11,8 @@ mod seed;
 mod stop;
 #[cfg(test)]
 mod tests;
+#[cfg(test)]
+mod worked;
 
 pub use draws::Draws;
 pub use plain::Plain;
