@@ -1,5 +1,5 @@
 -- What q1 gives are rows.
-use Rattle.std.specs.Prelude.{Option, List, [], ◌∷◌, All, IfSome}
+use Rattle.std.specs.Prelude.{List, [], ◌∷◌, All, IfSome}
 use Rattle.std.proofs.lemmas.List.Elements.{All-cons, All-nil}
 use Rattle.mp_model.proofs.Lists.{All-filter_map}
 use Rattle.mp_model.specs.declared.record.Rec.{Rec}

@@ -1,5 +1,5 @@
 -- The draws of a seeded schedule: a generator of Lehmer's, with the modulus 2^31 - 1.
-use Rattle.std.specs.Prelude.{ℕ, zero, suc, ◌+◌, ◌*◌, ◌%◌}
+use Rattle.std.specs.Prelude.{ℕ, ◌+◌, ◌*◌, ◌%◌}
 
 -- the state that a seed gives
 abbrev pub first_state : ℕ → ℕ

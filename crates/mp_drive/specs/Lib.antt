@@ -2,4 +2,3 @@
 pub mod Draws
 pub mod Driven
 pub mod Kept
-pub mod Stops

@@ -2,7 +2,7 @@
 ghost use Rattle.std.specs.Prelude.{◌≡◌, ◌≢◌, ◌<◌, ◌≤◌, ℕ, All, Err, IfOk, List, OnErr, OnOk, Option, map};
 ghost use Rattle.mp_outside.specs.Fault.{Rose};
 ghost use Rattle.mp_outline.specs.JobOutline.{outline_of};
-ghost use Rattle.mp_drive.specs.declared.stop.DriveStop.TheVariants.{Unfinished, Write};
+ghost use Rattle.mp_drive.specs.declared.stop.DriveStop.TheVariants.{Write};
 ghost use Rattle.mp_drive.specs.Driven.{HasBegun, HasWritten, LeadsOn, turn_in};
 
 use crate::{DriveStop, Plain};
@@ -24,7 +24,6 @@ impl<'a, Q: Query, J: Naming> Plain<'a, Q, J> {
         requires workers { All (λ step. step.0 < J.job.shape.workers) steps.now }
         ensures turns { let o = outline_of (Q.facts J.job.rules) J.job in
             IfOk result (λ turns. LeadsOn o steps.now (map turn_in turns.items) self.old self.new) }
-        ensures never_unfinished { (n : ℕ) → result ≢ Err (Unfinished n) }
 
         ensures written { let q = Q.facts J.job.rules in
             (before : Option (List ℕ)) → HasWritten q J.job.events before self.old (S.written sink.old)

@@ -11,7 +11,7 @@ ghost use Rattle.mp_states.specs.Laws.{IsNewWorker};
 ghost use Rattle.mp_states.specs.State.{WorkerState};
 ghost use Rattle.mp_states.specs.Together.{AreWorld};
 ghost use Rattle.mp_answer.specs.Lines.{written_lines};
-ghost use Rattle.mp_drive.specs.declared.stop.DriveStop.TheVariants.{Unfinished, Write};
+ghost use Rattle.mp_drive.specs.declared.stop.DriveStop.TheVariants.{Write};
 ghost use Rattle.mp_drive.specs.Driven.{AllKnowTheEnd, HasBegun, HasWritten, LeadsOn, first_log, turn_in};
 
 use crate::DriveStop;
@@ -85,7 +85,6 @@ impl<'a, Q: Query, J: Naming> Plain<'a, Q, J> {
         ensures turn { let o = outline_of (Q.facts J.job.rules) J.job in
             IfOk result (λ turn. LeadsOn o ((worker, kind) ∷ []) (turn_in turn ∷ []) self.old self.new) }
         ensures refused { let o = outline_of (Q.facts J.job.rules) J.job in OnErr result (LeadsOn o [] [] self.old self.new) }
-        ensures steps { (n : ℕ) → result ≢ Err (Unfinished n) }
 
         ensures written { let q = Q.facts J.job.rules in
             (before : Option (List ℕ)) → HasWritten q J.job.events before self.old (S.written sink.old)

@@ -6,7 +6,6 @@ ghost use Rattle.mp_model.specs.Answers.{one_thread_answer};
 ghost use Rattle.mp_output.specs.Rows.{GivesRows};
 ghost use Rattle.mp_drive.specs.declared.stop.DriveStop.TheVariants.{Write};
 ghost use Rattle.mp_drive.specs.Driven.{HasBegun};
-ghost use Rattle.mp_drive.specs.Stops.{IfUnfinished};
 
 use crate::{DriveStop, Plain};
 use mp_gate::Gate;
@@ -17,8 +16,9 @@ use std::alloc::Global;
 
 /// Runs a whole job on one thread, by the schedule of a seed, with mailboxes that take `depth` messages each, and writes the
 /// answer: how many steps were made. The job has no control records yet, and the query's last stage gives rows alone.
-/// `Memory`: no memory. `Write`: a write failed; only where the sink's count of faults rose in this call or stands at its
-/// last value, 2^64 - 1. `Unfinished`: 2^50 steps were made. With each of these a beginning of the answer is written.
+/// `Memory`: no memory, or more steps were made than a u64 counts, which no job that fits into memory has. `Write`: a write
+/// failed; only where the sink's count of faults rose in this call or stands at its last value, 2^64 - 1. With either a
+/// beginning of the answer is written.
 pub fn replay<Q: Query, J: Naming, S: Sink, G: Gate>(
     alloc: Global,
     job: &Job<Q>,
@@ -33,7 +33,6 @@ pub fn replay<Q: Query, J: Naming, S: Sink, G: Gate>(
     requires depth { 0 < depth }
     ensures answer { OnOk result (S.written sink.new ≡ grown (S.written sink.old) (one_thread_answer (Q.facts J.job.rules) J.job.events)) }
     ensures part { OnErr result (HasBegun (Q.facts J.job.rules) J.job.events (S.written sink.old) (S.written sink.new)) }
-    ensures unfinished { IfUnfinished result (λ n. n ≡ 2 ^ 50) }
     ensures failed { result ≡ Err Write → Rose (S.faults sink.old) (S.faults sink.new) }
     ensures beside { S.beside sink.new ≡ S.beside sink.old }
     ensures writes { S.faults sink.old ≤ S.faults sink.new }

@@ -7,10 +7,9 @@ ghost use Rattle.mp_outside.specs.Fault.{Rose};
 ghost use Rattle.mp_outside.specs.Sink.{grown};
 ghost use Rattle.mp_model.specs.Answers.{one_thread_answer};
 ghost use Rattle.mp_outline.specs.JobOutline.{outline_of};
-ghost use Rattle.mp_drive.specs.declared.stop.DriveStop.TheVariants.{Unfinished, Write};
+ghost use Rattle.mp_drive.specs.declared.stop.DriveStop.TheVariants.{Write};
 ghost use Rattle.mp_drive.specs.Driven.{AllKnowTheEnd, HasBegun, HasWritten, MakesStep, MakesSteps};
 ghost use Rattle.mp_machine.specs.Places.{places};
-ghost use Rattle.mp_drive.specs.Stops.{IfUnfinished};
 
 use crate::places::{count_of_places, place_at};
 use crate::{Draws, DriveStop, Plain};
@@ -19,15 +18,13 @@ use mp_model::{Naming, Query};
 use mp_outside::Sink;
 use mp_worker::Turn;
 
-/// After how many steps a run is given up: 2^50.
-pub const MAX_STEPS: u64 = 1 << 50;
-
 impl<'a, Q: Query, J: Naming> Plain<'a, Q, J> {
     /// Makes steps by the schedule of a seed (this project's profile) until each worker knows that all is over: how many
     /// were made, those that can't be made now not counted. While some worker doesn't know the end there is one draw; from
     /// the place that has its number, modulo the number of places, the steps are tried upward, wrapping round, until one is
-    /// made. The gate is passed before each. `Memory` and `Write` are those of the step that answered them; the steps
-    /// before it stay. `Unfinished`: `MAX_STEPS` steps were made.
+    /// made. The gate is passed before each. `Memory`: the step that answered it had no memory, or more steps were made than
+    /// a u64 counts, which no job that fits into memory has. `Write` is that of the step that answered it. The steps before
+    /// it stay.
     pub fn drive_seed<S: Sink, G: Gate>(
         &mut self,
         seed: u64,
@@ -37,7 +34,6 @@ impl<'a, Q: Query, J: Naming> Plain<'a, Q, J> {
         requires depth { 0 < self.old.post.depth }
         ensures finished { IfOk result (λ _. AllKnowTheEnd (outline_of (Q.facts J.job.rules) J.job) self.new) }
         ensures made { IfOk result (λ n. MakesSteps (outline_of (Q.facts J.job.rules) J.job) n self.old self.new) }
-        ensures unfinished { IfUnfinished result (λ n. n ≡ 2 ^ 50) }
 
         ensures answer { let q = Q.facts J.job.rules in
             (before : Option (List ℕ)) → HasWritten q J.job.events before self.old (S.written sink.old)
@@ -51,13 +47,13 @@ impl<'a, Q: Query, J: Naming> Plain<'a, Q, J> {
     {
         let places = count_of_places(self.job.shape());
         let mut draws = Draws::of(seed);
-        let mut made = 0;
+        let mut made: u64 = 0;
         while !self.is_finished() {
-            if made == MAX_STEPS {
-                return Err(DriveStop::Unfinished(made));
-            }
+            let Some(counted) = made.checked_add(1) else {
+                return Err(DriveStop::Memory);
+            };
             self.step_from(draws.draw() % places, gate, sink)?;
-            made += 1;
+            made = counted;
         }
         Ok(made)
     }
@@ -74,7 +70,6 @@ impl<'a, Q: Query, J: Naming> Plain<'a, Q, J> {
         requires unfinished { AllKnowTheEnd (outline_of (Q.facts J.job.rules) J.job) self.old → ⊥ }
         requires start { start < length (places (outline_of (Q.facts J.job.rules) J.job)) }
         ensures made { IfOk result (λ _. MakesStep (outline_of (Q.facts J.job.rules) J.job) self.old self.new) }
-        ensures never_unfinished { (n : ℕ) → result ≢ Err (Unfinished n) }
 
         ensures written { let q = Q.facts J.job.rules in
             (before : Option (List ℕ)) → HasWritten q J.job.events before self.old (S.written sink.old)

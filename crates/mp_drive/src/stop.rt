@@ -9,10 +9,8 @@ use std::alloc::AllocError;
 pub enum DriveStop {
     /// A write failed.
     Write,
-    /// There was no memory.
+    /// There was no memory, or more steps were made than a u64 counts.
     Memory,
-    /// So many steps were made, and some worker doesn't know the end.
-    Unfinished(u64),
 }
 
 impl From<AllocError> for DriveStop {

@@ -60,6 +60,23 @@ fn four_bids(alloc: Global) -> Result<Job<Q1>, AllocError>
     Ok(job)
 }
 
+// Three bids on one worker with one bin.
+fn three_bids(alloc: Global) -> Result<Job<Q1>, AllocError>
+    ensures controls { IfOk result (λ job. job.controls ≡ []) }
+{
+    let mut events = Vec::new(alloc);
+    events.push(bid(5, 7, 2, 100))?;
+    events.push(bid(3, 7, 1, 250))?;
+    events.push(bid(5, 2, 9, 99))?;
+    let shape = Shape {
+        workers: 1,
+        bins: 1,
+        stages: 1,
+    };
+    let job = Job::new(alloc, Q1 {}, events, Vec::new(alloc), shape)?;
+    Ok(job)
+}
+
 // Whether a worker makes a step of this kind.
 fn makes<'a, J: Naming>(
     job: &'a Job<Q1>,
@@ -168,6 +185,17 @@ fn four_bids_by_any_seed(rt: HostRuntime) -> Result<(), Fail> {
             sink.bytes(),
             b"5|1|1|356\n10|1|1|267\n20|1|1|178\n30|1|1|89\n".as_slice()
         );
+    }
+    Ok(())
+}
+
+#[test]
+fn three_bids_by_any_seed(rt: HostRuntime) -> Result<(), Fail> {
+    let job = three_bids(rt.alloc())?;
+    for seed in 0..10 {
+        let mut sink = MemSink::new(rt.alloc());
+        assert!(rt; replays::<Brand>(rt.alloc(), &job, seed, 60, &mut sink));
+        assert_eq!(rt; sink.bytes(), b"3|7|1|222\n5|2|9|88\n5|7|2|89\n".as_slice());
     }
     Ok(())
 }

@@ -1,8 +1,5 @@
-use Rattle.std.proofs.Common.{◌≡◌, ℕ, ◌+◌, ◌*◌, ◌^◌, length, refl, arith, ap, ◌∙◌, sym}
+use Rattle.std.proofs.Common.{◌+◌, ◌^◌, refl, arith}
 use Rattle.std.proofs.lemmas.Nat.{mul-le}
-use Rattle.mp_names.specs.Outlines.{Outline}
-use Rattle.mp_machine.specs.Places.{kinds_of, places}
-use Rattle.mp_machine.proofs.Places.{places_counted}
 use Rattle.mp_drive.proofs.Numbered.{length_kinds, some_outline, as_product}
 use Rattle.mp_drive.proofs.places.count_of_places.Goals as goal
 

@@ -1,10 +1,8 @@
 -- A run begins with nothing written, so what stands in the sink at its end is what the schedule wrote.
-use Rattle.std.proofs.Common.{◌≡◌, ℕ, OnErr, Option, List, sym, ap, ◌∙◌}
-use Rattle.std.proofs.lemmas.Result.{on_err_weaker}
+use Rattle.std.proofs.Common.{sym, ap, ◌∙◌}
 use Rattle.mp_outside.specs.Sink.{grown}
 use Rattle.mp_outside.proofs.SinkLemmas.{grown-nothing}
 use Rattle.mp_output.proofs.Writing.{on_err}
-use Rattle.mp_drive.specs.Driven.{HasWritten}
 use Rattle.mp_drive.proofs.run.replay.Goals as goal
 
 pub returns-in_err-plain-clause-part : goal.returns-in_err-plain-clause-part

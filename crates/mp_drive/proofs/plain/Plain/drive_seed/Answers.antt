@@ -1,4 +1,4 @@
-use Rattle.std.proofs.Common.{◌≡◌, ◌<◌, ◌≤◌, ◌%◌, ◌∙◌, ◌^◌, ℕ, List, Option, length, refl, sym, arith, subst, Err, ap}
+use Rattle.std.proofs.Common.{◌≡◌, ◌+◌, ◌<◌, ◌%◌, ◌∙◌, ℕ, refl, sym, arith, subst, Err, ap}
 use Rattle.std.proofs.Math.Nat.{mod-lt}
 use Rattle.std.proofs.lemmas.Result.{err_from_is_err_and}
 use Rattle.mp_names.specs.declared.controls.Shape.{Shape}
@@ -7,10 +7,9 @@ use Rattle.mp_outside.proofs.SinkLemmas.{rose_later}
 use Rattle.mp_model.specs.Facts.{JobFacts}
 use Rattle.mp_outline.specs.JobOutline.{outline_of}
 use Rattle.mp_outline.proofs.Soundness.{outline_is_sound}
-use Rattle.mp_machine.specs.Places.{places}
 use Rattle.mp_drive.specs.declared.stop.DriveStop.TheVariants.{Write}
 use Rattle.mp_drive.specs.Driven.{AreReached}
-use Rattle.mp_drive.proofs.Leading.{begins_by_none, leads_by_one_more, makes_steps}
+use Rattle.mp_drive.proofs.Leading.{LeadsBy, begins_by_none, leads_by_one_more, makes_steps}
 use Rattle.mp_drive.proofs.Numbered.{some_places}
 use Rattle.mp_drive.proofs.plain.Plain.drive_seed.Goals as goal
 
@@ -19,22 +18,21 @@ loop-draws-init g c =
     let o = outline_of (g.Q.Query.facts g.J.Naming.job.rules) g.J.Naming.job in
     record {
       by = begins_by_none o c.args.self.now;
-      few = omega arith;
       written = λ before had. had;
       beside = refl;
       writes = omega arith;
     }
 
-pub returns-then-made-eq-MAX_STEPS-clause-part : goal.returns-then-made-eq-MAX_STEPS-clause-part
-returns-then-made-eq-MAX_STEPS-clause-part g c = λ before had.
+pub returns-in_default-clause-part : goal.returns-in_default-clause-part
+returns-in_default-clause-part g c = λ before had.
     let begun = c.is_finished.ensures.begun in
     (begun.0, c.loop-draws.invariant.written before had ∙ ap (grown before) begun.1)
 
-pub returns-then-made-eq-MAX_STEPS-clause-beside : goal.returns-then-made-eq-MAX_STEPS-clause-beside
-returns-then-made-eq-MAX_STEPS-clause-beside g c = c.loop-draws.invariant.beside
+pub returns-in_default-clause-beside : goal.returns-in_default-clause-beside
+returns-in_default-clause-beside g c = c.loop-draws.invariant.beside
 
-pub returns-then-made-eq-MAX_STEPS-clause-writes : goal.returns-then-made-eq-MAX_STEPS-clause-writes
-returns-then-made-eq-MAX_STEPS-clause-writes g c = c.loop-draws.invariant.writes
+pub returns-in_default-clause-writes : goal.returns-in_default-clause-writes
+returns-in_default-clause-writes g c = c.loop-draws.invariant.writes
 
 pub nonzero_rem-draw : goal.nonzero_rem-draw
 nonzero_rem-draw g c =
@@ -79,21 +77,14 @@ returns-in_err-step_from-clause-writes g c =
     let here = c.in_err-step_from.ensures.writes in
     omega arith
 
-pub overflow_add-made : goal.overflow_add-made
-overflow_add-made g c = let few = c.loop-draws.invariant.few in omega arith
-
-pub loop-draws-smaller : goal.loop-draws-smaller
-loop-draws-smaller g c = let few = c.loop-draws.invariant.few in omega arith
-
 pub loop-draws-preserved : goal.loop-draws-preserved
 loop-draws-preserved g c =
     let o = outline_of (g.Q.Query.facts g.J.Naming.job.rules) g.J.Naming.job in
-    let few = c.loop-draws.invariant.few in
+    let counted : c.in-Some.counted ≡ c.loop-draws.made + 1 = c.in-Some.ensures.1 in
     let before = c.loop-draws.invariant.writes in
     let here = c.in_ok-step_from.ensures.writes in
     record {
-      by = leads_by_one_more o c.loop-draws.made c.args.self.now c.loop-draws.self c.step_from.new.self c.loop-draws.invariant.by c.in_ok-step_from.ensures.made;
-      few = omega arith;
+      by = subst (λ (n : ℕ). LeadsBy o n c.args.self.now c.step_from.new.self) (sym counted) (leads_by_one_more o c.loop-draws.made c.args.self.now c.loop-draws.self c.step_from.new.self c.loop-draws.invariant.by c.in_ok-step_from.ensures.made);
       written = λ before had. c.in_ok-step_from.ensures.written before (c.loop-draws.invariant.written before had);
       beside = c.in_ok-step_from.ensures.beside ∙ c.loop-draws.invariant.beside;
       writes = omega arith;

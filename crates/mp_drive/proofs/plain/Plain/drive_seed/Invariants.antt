@@ -9,11 +9,10 @@ invariant-loop-draws g l =
     let q = g.Q.Query.facts g.J.Naming.job.rules in
     record {
       by : LeadsBy (outline_of q g.J.Naming.job) l.made l.fn.self l.self;
-      few : l.made ≤ 2 ^ 50;
       written : (before : Option (List ℕ)) → HasWritten q g.J.Naming.job.events before l.fn.self (g.S.Sink.written l.fn.sink) → HasWritten q g.J.Naming.job.events before l.self (g.S.Sink.written l.sink);
       beside : g.S.Sink.beside l.sink ≡ g.S.Sink.beside l.fn.sink;
       writes : g.S.Sink.faults l.fn.sink ≤ g.S.Sink.faults l.sink;
     }
 
 abbrev pub decreases-loop-draws : goal.decreases-loop-draws
-decreases-loop-draws g l = 2 ^ 50 - l.made
+decreases-loop-draws g l = 2 ^ 64 - 1 - l.made

@@ -1,7 +1,5 @@
-use Rattle.std.proofs.Common.{◌≡◌, ◌<◌, ◌≤◌, ◌+◌, ◌%◌, ◌∙◌, ◌∷◌, [], ℕ, length, refl, sym, arith, subst, Err, Some, ap, slice_get}
+use Rattle.std.proofs.Common.{◌≡◌, ◌<◌, ◌+◌, ◌%◌, ◌∙◌, ◌∷◌, [], ℕ, length, refl, sym, arith, subst, Err, Some, ap, slice_get}
 use Rattle.mp_names.specs.declared.controls.Shape.{Shape}
-use Rattle.mp_names.specs.declared.kinds.Kind.{Kind}
-use Rattle.mp_names.specs.Outlines.{Outline}
 use Rattle.std.proofs.lemmas.Result.{err_from_is_err_and}
 use Rattle.mp_outside.proofs.SinkLemmas.{rose_later}
 use Rattle.mp_model.specs.Facts.{JobFacts}
