@@ -1,5 +1,5 @@
 -- The command set, as plain data that clap's definitions read.
-use Rattle.std.specs.Prelude.{true, Some, List, [], ◌∷◌, ℕ, codes}
+use Rattle.std.specs.Prelude.{true, Some, List, [], ◌∷◌, ◌++◌, ℕ, codes}
 use Rattle.clap.specs.Words.{App, Rule, Shape, new_app, new_rule, with_subcommand}
 use Rattle.clap.specs.Simple.{new_shape, on_top}
 use Rattle.clap.specs.declared.builder.action.ArgAction.TheVariants.{Set}
@@ -16,17 +16,28 @@ needed name = record (valued name) { required = true }
 abbrev pub defaulted : List ℕ → List ℕ → Rule
 defaulted name value = record (valued name) { defaults = value ∷ [] }
 
--- `run` with its seven options
+-- the options that both commands have
+abbrev pub shared_rules : List Rule
+shared_rules =
+    needed (codes "query") ∷ needed (codes "events") ∷ needed (codes "config") ∷ needed (codes "out")
+    ∷ defaulted (codes "workers") (codes "1") ∷ defaulted (codes "bins") (codes "16") ∷ defaulted (codes "depth") (codes "64") ∷ []
+
+-- a command with these options
+abbrev pub shared_shape : List ℕ → Shape
+shared_shape name = record (new_shape name) { rules = shared_rules }
+
+-- `run` has no more
 abbrev pub run_shape : Shape
-run_shape = record (new_shape (codes "run")) {
-  rules = needed (codes "query") ∷ needed (codes "events") ∷ needed (codes "config") ∷ needed (codes "out")
-      ∷ defaulted (codes "workers") (codes "1") ∷ defaulted (codes "bins") (codes "16") ∷ defaulted (codes "depth") (codes "64") ∷ [];
-}
+run_shape = shared_shape (codes "run")
+
+-- `replay` may have a seed
+abbrev pub replay_shape : Shape
+replay_shape = record (shared_shape (codes "replay")) { rules = shared_rules ++ valued (codes "seed") ∷ [] }
 
 -- no option of the program itself, none for help or the version, no command `help`, and a subcommand has to be there
 abbrev pub bare : Shape → Shape
 bare s = record s { disable_help_flag = true; disable_version_flag = true; disable_help_subcommand = true; subcommand_required = true }
 
--- the program, whose one subcommand is `run`
+-- the program, whose subcommands are `run` and `replay`
 unfoldable pub command_app : App
-command_app = with_subcommand (on_top bare (new_app (codes "megaphone"))) run_shape
+command_app = with_subcommand (with_subcommand (on_top bare (new_app (codes "megaphone"))) run_shape) replay_shape

@@ -1,11 +1,11 @@
 -- What holds of whatever a command asks for.
 use Rattle.std.specs.Prelude.{◌≡◌, ◌≢◌, ◌≤◌, ◌^◌, ℕ}
-use Rattle.mp_words.specs.declared.limits.TheConstants.{MAX_WORKERS, MAX_DEPTH}
+use Rattle.mp_words.specs.declared.limits.TheConstants.{MAX_WORKERS, MAX_DEPTH, MAX_SEED}
 use Rattle.mp_words.specs.declared.options.RunOptions.{RunOptions}
 
 -- a number is at least 1 and at most `most`
-abbrev pub IsUpTo : ℕ → ℕ → Type 0
-IsUpTo most n = (1 ≤ n) × (n ≤ most)
+abbrev pub IsPositiveUpTo : ℕ → ℕ → Type 0
+IsPositiveUpTo most n = (1 ≤ n) × (n ≤ most)
 
 -- a power of two from 1 to 256
 abbrev pub IsBinCount : ℕ → Type 0
@@ -13,8 +13,9 @@ IsBinCount bins = (k : ℕ) × (k ≤ 8) × (bins ≡ 2 ^ k)
 
 -- the numbers are within their limits, and the answer is written to neither of the files that are read
 pub record AreWithinLimits (options : RunOptions) : Type 0 where
-  pub workers : IsUpTo MAX_WORKERS options.workers
+  pub workers : IsPositiveUpTo MAX_WORKERS options.workers
   pub bins : IsBinCount options.bins
-  pub depth : IsUpTo MAX_DEPTH options.depth
+  pub depth : IsPositiveUpTo MAX_DEPTH options.depth
+  pub seed : options.seed ≤ MAX_SEED
   pub events : options.out.now ≢ options.events.now
   pub config : options.out.now ≢ options.config.now

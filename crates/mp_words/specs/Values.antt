@@ -1,13 +1,13 @@
 -- What values of options ask for.
-use Rattle.std.specs.Prelude.{ℕ, List, Option, Some, None, Result, Ok, Err, ◌||◌, ◌==◌, codes, if◌then◌else◌, option_and_then}
+use Rattle.std.specs.Prelude.{ℕ, List, Option, Some, None, ◌||◌, ◌==◌, codes, if◌then◌else◌, option_and_then}
 use Rattle.std.specs.Int.{is_power_of_two}
+use Rattle.std.specs.Result.{result_ok}
 use Rattle.std.specs.Str.{bytes_eq}
 use Rattle.mp_text.specs.Numbers.{number_of}
-use Rattle.mp_text.specs.declared.numbers.BadNumber.{BadNumber}
 use Rattle.clap.specs.Words.{Row, first_of}
-use Rattle.mp_words.specs.declared.limits.TheConstants.{MAX_WORKERS, MAX_BINS, MAX_DEPTH}
+use Rattle.mp_words.specs.declared.limits.TheConstants.{MAX_WORKERS, MAX_BINS, MAX_DEPTH, MAX_SEED}
 use Rattle.mp_words.specs.declared.options.QueryName.{QueryName}
-use Rattle.mp_words.specs.declared.options.QueryName.TheVariants.{Q1, Q2}
+use Rattle.mp_words.specs.declared.options.QueryName.TheVariants.{Q1, Q2, Q3, Q4, Q5, Q6, Q7, Q8}
 use Rattle.mp_words.specs.declared.options.RunOptions.{RunOptions}
 
 -- what a command asks for
@@ -19,6 +19,7 @@ pub record Options : Type 0 where
   pub workers : ℕ
   pub bins : ℕ
   pub depth : ℕ
+  pub seed : ℕ
 
 -- what the options that were read ask for
 abbrev pub options_in : RunOptions → Options
@@ -30,20 +31,33 @@ options_in o = record {
   workers = o.workers;
   bins = o.bins;
   depth = o.depth;
+  seed = o.seed;
 }
 
 -- the query of a name
 abbrev pub query_of : List ℕ → Option QueryName
-query_of name = if bytes_eq name (codes "q1") then Some Q1 else if bytes_eq name (codes "q2") then Some Q2 else None
+query_of name =
+    if bytes_eq name (codes "q1") then Some Q1
+    else if bytes_eq name (codes "q2") then Some Q2
+    else if bytes_eq name (codes "q3") then Some Q3
+    else if bytes_eq name (codes "q4") then Some Q4
+    else if bytes_eq name (codes "q5") then Some Q5
+    else if bytes_eq name (codes "q6") then Some Q6
+    else if bytes_eq name (codes "q7") then Some Q7
+    else if bytes_eq name (codes "q8") then Some Q8
+    else None
+
+-- the number from 0 to `most` that a text says
+abbrev pub number_up_to : ℕ → List ℕ → Option ℕ
+number_up_to most text = result_ok (number_of text most)
 
 -- a number that is at least 1
-abbrev pub positive : Result ℕ BadNumber → Option ℕ
-positive (Ok n) = if n == 0 then None else Some n
-positive (Err why) = None
+abbrev pub only_positive : ℕ → Option ℕ
+only_positive n = if n == 0 then None else Some n
 
 -- the number from 1 to `most` that a text says
-abbrev pub number_up_to : ℕ → List ℕ → Option ℕ
-number_up_to most text = positive (number_of text most)
+abbrev pub positive_up_to : ℕ → List ℕ → Option ℕ
+positive_up_to most text = option_and_then only_positive (number_up_to most text)
 
 -- a number that is a power of two
 abbrev pub only_power : ℕ → Option ℕ
@@ -51,22 +65,28 @@ only_power n = if is_power_of_two n then Some n else None
 
 -- the power of two from 1 to `most` that a text says
 abbrev pub power_up_to : ℕ → List ℕ → Option ℕ
-power_up_to most text = option_and_then only_power (number_up_to most text)
+power_up_to most text = option_and_then only_power (positive_up_to most text)
+
+-- the seed that a text says, and 0 where there is no text, as `run` has none
+abbrev pub seed_of : Option (List ℕ) → Option ℕ
+seed_of (Some text) = number_up_to MAX_SEED text
+seed_of None = Some 0
 
 -- all of them, where the answer's name is neither of the two others
-abbrev pub together : Option QueryName → Option (List ℕ) → Option (List ℕ) → Option (List ℕ) → Option ℕ → Option ℕ → Option ℕ → Option Options
-together (Some query) (Some events) (Some config) (Some out) (Some workers) (Some bins) (Some depth) =
+abbrev pub together : Option QueryName → Option (List ℕ) → Option (List ℕ) → Option (List ℕ) → Option ℕ → Option ℕ → Option ℕ → Option ℕ → Option Options
+together (Some query) (Some events) (Some config) (Some out) (Some workers) (Some bins) (Some depth) (Some seed) =
     if bytes_eq out events || bytes_eq out config then None
-    else Some (record { query = query; events = events; config = config; out = out; workers = workers; bins = bins; depth = depth })
-together _ _ _ _ _ _ _ = None
+    else Some (record { query = query; events = events; config = config; out = out; workers = workers; bins = bins; depth = depth; seed = seed })
+together _ _ _ _ _ _ _ _ = None
 
--- what the values that clap found for the options of `run` ask for, if each is allowed
+-- what the values that clap found for the options of a command ask for, if each is allowed
 abbrev pub options_of : List Row → Option Options
 options_of rows = together
     (option_and_then query_of (first_of (codes "query") rows))
     (first_of (codes "events") rows)
     (first_of (codes "config") rows)
     (first_of (codes "out") rows)
-    (option_and_then (number_up_to MAX_WORKERS) (first_of (codes "workers") rows))
+    (option_and_then (positive_up_to MAX_WORKERS) (first_of (codes "workers") rows))
     (option_and_then (power_up_to MAX_BINS) (first_of (codes "bins") rows))
-    (option_and_then (number_up_to MAX_DEPTH) (first_of (codes "depth") rows))
+    (option_and_then (positive_up_to MAX_DEPTH) (first_of (codes "depth") rows))
+    (seed_of (first_of (codes "seed") rows))

@@ -7,13 +7,13 @@ use Rattle.mp_words.specs.Values.{Options, options_of}
 
 -- the values of the subcommand that was met, where the words have no fault
 abbrev pub values_without : Kinds → Option (List ℕ × List Row) → Option (List Row)
-values_without [] met = option_map (λ run. run.1) met
+values_without [] met = option_map (λ used. used.1) met
 values_without (fault ∷ more) met = None
 
--- What clap finds for the options of `run` in words that it finds no fault with. The first word is the program's name,
--- whatever it is; `run` comes next; then the options in any order. An option's value is the word after it, which doesn't begin
--- with `-` unless it is `-` alone, or what stands in its own word after the first `=`. No option comes twice, a `--` at the end
--- is passed over, and any other word is a fault
+-- What clap finds for the options of a command in words that it finds no fault with. The first word is the program's name,
+-- whatever it is; `run` or `replay` comes next; then the options in any order. An option's value is the word after it, which
+-- doesn't begin with `-` unless it is `-` alone, or what stands in its own word after the first `=`. No option comes twice, a
+-- `--` at the end is passed over, and any other word is a fault
 unfoldable pub values_in : List (List ℕ) → Option (List Row)
 values_in words = values_without (fault_of command_app words) (subcommand_of command_app words)
 

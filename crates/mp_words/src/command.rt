@@ -2,29 +2,32 @@
 ghost use Rattle.std.specs.Prelude.{◌≡◌, IfOk, false};
 ghost use Rattle.clap.specs.Words.{app_of, rule_of, shape_of};
 ghost use Rattle.clap.specs.declared.builder.command.Command.TheViews.{out-Command};
-ghost use Rattle.mp_words.specs.Command.{needed, defaulted, run_shape, command_app};
+ghost use Rattle.mp_words.specs.Command.{valued, needed, defaulted, shared_shape, replay_shape, command_app};
 
 use clap::{Arg, ArgAction, Command};
 use std::alloc::{AllocError, Global};
 
-/// The program with its one subcommand. `--help`, `--version` and `help` are unknown words.
+/// The program with its two subcommands. `--help`, `--version` and `help` are unknown words.
 pub fn command<'a>(alloc: Global) -> Result<Command<'a>, AllocError>
     ensures { IfOk result (λ c. app_of c ≡ command_app) }
 {
-    let run = run_command(alloc)?;
+    let run = shared_command(alloc, "run")?;
+    let replay = replay_command(alloc)?;
     Command::new(alloc, "megaphone")
         .disable_help_flag(true)
         .disable_version_flag(true)
         .disable_help_subcommand(true)
         .subcommand_required(true)
-        .subcommand(run)
+        .subcommand(run)?
+        .subcommand(replay)
 }
 
-fn run_command<'a>(alloc: Global) -> Result<Command<'a>, AllocError>
-    ensures shape { IfOk result (λ c. shape_of c ≡ run_shape) }
+/// The command of this name, with the options that both have.
+fn shared_command<'a>(alloc: Global, name: &'a str) -> Result<Command<'a>, AllocError>
+    ensures shape { IfOk result (λ c. shape_of c ≡ shared_shape name.entry.now) }
     ensures local { IfOk result (λ c. (out-Command c).has_globals ≡ false) }
 {
-    Command::new(alloc, "run")
+    Command::new(alloc, name)
         .arg(needed(alloc, "query"))?
         .arg(needed(alloc, "events"))?
         .arg(needed(alloc, "config"))?
@@ -34,15 +37,28 @@ fn run_command<'a>(alloc: Global) -> Result<Command<'a>, AllocError>
         .arg(defaulted(alloc, "depth", "64"))
 }
 
+/// `replay`, which may have a seed beside them.
+fn replay_command<'a>(alloc: Global) -> Result<Command<'a>, AllocError>
+    ensures shape { IfOk result (λ c. shape_of c ≡ replay_shape) }
+    ensures local { IfOk result (λ c. (out-Command c).has_globals ≡ false) }
+{
+    shared_command(alloc, "replay")?.arg(valued(alloc, "seed"))
+}
+
+/// The option `--name`, which takes one value.
+fn valued<'a>(alloc: Global, name: &'a str) -> Arg<'a>
+    ensures rule { rule_of result ≡ valued name.entry.now }
+    ensures local { result.global ≡ false }
+{
+    Arg::new(alloc, name).long(name).action(ArgAction::Set)
+}
+
 /// The option `--name`, which has to be there.
 fn needed<'a>(alloc: Global, name: &'a str) -> Arg<'a>
     ensures rule { rule_of result ≡ needed name.entry.now }
     ensures local { result.global ≡ false }
 {
-    Arg::new(alloc, name)
-        .long(name)
-        .action(ArgAction::Set)
-        .required(true)
+    valued(alloc, name).required(true)
 }
 
 /// The option `--name`, which says `value` where it isn't there.
@@ -50,8 +66,5 @@ fn defaulted<'a>(alloc: Global, name: &'a str, value: &'a str) -> Arg<'a>
     ensures rule { rule_of result ≡ defaulted name.entry.now value.entry.now }
     ensures local { result.global ≡ false }
 {
-    Arg::new(alloc, name)
-        .long(name)
-        .action(ArgAction::Set)
-        .default_value(value)
+    valued(alloc, name).default_value(value)
 }

@@ -1,8 +1,8 @@
 //! The words of megaphone's command line: what they ask for, or that they are no command.
 //!
-//! clap reads the words, with each value as text: the name of the program, `run`, and the options
-//! `--query`, `--events`, `--config`, `--out`, `--workers`, `--bins` and `--depth`, each at most once. The
-//! query, the numbers, their ranges and the names are checked after it.
+//! clap reads the words, with each value as text: the name of the program, `run` or `replay`, and the
+//! options `--query`, `--events`, `--config`, `--out`, `--workers`, `--bins` and `--depth`, and for `replay`
+//! `--seed`, each at most once. The query, the numbers, their ranges and the names are checked after it.
 #![tactic(auto)]
 
 mod command;
@@ -14,7 +14,7 @@ mod tests;
 mod values;
 mod words;
 
-pub use limits::{MAX_BINS, MAX_DEPTH, MAX_WORKERS};
+pub use limits::{MAX_BINS, MAX_DEPTH, MAX_SEED, MAX_WORKERS};
 pub use options::{QueryName, RunOptions};
 pub use refused::WordsRefused;
 pub use words::parse;

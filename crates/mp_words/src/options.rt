@@ -7,9 +7,21 @@ pub enum QueryName {
     Q1,
     /// `q2`
     Q2,
+    /// `q3`
+    Q3,
+    /// `q4`
+    Q4,
+    /// `q5`
+    Q5,
+    /// `q6`
+    Q6,
+    /// `q7`
+    Q7,
+    /// `q8`
+    Q8,
 }
 
-/// What `run` is to do. The names are as the words say them, the empty name among them.
+/// What a command is to do. The names are as the words say them, the empty name among them.
 #[derive(Clone, Copy, PartialEq, Eq, Debug)]
 pub struct RunOptions<'a> {
     /// The query of the dataflow.
@@ -26,4 +38,6 @@ pub struct RunOptions<'a> {
     pub bins: u32,
     /// How many messages a mailbox holds at most, from 1 to [`MAX_DEPTH`](crate::MAX_DEPTH).
     pub depth: u32,
+    /// The seed of the schedule, from 0 to [`MAX_SEED`](crate::MAX_SEED): what `replay` says, and 0 for `run`.
+    pub seed: u64,
 }

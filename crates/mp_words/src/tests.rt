@@ -12,6 +12,7 @@ const ASKED: RunOptions<'static> = RunOptions {
     workers: 1,
     bins: 16,
     depth: 64,
+    seed: 0,
 };
 
 /// The words of a line, cut at blanks: two blanks side by side make an empty word.
@@ -38,10 +39,12 @@ fn parses_as<R: AllocGlobal + Abort>(
 fn options_come_in_any_order(rt: HostRuntime) -> Result<(), Fail> {
     let full = RunOptions {
         query: QueryName::Q2,
+        workers: 3,
         bins: 32,
         depth: 5,
         ..ASKED
     };
+    let seeded = RunOptions { seed: 9, ..full };
     let rows = [
         ("m run --query q1 --events e --config c --out o", ASKED),
         (
@@ -50,16 +53,49 @@ fn options_come_in_any_order(rt: HostRuntime) -> Result<(), Fail> {
         ),
         (" run --query q1 --events e --config c --out o", ASKED),
         (
-            "m run --query q2 --events e --config c --out o --workers 1 --bins 32 --depth 5",
+            "m run --query q2 --events e --config c --out o --workers 3 --bins 32 --depth 5",
             full,
         ),
         (
-            "m run --depth 5 --out o --bins 32 --config c --workers 1 --events e --query q2",
+            "m run --depth 5 --out o --bins 32 --config c --workers 3 --events e --query q2",
             full,
+        ),
+        ("m replay --query q1 --events e --config c --out o", ASKED),
+        (
+            "m replay --query q2 --events e --config c --out o --workers 3 --bins 32 --depth 5 --seed 9",
+            seeded,
+        ),
+        (
+            "m replay --seed 9 --depth 5 --out o --bins 32 --config c --workers 3 --events e --query q2",
+            seeded,
         ),
     ];
     for (line, want) in rows {
         parses_as(&rt, line, Ok(want))?;
+    }
+    Ok(())
+}
+
+#[test]
+fn queries_are_q1_to_q8(rt: HostRuntime) -> Result<(), Fail> {
+    let rows = [
+        ("q1", QueryName::Q1),
+        ("q2", QueryName::Q2),
+        ("q3", QueryName::Q3),
+        ("q4", QueryName::Q4),
+        ("q5", QueryName::Q5),
+        ("q6", QueryName::Q6),
+        ("q7", QueryName::Q7),
+        ("q8", QueryName::Q8),
+    ];
+    for (name, query) in rows {
+        let line = format!(in rt.alloc(); "m run --query {name} --events e --config c --out o")?;
+        parses_as(&rt, line.as_str(), Ok(RunOptions { query, ..ASKED }))?;
+    }
+    let rows = ["q0", "q9", "q10", "q01", "q", "", "1", "Q1", "q1q2"];
+    for name in rows {
+        let line = format!(in rt.alloc(); "m run --query {name} --events e --config c --out o")?;
+        parses_as(&rt, line.as_str(), Err(WordsRefused::Usage))?;
     }
     Ok(())
 }
@@ -99,6 +135,14 @@ fn clap_decides_the_words(rt: HostRuntime) -> Result<(), Fail> {
                 ..ASKED
             },
         ),
+        (
+            "m replay --query q1 --events replay --config c --out=--seed",
+            RunOptions {
+                events: "replay",
+                out: "--seed",
+                ..ASKED
+            },
+        ),
     ];
     for (line, want) in rows {
         parses_as(&rt, line, Ok(want))?;
@@ -132,6 +176,7 @@ fn names_may_be_empty_or_coincide(rt: HostRuntime) -> Result<(), Fail> {
         "m run --query q1 --events e --config o --out o",
         "m run --query q1 --events o --config o --out o",
         "m run --query q1 --events  --config c --out ",
+        "m replay --query q1 --events o --config c --out o",
     ];
     for line in rows {
         parses_as(&rt, line, Err(WordsRefused::Usage))?;
@@ -143,6 +188,13 @@ fn names_may_be_empty_or_coincide(rt: HostRuntime) -> Result<(), Fail> {
 fn numbers_have_limits(rt: HostRuntime) -> Result<(), Fail> {
     let rows = [
         ("--workers 001", ASKED),
+        (
+            "--workers 16",
+            RunOptions {
+                workers: 16,
+                ..ASKED
+            },
+        ),
         ("--bins 1", RunOptions { bins: 1, ..ASKED }),
         ("--bins 0256", RunOptions { bins: 256, ..ASKED }),
         ("--depth 1", RunOptions { depth: 1, ..ASKED }),
@@ -160,8 +212,8 @@ fn numbers_have_limits(rt: HostRuntime) -> Result<(), Fail> {
     }
     let rows = [
         "--workers 0",
-        "--workers 2",
-        "--workers 007",
+        "--workers 17",
+        "--workers 017",
         "--workers x",
         "--workers ",
         "--workers +1",
@@ -185,22 +237,63 @@ fn numbers_have_limits(rt: HostRuntime) -> Result<(), Fail> {
 }
 
 #[test]
+fn replay_takes_a_seed(rt: HostRuntime) -> Result<(), Fail> {
+    let rows = [
+        ("", 0),
+        (" --seed 0", 0),
+        (" --seed 1", 1),
+        (" --seed=007", 7),
+        (" --seed 281474976710656", 1 << 48),
+    ];
+    for (more, seed) in rows {
+        let line = format!(in rt.alloc();
+            "m replay --query q1 --events e --config c --out o{more}"
+        )?;
+        parses_as(&rt, line.as_str(), Ok(RunOptions { seed, ..ASKED }))?;
+    }
+    let rows = [
+        " --seed",
+        " --seed ",
+        " --seed x",
+        " --seed +1",
+        " --seed=-1",
+        " --seed 281474976710657",
+        " --seed 18446744073709551616",
+        " --seed 1 --seed 1",
+        " --seed 1 2",
+        " --seeds 1",
+    ];
+    for more in rows {
+        let line = format!(in rt.alloc();
+            "m replay --query q1 --events e --config c --out o{more}"
+        )?;
+        parses_as(&rt, line.as_str(), Err(WordsRefused::Usage))?;
+    }
+    Ok(())
+}
+
+#[test]
 fn words_refused(rt: HostRuntime) -> Result<(), Fail> {
     let rows = [
         "m",
         "",
         "run",
         "m run",
+        "m replay",
+        "m check",
+        "m make",
+        "m demo",
         "m walk --query q1 --events e --config c --out o",
         "m ru --query q1 --events e --config c --out o",
         "m --query q1 --events e --config c --out o",
         "m --query q1 run --events e --config c --out o",
         "m -- run --query q1 --events e --config c --out o",
         "m run run --query q1 --events e --config c --out o",
-        "m run --query q9 --events e --config c --out o",
-        "m run --query Q1 --events e --config c --out o",
-        "m run --query q --events e --config c --out o",
-        "m run --query  --events e --config c --out o",
+        "m run replay --query q1 --events e --config c --out o",
+        "m run --query q1 --events e --config c --out o replay",
+        "m check --query q1 --events e --config c --out o",
+        "m re --query q1 --events e --config c --out o",
+        "m --seed 0 replay --query q1 --events e --config c --out o",
         "m run --events e --config c --out o",
         "m run --query q1 --config c --out o",
         "m run --query q1 --events e --out o",
@@ -243,6 +336,10 @@ fn help_and_version_are_unknown_words(rt: HostRuntime) -> Result<(), Fail> {
         let line = format!(in rt.alloc(); "m {word} run --query q1 --events e --config c --out o")?;
         parses_as(&rt, line.as_str(), Err(WordsRefused::Usage))?;
         let line = format!(in rt.alloc(); "m run --query q1 --events e --config c --out o {word}")?;
+        parses_as(&rt, line.as_str(), Err(WordsRefused::Usage))?;
+        let line = format!(in rt.alloc();
+            "m replay --query q1 --events e --config c --out o {word}"
+        )?;
         parses_as(&rt, line.as_str(), Err(WordsRefused::Usage))?;
     }
     Ok(())

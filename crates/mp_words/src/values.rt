@@ -1,16 +1,16 @@
 //! The values of the options, checked one by one.
-ghost use Rattle.std.specs.Prelude.{◌≡◌, IfSome, option_map, option_and_then};
+ghost use Rattle.std.specs.Prelude.{◌≡◌, ◌≤◌, IfSome, option_map, option_and_then};
 ghost use Rattle.clap.specs.Words.{first_of, found_of, rows_of};
-ghost use Rattle.mp_words.specs.Limits.{IsUpTo, IsBinCount, AreWithinLimits};
-ghost use Rattle.mp_words.specs.declared.limits.TheConstants.{MAX_BINS};
-ghost use Rattle.mp_words.specs.Values.{query_of, number_up_to, power_up_to, options_in, options_of};
+ghost use Rattle.mp_words.specs.Limits.{IsPositiveUpTo, IsBinCount, AreWithinLimits};
+ghost use Rattle.mp_words.specs.declared.limits.TheConstants.{MAX_BINS, MAX_SEED};
+ghost use Rattle.mp_words.specs.Values.{query_of, number_up_to, positive_up_to, power_up_to, seed_of, options_in, options_of};
 
-use crate::limits::{MAX_BINS, MAX_DEPTH, MAX_WORKERS};
+use crate::limits::{MAX_BINS, MAX_DEPTH, MAX_SEED, MAX_WORKERS};
 use crate::options::{QueryName, RunOptions};
 use clap::ArgMatches;
 use mp_text::number;
 
-/// What the options of `run` ask for, or `None` where a value isn't allowed.
+/// What the options of a command ask for, or `None` where a value isn't allowed.
 pub fn run_options<'a>(matches: &ArgMatches<'a>) -> Option<RunOptions<'a>>
     ensures asked { option_map options_in result ≡ options_of (rows_of (found_of matches.now)) }
     ensures within { IfSome result AreWithinLimits }
@@ -20,9 +20,10 @@ pub fn run_options<'a>(matches: &ArgMatches<'a>) -> Option<RunOptions<'a>>
         events: text(matches, "events")?,
         config: text(matches, "config")?,
         out: text(matches, "out")?,
-        workers: number_within(text(matches, "workers")?, MAX_WORKERS)?,
+        workers: positive_number(text(matches, "workers")?, MAX_WORKERS)?,
         bins: bins_named(text(matches, "bins")?)?,
-        depth: number_within(text(matches, "depth")?, MAX_DEPTH)?,
+        depth: positive_number(text(matches, "depth")?, MAX_DEPTH)?,
+        seed: seed_named(text(matches, "seed"))?,
     };
     if options.out == options.events || options.out == options.config {
         None
@@ -31,7 +32,7 @@ pub fn run_options<'a>(matches: &ArgMatches<'a>) -> Option<RunOptions<'a>>
     }
 }
 
-/// The value of an option, as text.
+/// The value of an option, as text, or `None` where it has none.
 fn text<'a>(matches: &ArgMatches<'a>, name: &str) -> Option<&'a str>
     ensures { option_map (λ s. s.now) result ≡ first_of name.now (rows_of (found_of matches.now)) }
 {
@@ -45,18 +46,32 @@ fn query_named(name: &str) -> Option<QueryName>
     match name {
         "q1" => Some(QueryName::Q1),
         "q2" => Some(QueryName::Q2),
+        "q3" => Some(QueryName::Q3),
+        "q4" => Some(QueryName::Q4),
+        "q5" => Some(QueryName::Q5),
+        "q6" => Some(QueryName::Q6),
+        "q7" => Some(QueryName::Q7),
+        "q8" => Some(QueryName::Q8),
         _ => None,
     }
 }
 
-/// The number from 1 to `most` that a text says.
+/// The number from 0 to `most` that a text says.
 #[tactic(auto, using(crate::proofs::Numbers::within))]
-fn number_within(text: &str, most: u32) -> Option<u32>
+fn number_within(text: &str, most: u64) -> Option<u64>
     ensures value { result ≡ number_up_to most text.now }
-    ensures within { IfSome result (IsUpTo most) }
+    ensures within { IfSome result (λ number. number ≤ most) }
 {
-    match number(text.as_bytes(), u64::from(most)) {
-        Ok(number) if number > 0 => Some(number as u32),
+    number(text.as_bytes(), most).ok()
+}
+
+/// The number from 1 to `most` that a text says.
+fn positive_number(text: &str, most: u32) -> Option<u32>
+    ensures value { result ≡ positive_up_to most text.now }
+    ensures within { IfSome result (IsPositiveUpTo most) }
+{
+    match number_within(text, u64::from(most)) {
+        Some(number) if number > 0 => Some(number as u32),
         _ => None,
     }
 }
@@ -66,10 +81,21 @@ fn bins_named(text: &str) -> Option<u32>
     ensures value { result ≡ power_up_to MAX_BINS text.now }
     ensures within { IfSome result IsBinCount }
 {
-    let bins = number_within(text, MAX_BINS)?;
+    let bins = positive_number(text, MAX_BINS)?;
     if bins.is_power_of_two() {
         Some(bins)
     } else {
         None
+    }
+}
+
+/// The seed that a text says, and 0 where there is no text.
+fn seed_named(text: Option<&str>) -> Option<u64>
+    ensures value { result ≡ seed_of (option_map (λ s. s.now) text.entry) }
+    ensures within { IfSome result (λ seed. seed ≤ MAX_SEED) }
+{
+    match text {
+        Some(text) => number_within(text, MAX_SEED),
+        None => Some(0),
     }
 }

@@ -25,12 +25,12 @@ pub fn parse<'a>(alloc: Global, words: &'a [String]) -> Result<RunOptions<'a>, W
     options_found(&matches).ok_or(WordsRefused::Usage)
 }
 
-/// What the options of the subcommand that was used ask for.
+/// What the options of the command that was used ask for.
 fn options_found<'a>(matches: &ArgMatches<'a>) -> Option<RunOptions<'a>>
     ensures asked { option_map options_in result
         ≡ option_and_then (λ run. options_of run.1) (subcommand_rows_of matches.now) }
     ensures within { IfSome result AreWithinLimits }
 {
-    let (_, run) = matches.subcommand()?;
-    run_options(run)
+    let (_, options) = matches.subcommand()?;
+    run_options(options)
 }

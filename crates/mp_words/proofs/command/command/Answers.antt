@@ -1,4 +1,4 @@
--- Four settings and a subcommand.
+-- Four settings and two subcommands.
 use Rattle.std.proofs.Common.{◌≡◌, ◌∙◌, ap, ap₂, true, codes}
 use Rattle.std.proofs.lemmas.Result.{IfOk-weaker}
 use Rattle.clap.specs.Words.{Shape, app_of, new_app, with_subcommand}
@@ -14,5 +14,6 @@ returns c =
     let third = ap app_of_fields c.disable_help_subcommand.ensures ∙ ap (on_top (λ (s : Shape). record s { disable_help_subcommand = true })) second in
     let top : app_of c.subcommand_required.result ≡ on_top bare (new_app (codes "megaphone")) =
     ap app_of_fields c.subcommand_required.ensures ∙ ap (on_top (λ (s : Shape). record s { subcommand_required = true })) third in
-    IfOk-weaker c.subcommand.result _ _
-    (λ whole adds. adds.shape c.in_ok-run.ensures.local ∙ ap₂ with_subcommand top c.in_ok-run.ensures.shape) c.subcommand.ensures
+    let one = c.in_ok-subcommand.ensures.shape c.in_ok-run.ensures.local ∙ ap₂ with_subcommand top c.in_ok-run.ensures.shape in
+    IfOk-weaker c.subcommand-2.result _ _
+    (λ whole adds. adds.shape c.in_ok-replay.ensures.local ∙ ap₂ with_subcommand one c.in_ok-replay.ensures.shape) c.subcommand-2.ensures

@@ -3,11 +3,11 @@ use Rattle.std.proofs.Common.{ap}
 use Rattle.std.proofs.lemmas.Result.{IfOk-weaker}
 use Rattle.clap.specs.Words.{App}
 use Rattle.mp_words.proofs.Shapes.{Stands, added}
-use Rattle.mp_words.proofs.command.run_command.Goals as goal
+use Rattle.mp_words.proofs.command.shared_command.Goals as goal
 
 pub returns : goal.returns
 returns c =
-    let start : Stands _ c.new.result = record { shape = c.new.ensures.app; local = c.new.ensures.local } in
+    let start : Stands _ c.new.result = record { shape = ap (λ (a : App). a.top) c.new.ensures.app; local = c.new.ensures.local } in
     let first = added _ _ _ _ _ start c.in_ok-arg.ensures c.needed.ensures.rule c.needed.ensures.local in
     let second = added _ _ _ _ _ first c.in_ok-arg-2.ensures c.needed-2.ensures.rule c.needed-2.ensures.local in
     let third = added _ _ _ _ _ second c.in_ok-arg-3.ensures c.needed-3.ensures.rule c.needed-3.ensures.local in
@@ -16,8 +16,7 @@ returns c =
     let sixth = added _ _ _ _ _ fifth c.in_ok-arg-6.ensures c.defaulted-2.ensures.rule c.defaulted-2.ensures.local in
     record {
       shape = IfOk-weaker c.arg-7.result _ _
-          (λ last adds. ap (λ (a : App). a.top) (added _ _ _ _ last sixth adds c.defaulted-3.ensures.rule c.defaulted-3.ensures.local).shape)
-          c.arg-7.ensures;
+          (λ last adds. (added _ _ _ _ last sixth adds c.defaulted-3.ensures.rule c.defaulted-3.ensures.local).shape) c.arg-7.ensures;
       local = IfOk-weaker c.arg-7.result _ _
           (λ last adds. (added _ _ _ _ last sixth adds c.defaulted-3.ensures.rule c.defaulted-3.ensures.local).local) c.arg-7.ensures;
     }
