@@ -9,7 +9,7 @@ use Rattle.mp_events.specs.Events.{events_of}
 use Rattle.mp_words.specs.Values.{Options}
 use Rattle.mp_cli.specs.Config.{bad_line_of}
 use Rattle.mp_events.specs.declared.refused.EventsReason.{EventsReason}
-use Rattle.mp_cli.specs.Outcome.{Outcome, Answered, ConfigRefused, EventsRefused, events_refusal, WriteFault, NoMemory, with_text, refusal_of_config, refusal_of_events, after_config, after_events, called_for, MayCome, MayFail}
+use Rattle.mp_cli.specs.Outcome.{Outcome, Answered, ConfigRefused, EventsRefused, events_refusal, with_text, refusal_of_config, refusal_of_events, after_config, after_events, called_for, MayCome, MayFail, StopsAnswer}
 use Rattle.mp_cli.specs.Reading.{IsRead, CannotRead, absent, large, failed, no_memory, ReadsConfig, ReadsEvents, RefusedBy}
 
 -- the bytes of a name that is there with a property, where files are told
@@ -103,20 +103,20 @@ answer_called_for files asked events r config =
     let f = read_goes_on files asked.config config.0 after_config config.1 in
     e ∙ f ∙ rw config.2 refl
 
--- the writing failed
-fails_writing : (called o : Outcome) → called ≡ Answered → (o ≡ WriteFault) ⊎ (o ≡ NoMemory) → MayFail called o
-fails_writing called o answered (inl e) = subst (MayFail called) (sym e) answered
-fails_writing called o answered (inr e) = subst (MayFail called) (sym e) tt
+-- the writing was stopped
+stopped_writing : (called o : Outcome) → called ≡ Answered → StopsAnswer o → MayFail called o
+stopped_writing called o answered (inl e) = subst (MayFail called) (sym e) answered
+stopped_writing called o answered (inr e) = subst (MayFail called) (sym e) tt
 
--- where nothing is told, a fault of the writing is of the command
-fails_untold : (asked : Options) (o : Outcome) → (o ≡ WriteFault) ⊎ (o ≡ NoMemory) → MayCome (Some asked) None o
-fails_untold asked o (inl e) = let P : Outcome → Type 0 = λ x. MayCome (Some asked) None x in subst P (sym e) tt
-fails_untold asked o (inr e) = let P : Outcome → Type 0 = λ x. MayCome (Some asked) None x in subst P (sym e) tt
+-- where nothing is told, what stopped the writing is of the command
+stopped_untold : (asked : Options) (o : Outcome) → StopsAnswer o → MayCome (Some asked) None o
+stopped_untold asked o (inl e) = let P : Outcome → Type 0 = λ x. MayCome (Some asked) None x in subst P (sym e) tt
+stopped_untold asked o (inr e) = let P : Outcome → Type 0 = λ x. MayCome (Some asked) None x in subst P (sym e) tt
 
 -- what comes of the writing
-pub may_end : {T R : Type 0} (outcome : R → Outcome) (result : Result T R) (told : Option Files) (asked : Options) (events : List Event) → ReadsEvents told asked.events events → ReadsConfig told asked.config → IfErr result (λ r. (outcome r ≡ WriteFault) ⊎ (outcome r ≡ NoMemory)) → MatchResult result (λ _. MayCome (Some asked) told Answered) (λ r. MayCome (Some asked) told (outcome r))
+pub may_end : {T R : Type 0} (outcome : R → Outcome) (result : Result T R) (told : Option Files) (asked : Options) (events : List Event) → ReadsEvents told asked.events events → ReadsConfig told asked.config → IfErr result (λ r. StopsAnswer (outcome r)) → MatchResult result (λ _. MayCome (Some asked) told Answered) (λ r. MayCome (Some asked) told (outcome r))
 may_end outcome (Ok x) None asked events read config fault = tt
 may_end outcome (Ok x) (Some files) asked events read config fault = inl (sym (answer_called_for files asked events read config))
-may_end outcome (Err r) None asked events read config fault = fails_untold asked (outcome r) fault
+may_end outcome (Err r) None asked events read config fault = stopped_untold asked (outcome r) fault
 may_end outcome (Err r) (Some files) asked events read config fault =
-    inr (fails_writing _ (outcome r) (answer_called_for files asked events read config) fault)
+    inr (stopped_writing _ (outcome r) (answer_called_for files asked events read config) fault)

@@ -1,11 +1,9 @@
 -- Pieces joined one after the other.
-use Rattle.std.proofs.Common.{ℕ, suc, ◌≡◌, ◌+◌, ◌<◌, ◌≤◌, ◌++◌, List, [], ◌∷◌, Option, Result, Ok, Err, OnErr, ◌⊎◌, inr, length, take, drop, get_or, sym, ap, ◌∙◌, append-nil, add-one}
+use Rattle.std.proofs.Common.{ℕ, suc, ◌≡◌, ◌+◌, ◌<◌, ◌≤◌, ◌++◌, List, [], ◌∷◌, length, take, drop, get_or, sym, ap, ◌∙◌, append-nil, add-one}
 use Rattle.std.specs.List.{flat_map}
 use Rattle.std.proofs.Math.Seq.{take-append-add, take-suc, drop-cons}
 use Rattle.std.proofs.lemmas.List.{take-append-le, take-append-drop}
 use Rattle.std.proofs.lemmas.Grind.{flat_map-append}
-use Rattle.mp_outside.specs.Files.{Files, with_file, with_more}
-use Rattle.mp_outside.proofs.FileLemmas.{with_more-with_file}
 
 module _ {X : Type 0} (f : X → List ℕ) where
   -- the pieces before one, that one, and those after it
@@ -26,13 +24,3 @@ module _ {X : Type 0} (f : X → List ℕ) where
   joined-part xs i x k lt is le =
       let done = flat_map f (take i xs) in
       sym (ap (λ (ys : List ℕ). take (length done + k) ys) (joined-split xs i x lt is) ∙ take-append-add done (f x ++ flat_map f (drop (i + 1) xs)) k ∙ ap (λ (ys : List ℕ). done ++ ys) (take-append-le k (f x) (flat_map f (drop (i + 1) xs)) le))
-
--- a name that held these bytes holds more
-pub held_more : (old now new : Option Files) (name done more : List ℕ) → now ≡ with_file old name done → new ≡ with_more now name more → new ≡ with_file old name (done ++ more)
-held_more old now new name done more before after =
-    after ∙ ap (λ (x : Option Files). with_more x name more) before ∙ with_more-with_file old name done more
-
--- at the exit of a call that failed the name holds a part of these bytes
-pub held_at_exit : {T E : Type 0} (r : Result T E) (old new : Option Files) (name bytes : List ℕ) (k : ℕ) → new ≡ with_file old name (take k bytes) → OnErr r ((new ≡ old) ⊎ ((n : ℕ) × (new ≡ with_file old name (take n bytes))))
-held_at_exit (Ok x) old new name bytes k e = tt
-held_at_exit (Err x) old new name bytes k e = inr (k, e)

@@ -96,6 +96,10 @@ MayFail called WriteFault = called ≡ Answered
 MayFail called NoMemory = Unit {0}
 MayFail called _ = ⊥
 
+-- what may stop the writing of an answer: a fault, or want of memory
+abbrev pub StopsAnswer : Outcome → Type 0
+StopsAnswer outcome = (outcome ≡ WriteFault) ⊎ (outcome ≡ NoMemory)
+
 -- an outcome of a command: a name that it speaks of is that of the events or of the configuration
 abbrev pub IsOfCommand : Options → Outcome → Type 0
 IsOfCommand asked Usage = ⊥

@@ -4,10 +4,22 @@ use Rattle.mp_model.specs.declared.record.Event.{Event}
 use Rattle.mp_model.specs.Answers.{one_thread_answer}
 use Rattle.mp_q_simple.specs.Q1.{q1_facts}
 use Rattle.mp_q_simple.specs.Q2.{q2_facts}
+use Rattle.mp_q_join.specs.Q3.{q3_facts}
+use Rattle.mp_q_auction.specs.Q4.{q4_facts}
+use Rattle.mp_q_window.specs.Q5.{q5_facts}
+use Rattle.mp_q_auction.specs.Q6.{q6_facts}
+use Rattle.mp_q_window.specs.Q7.{q7_facts}
+use Rattle.mp_q_join.specs.Q8.{q8_facts}
 use Rattle.mp_words.specs.declared.options.QueryName.{QueryName}
-use Rattle.mp_words.specs.declared.options.QueryName.TheVariants.{Q1, Q2}
+use Rattle.mp_words.specs.declared.options.QueryName.TheVariants.{Q1, Q2, Q3, Q4, Q5, Q6, Q7, Q8}
 
 -- the one-thread answer of the query of this name to events
 abbrev pub answer_of : QueryName → List Event → List ℕ
 answer_of Q1 events = one_thread_answer q1_facts events
 answer_of Q2 events = one_thread_answer q2_facts events
+answer_of Q3 events = one_thread_answer q3_facts events
+answer_of Q4 events = one_thread_answer q4_facts events
+answer_of Q5 events = one_thread_answer q5_facts events
+answer_of Q6 events = one_thread_answer q6_facts events
+answer_of Q7 events = one_thread_answer q7_facts events
+answer_of Q8 events = one_thread_answer q8_facts events

@@ -1,4 +1,8 @@
 -- What a refusal says, as plain data.
+use Rattle.mp_drive.specs.declared.stop.DriveStop.{DriveStop}
+use Rattle.mp_drive.specs.declared.stop.DriveStop.TheVariants as stop
+use Rattle.mp_outside.specs.declared.fault.Fault.{Fault}
+use Rattle.mp_outside.specs.declared.fault.Fault.TheVariants as fault
 use Rattle.mp_cli.specs.declared.refusal.Refusal.{Refusal}
 use Rattle.mp_cli.specs.declared.refusal.Refusal.TheVariants as refusal
 use Rattle.mp_cli.specs.Outcome.{Outcome, Usage, EventsRefused, ConfigRefused, NoFile, ReadFault, WriteFault, NoMemory, TooLarge}
@@ -13,3 +17,13 @@ outcome_of refusal.ReadFault = ReadFault
 outcome_of refusal.WriteFault = WriteFault
 outcome_of refusal.NoMemory = NoMemory
 outcome_of (refusal.TooLarge name) = TooLarge name.now
+
+-- the refusal at a fault of the writing
+abbrev pub refused_for : Fault → Refusal
+refused_for fault.Failed = refusal.WriteFault
+refused_for fault.NoMemory = refusal.NoMemory
+
+-- the refusal where the workers are driven no further
+abbrev pub refused_at : DriveStop → Refusal
+refused_at stop.Write = refusal.WriteFault
+refused_at stop.Memory = refusal.NoMemory

@@ -1,6 +1,9 @@
 //! The command line of megaphone: what the words ask for, done on the files of a depot.
 #![tactic(auto)]
 
+mod causes;
+#[cfg(test)]
+mod fixture;
 mod reading;
 mod refusal;
 mod serve;
@@ -8,6 +11,8 @@ mod status;
 #[cfg(test)]
 mod tests;
 mod top;
+#[cfg(test)]
+mod worked;
 mod writing;
 
 pub use status::{Status, lack_memory};

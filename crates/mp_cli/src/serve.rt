@@ -3,6 +3,7 @@ ghost use Rattle.std.specs.Prelude.{◌≡◌, ◌⊎◌, ℕ, List, Some, false
 ghost use Rattle.mp_model.specs.declared.record.Event.{Event};
 ghost use Rattle.mp_outside.specs.Fault.{Rose};
 ghost use Rattle.mp_outside.specs.Files.{file_at, with_file};
+ghost use Rattle.mp_words.specs.Limits.{AreWithinLimits};
 ghost use Rattle.mp_words.specs.Values.{options_in};
 ghost use Rattle.mp_words.specs.Words.{command_in};
 ghost use Rattle.mp_cli.specs.Ends.{IsAnswered, IsAnsweredInPart, IsInput, IsOther, IsRefusal};
@@ -14,15 +15,17 @@ ghost use Rattle.mp_cli.specs.Reading.{ReadsEvents};
 use crate::reading::{events_in, read_config};
 use crate::refusal::Refusal;
 use crate::writing::write_answer;
+use mp_gate::Gate;
 use mp_outside::Depot;
 use mp_words::{RunOptions, WordsRefused, parse};
 use std::alloc::Global;
 
 /// Carries out the command that the words ask for.
-pub fn serve<'a, D: Depot>(
+pub fn serve<'a, D: Depot, G: Gate>(
     alloc: Global,
     words: &'a [String],
     depot: &mut D,
+    gate: &G,
 ) -> Result<(), Refusal<'a>>
     ensures outcome { MatchResult result (λ _. MayCome (command_in words.now) (D.files depot.old) Answered) (λ r. MayCome (command_in words.now) (D.files depot.old) (outcome_of r)) }
     ensures not_found { IfErr result (λ r. status_of (outcome_of r) ≡ 5 → (before : D) × (name : List ℕ) × IsInput (command_in words.now) name × D.found before name false depot.new) }
@@ -35,18 +38,20 @@ pub fn serve<'a, D: Depot>(
     ensures others { (name : List ℕ) → IsOther (command_in words.now) name → file_at (D.files depot.new) name ≡ file_at (D.files depot.old) name }
 {
     match parse(alloc, words) {
-        Ok(options) => answer(alloc, depot, &options),
+        Ok(options) => answer(alloc, depot, &options, gate),
         Err(WordsRefused::Usage) => Err(Refusal::Usage),
         Err(WordsRefused::NoMemory) => Err(Refusal::NoMemory),
     }
 }
 
 /// Carries out a command: reads its events and its configuration, and writes the answer.
-fn answer<'a, D: Depot>(
+fn answer<'a, D: Depot, G: Gate>(
     alloc: Global,
     depot: &mut D,
     options: &RunOptions<'a>,
+    gate: &G,
 ) -> Result<(), Refusal<'a>>
+    requires { AreWithinLimits options.now }
     ensures outcome { MatchResult result (λ _. MayCome (Some (options_in options.now)) (D.files depot.old) Answered) (λ r. MayCome (Some (options_in options.now)) (D.files depot.old) (outcome_of r)) }
     ensures not_found { IfErr result (λ r. status_of (outcome_of r) ≡ 5 → (before : D) × (name : List ℕ) × IsInput (Some (options_in options.now)) name × D.found before name false depot.new) }
     ensures read_fault { IfErr result (λ r. status_of (outcome_of r) ≡ 6 → Rose (D.read_faults depot.old) (D.read_faults depot.new)) }
@@ -58,5 +63,5 @@ fn answer<'a, D: Depot>(
 {
     let events = events_in(alloc, depot, options.events)?;
     read_config(alloc, depot, options.config)?;
-    write_answer(alloc, depot, options.query, options.out, events.as_slice())
+    write_answer(alloc, depot, options, events, gate)
 }

@@ -1,66 +1,19 @@
-//! Worked examples on files in memory.
+//! What comes of words, files and faults.
+use crate::fixture::{answers, answers_line, cut, ends_as, files};
 use crate::run;
 use mp_gate::OpenGate;
-use mp_outside::{MemDepot, MemSink, Op};
+use mp_outside::{MemSink, Op};
 use std::alloc::{AllocError, Global};
 use std::process::Abort;
 use std::test::Fail;
 
 const Q1: &str = "megaphone run --query q1 --events e --config c --out o";
 
-const Q2: &str = "megaphone run --query q2 --events e --config c --out o";
-
 const THREE_BIDS: &[u8] = b"B|5|7|2|100\nB|3|7|1|250\nB|5|2|9|99\n";
 
 const THREE_ROWS: &[u8] = b"3|7|1|222\n5|2|9|88\n5|7|2|89\n";
 
 const USAGE: &str = "usage: megaphone run|replay|check|make|demo\n";
-
-/// An event file `e` and a configuration `c`.
-fn files(alloc: Global, events: &[u8], config: &[u8]) -> Result<MemDepot, AllocError> {
-    let mut depot = MemDepot::new(alloc);
-    depot.put("e", events)?;
-    depot.put("c", config)?;
-    Ok(depot)
-}
-
-/// The words of a line, cut at blanks.
-fn cut(alloc: Global, line: &str) -> Result<Vec<String>, AllocError> {
-    let mut words = Vec::new(alloc);
-    for word in line.split(' ') {
-        words.push(String::from_str(alloc, word)?)?;
-    }
-    Ok(words)
-}
-
-/// Runs the words of a line, and compares the status, what is said and what the name `o` then holds.
-fn ends_as<R: AllocGlobal + Abort>(
-    rt: &R,
-    depot: &mut MemDepot,
-    line: &str,
-    status: u8,
-    says: &str,
-    answer: Option<&[u8]>,
-) -> Result<(), AllocError> {
-    let words = cut(rt.alloc(), line)?;
-    let mut said = MemSink::new(rt.alloc());
-    let ended = run(rt, words.as_slice(), depot, &mut said, &OpenGate);
-    assert_eq!(rt; ended.code, status, "{line}");
-    assert_eq!(rt; said.bytes(), says.as_bytes(), "{line}");
-    assert_eq!(rt; depot.get("o"), answer, "{line}");
-    Ok(())
-}
-
-/// Runs the words of a line on these events and an empty configuration, and compares the answer.
-fn answers<R: AllocGlobal + Abort>(
-    rt: &R,
-    line: &str,
-    events: &[u8],
-    answer: &[u8],
-) -> Result<(), AllocError> {
-    let mut depot = files(rt.alloc(), events, b"")?;
-    ends_as(rt, &mut depot, line, 0, "", Some(answer))
-}
 
 /// Runs q1 on these events and this configuration, which are refused with this status and line.
 fn refuses<R: AllocGlobal + Abort>(
@@ -85,33 +38,28 @@ fn repeated(alloc: Global, bytes: &[u8], times: u32) -> Result<Vec<u8>, AllocErr
 
 #[test]
 fn three_bids(rt: HostRuntime) -> Result<(), Fail> {
+    answers(&rt, "q1", THREE_BIDS, THREE_ROWS)?;
     for line in [
         Q1,
         "m run --out o --config c --events e --query q1",
         "m run --query=q1 --events=e --config=c --out=o --",
-        "m run --query q1 --events e --config c --out o --workers 1 --bins 256 --depth 1024",
+        "m run --query q1 --events e --config c --out o --workers 16 --bins 256 --depth 1024",
         "m run --query q1 --events e --config c --out o --workers 01 --bins 1 --depth 001",
+        "m replay --query q1 --events e --config c --out o",
+        "m replay --query q1 --seed=00 --events e --config c --out o",
     ] {
-        answers(&rt, line, THREE_BIDS, THREE_ROWS)?;
+        answers_line(&rt, line, THREE_BIDS, THREE_ROWS)?;
     }
     Ok(())
 }
 
 #[test]
 fn empty_events(rt: HostRuntime) -> Result<(), Fail> {
-    for events in [b"".as_slice(), b"\n\n\r\n"] {
-        answers(&rt, Q1, events, b"")?;
-        answers(&rt, Q2, events, b"")?;
+    for query in ["q1", "q2", "q3", "q4", "q5", "q6", "q7", "q8"] {
+        for events in [b"".as_slice(), b"\n\n\r\n"] {
+            answers(&rt, query, events, b"")?;
+        }
     }
-    Ok(())
-}
-
-#[test]
-fn every_123rd_auction(rt: HostRuntime) -> Result<(), Fail> {
-    let bids = b"B|1|0|1|10\nB|1|123|1|20\nB|1|124|1|30\n";
-    answers(&rt, Q2, bids, b"1|0|10\n1|123|20\n")?;
-    let others = b"P|1|2|Ann|Reno|OR\nA|5|1|1|1|1|6\nB|2|246|1|20\n";
-    answers(&rt, Q2, others, b"2|246|20\n")?;
     Ok(())
 }
 
@@ -124,8 +72,8 @@ fn carriage_returns(rt: HostRuntime) -> Result<(), Fail> {
         3,
         "events line 3: kind\n",
     )?;
-    answers(&rt, Q1, b"B|1|7|2|100\r\n\r\n", b"1|7|2|89\n")?;
-    answers(&rt, Q1, b"B|1|7|2|100\r", b"1|7|2|89\n")?;
+    answers(&rt, "q1", b"B|1|7|2|100\r\n\r\n", b"1|7|2|89\n")?;
+    answers(&rt, "q1", b"B|1|7|2|100\r", b"1|7|2|89\n")?;
     Ok(())
 }
 
@@ -152,8 +100,8 @@ fn first_bad_line(rt: HostRuntime) -> Result<(), Fail> {
     ] {
         refuses(&rt, events, b"", 3, says)?;
     }
-    answers(&rt, Q1, b"B|1|2|3|45", b"1|2|3|40\n")?;
-    answers(&rt, Q1, b"B|1|2|3|4", b"1|2|3|3\n")?;
+    answers(&rt, "q1", b"B|1|2|3|45", b"1|2|3|40\n")?;
+    answers(&rt, "q1", b"B|1|2|3|4", b"1|2|3|3\n")?;
     Ok(())
 }
 
@@ -161,7 +109,7 @@ fn first_bad_line(rt: HostRuntime) -> Result<(), Fail> {
 fn expiry_and_names(rt: HostRuntime) -> Result<(), Fail> {
     refuses(&rt, b"A|5|1|1|1|1|5\n", b"", 3, "events line 1: order\n")?;
     refuses(&rt, b"P|1|1||b|c\n", b"", 3, "events line 1: name\n")?;
-    answers(&rt, Q1, b"A|5|1|1|1|1|6\nP|1|1|a|b|c\n", b"")?;
+    answers(&rt, "q1", b"A|5|1|1|1|1|6\nP|1|1|a|b|c\n", b"")?;
     Ok(())
 }
 
@@ -178,12 +126,25 @@ fn config_refused(rt: HostRuntime) -> Result<(), Fail> {
     Ok(())
 }
 
+// How many lines of the greatest price are answered: fewer than a file may have, since an exchange counts all logs anew.
+const MANY: u32 = 1_000;
+
+#[test]
+fn many_bids(rt: HostRuntime) -> Result<(), Fail> {
+    let events = repeated(rt.alloc(), b"B|1|1|1|1000000000000\n", MANY)?;
+    let answer = repeated(rt.alloc(), b"1|1|1|890000000000\n", MANY)?;
+    for line in [
+        Q1,
+        "m replay --query q1 --events e --config c --out o --workers 3 --bins 4",
+    ] {
+        answers_line(&rt, line, events.as_slice(), answer.as_slice())?;
+    }
+    Ok(())
+}
+
 #[test]
 fn greatest_file(rt: HostRuntime) -> Result<(), Fail> {
-    let mut events = repeated(rt.alloc(), b"B|1|1|1|1000000000000\n", 250_000)?;
-    let rows = repeated(rt.alloc(), b"1|1|1|890000000000\n", 250_000)?;
-    answers(&rt, Q1, events.as_slice(), rows.as_slice())?;
-    events.extend_from_slice(b"B|1|1|1|1\n")?;
+    let events = repeated(rt.alloc(), b"B|1|1|1|1000000000000\n", 250_001)?;
     refuses(
         &rt,
         events.as_slice(),
@@ -218,7 +179,9 @@ fn words_refused(rt: HostRuntime) -> Result<(), Fail> {
         "megaphone run --query q1 --events e --config c",
         "megaphone run --query q1 --events e --events e --out o",
         "megaphone run --query q1 --events e --config c --out o --bins 3",
-        "megaphone run --query q1 --events e --config c --out o --workers 2",
+        "megaphone run --query q1 --events e --config c --out o --workers 17",
+        "megaphone run --query q1 --events e --config c --out o --seed 1",
+        "megaphone replay --query q1 --events e --config c --out o --seed 281474976710657",
         "megaphone run --query q1 --events e --config c --out o --report r",
         "megaphone run --query q1 --events e --config c --out o --help",
         "megaphone help",

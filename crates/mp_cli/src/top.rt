@@ -15,19 +15,21 @@ use mp_outside::{Depot, Sink};
 /// Does what the words of the command line ask for, on the files of a depot. `words` begins with the program's name. A
 /// refusal says one line on `said`.
 ///
-/// The command is `run` with `--query` (`q1` or `q2`), `--events`, `--config` and `--out`, and perhaps `--workers` (1),
-/// `--bins` (16, a power of two up to 256) and `--depth` (64, up to 1024). Its statuses are this project's profile: 0
-/// answered; 2 the words are no command; 3 the event file has a bad line; 4 the configuration has a line that isn't blank;
-/// 5 a file isn't there; 6 a find or a read failed; 7 a begin or an append failed; 8 want of memory; 9 a file has more than
-/// 2^28 bytes. The refusals 3 and 4 say the number of the first bad line and the first check that it fails.
+/// The command is `run` or `replay` with `--query` (`q1` to `q8`), `--events`, `--config` and `--out`, and perhaps
+/// `--workers` (1, up to 16), `--bins` (16, a power of two up to 256) and `--depth` (64, up to 1024); `replay` also takes
+/// `--seed` (0, up to 2^48). Its statuses are this project's profile: 0 answered; 2 the words are no command; 3 the event
+/// file has a bad line; 4 the configuration has a line that isn't blank; 5 a file isn't there; 6 a find or a read failed; 7 a
+/// begin or an append failed; 8 want of memory; 9 a file has more than 2^28 bytes. The refusals 3 and 4 say the number of the
+/// first bad line and the first check that it fails.
 ///
-/// Workers pass the gate before each step. There are none yet: the answer is made on one thread.
+/// The workers take turns on one thread, by the schedule of the seed; `run` has the seed 0. They pass the gate before each
+/// step.
 pub fn run<D: Depot, S: Sink, G: Gate + Sync, R: AllocGlobal>(
     rt: &R,
     words: &[String],
     depot: &mut D,
     said: &mut S,
-    _gate: &G,
+    gate: &G,
 ) -> Status
     // Words that are no command are refused, and no others.
     ensures usage { ComesWhere 2 result.code (command_in words.now ≡ None) }
@@ -50,7 +52,7 @@ pub fn run<D: Depot, S: Sink, G: Gate + Sync, R: AllocGlobal>(
     ensures said { Says (S.written said.old) (S.written said.new) (λ line. (code : ℕ) × ((code ≡ result.code) ⊎ (result.code ≡ 8)) × IsLineAt (command_in words.now) (D.files depot.old) code line)
         (Rose (S.faults said.old) (S.faults said.new) ⊎ (result.code ≡ 8)) }
 {
-    match serve(rt.alloc(), words, depot) {
+    match serve(rt.alloc(), words, depot, gate) {
         Ok(()) => Status { code: 0 },
         Err(refusal) => refuse(&refusal, said),
     }

@@ -1,79 +1,83 @@
 //! The answer's way into its file.
-ghost use Rattle.std.specs.Prelude.{◌≡◌, ◌⊎◌, ℕ, take, [], IfErr, OnErr, OnOk};
-ghost use Rattle.std.specs.List.{flat_map};
+ghost use Rattle.std.specs.Prelude.{◌≡◌, ◌⊎◌, ◌<◌, ℕ, take, IfErr, OnErr, OnOk};
 ghost use Rattle.mp_model.specs.Answers.{one_thread_answer};
 ghost use Rattle.mp_model.specs.Legal.{EventsAreLegal};
+ghost use Rattle.mp_output.specs.Rows.{GivesRows};
 ghost use Rattle.mp_outside.specs.Fault.{Rose};
-ghost use Rattle.mp_outside.specs.Files.{IsThere, with_file, with_more};
-ghost use Rattle.mp_outside.specs.declared.fault.Fault.TheVariants.{Failed};
-ghost use Rattle.mp_cli.specs.Outcome.{WriteFault, NoMemory, status_of};
+ghost use Rattle.mp_outside.specs.Files.{with_file};
+ghost use Rattle.mp_words.specs.Limits.{AreWithinLimits};
+ghost use Rattle.mp_cli.specs.Outcome.{StopsAnswer, status_of};
 ghost use Rattle.mp_cli.specs.Queries.{answer_of};
 ghost use Rattle.mp_cli.specs.Refused.{outcome_of};
 
 use crate::refusal::Refusal;
-use mp_fold::answer_pieces;
+use mp_drive::{DriveStop, replay};
+use mp_gate::Gate;
+use mp_job::{Job, Shape};
 use mp_model::{Event, Query};
-use mp_outside::{Depot, Fault, append_piece};
+use mp_outside::{Depot, DepotSink, Fault};
+use mp_q_auction::{Q4, Q6};
+use mp_q_join::{Q3, Q8};
 use mp_q_simple::{Q1, Q2};
-use mp_words::QueryName;
+use mp_q_window::{Q5, Q7};
+use mp_words::{QueryName, RunOptions};
 use std::alloc::Global;
+use std::marker::Brand;
 
-/// Makes the name hold the answer of a query to the events.
-pub fn write_answer<'a, D: Depot>(
+/// Runs the dataflow that a command asks for on these events, and makes its file hold the answer.
+pub fn write_answer<'a, D: Depot, G: Gate>(
     alloc: Global,
     depot: &mut D,
-    query: QueryName,
-    name: &str,
-    events: &[Event],
+    options: &RunOptions<'a>,
+    events: Vec<Event>,
+    gate: &G,
 ) -> Result<(), Refusal<'a>>
-    requires { EventsAreLegal events.now }
-    ensures whole { OnOk result (D.files depot.new ≡ with_file (D.files depot.old) name.now (answer_of query events.now)) }
-    ensures part { OnErr result ((D.files depot.new ≡ D.files depot.old) ⊎ ((k : ℕ) × (D.files depot.new ≡ with_file (D.files depot.old) name.now (take k (answer_of query events.now))))) }
-    ensures refused { IfErr result (λ r. (outcome_of r ≡ WriteFault) ⊎ (outcome_of r ≡ NoMemory)) }
+    requires options { AreWithinLimits options.now }
+    requires events { EventsAreLegal events.items }
+    ensures whole { OnOk result (D.files depot.new ≡ with_file (D.files depot.old) options.now.out.now (answer_of options.now.query events.items)) }
+    ensures part { OnErr result ((D.files depot.new ≡ D.files depot.old) ⊎ ((k : ℕ) × (D.files depot.new ≡ with_file (D.files depot.old) options.now.out.now (take k (answer_of options.now.query events.items))))) }
+    ensures refused { IfErr result (λ r. StopsAnswer (outcome_of r)) }
 
     ensures failed { IfErr result (λ r. status_of (outcome_of r) ≡ 7 → Rose (D.write_faults depot.old) (D.write_faults depot.new)) }
 {
-    match query {
-        QueryName::Q1 => write_rows(alloc, depot, &Q1 {}, name, events),
-        QueryName::Q2 => write_rows(alloc, depot, &Q2 {}, name, events),
+    match options.query {
+        QueryName::Q1 => run_query(alloc, depot, Q1 {}, options, events, gate),
+        QueryName::Q2 => run_query(alloc, depot, Q2 {}, options, events, gate),
+        QueryName::Q3 => run_query(alloc, depot, Q3 {}, options, events, gate),
+        QueryName::Q4 => run_query(alloc, depot, Q4 {}, options, events, gate),
+        QueryName::Q5 => run_query(alloc, depot, Q5 {}, options, events, gate),
+        QueryName::Q6 => run_query(alloc, depot, Q6 {}, options, events, gate),
+        QueryName::Q7 => run_query(alloc, depot, Q7 {}, options, events, gate),
+        QueryName::Q8 => run_query(alloc, depot, Q8 {}, options, events, gate),
     }
 }
 
-/// Makes the name hold the answer of this query to the events, the lines of one time appended as one piece.
-fn write_rows<'a, D: Depot, Q: Query>(
+/// Runs a query on these events, and makes the file hold its answer.
+fn run_query<'a, D: Depot, Q: Query, G: Gate>(
     alloc: Global,
     depot: &mut D,
-    query: &Q,
-    name: &str,
-    events: &[Event],
+    query: Q,
+    options: &RunOptions<'a>,
+    events: Vec<Event>,
+    gate: &G,
 ) -> Result<(), Refusal<'a>>
-    requires { EventsAreLegal events.now }
-    ensures whole { OnOk result (D.files depot.new ≡ with_file (D.files depot.old) name.now (one_thread_answer (Q.facts (Q.rules query.now)) events.now)) }
-    ensures part { OnErr result ((D.files depot.new ≡ D.files depot.old) ⊎ ((k : ℕ) × (D.files depot.new ≡ with_file (D.files depot.old) name.now (take k (one_thread_answer (Q.facts (Q.rules query.now)) events.now))))) }
-    ensures refused { IfErr result (λ r. (outcome_of r ≡ WriteFault) ⊎ (outcome_of r ≡ NoMemory)) }
+    requires options { AreWithinLimits options.now }
+    requires events { EventsAreLegal events.items }
+    requires rows { GivesRows (Q.facts (Q.rules query)) }
+    ensures whole { OnOk result (D.files depot.new ≡ with_file (D.files depot.old) options.now.out.now (one_thread_answer (Q.facts (Q.rules query)) events.items)) }
+    ensures part { OnErr result ((D.files depot.new ≡ D.files depot.old) ⊎ ((k : ℕ) × (D.files depot.new ≡ with_file (D.files depot.old) options.now.out.now (take k (one_thread_answer (Q.facts (Q.rules query)) events.items))))) }
+    ensures refused { IfErr result (λ r. StopsAnswer (outcome_of r)) }
 
     ensures failed { IfErr result (λ r. status_of (outcome_of r) ≡ 7 → Rose (D.write_faults depot.old) (D.write_faults depot.new)) }
 {
-    let Ok(pieces) = answer_pieces(alloc, query, events) else {
-        return Err(Refusal::NoMemory);
+    let shape = Shape {
+        workers: options.workers,
+        bins: options.bins,
+        stages: Q::STAGES,
     };
-    match write_pieces(depot, name, pieces.as_slice()) {
-        Ok(()) => Ok(()),
-        Err(Fault::Failed) => Err(Refusal::WriteFault),
-        Err(Fault::NoMemory) => Err(Refusal::NoMemory),
-    }
-}
-
-/// Makes the name hold these pieces, one after the other.
-fn write_pieces<D: Depot>(depot: &mut D, name: &str, pieces: &[Vec<u8>]) -> Result<(), Fault>
-    ensures whole { OnOk result (D.files depot.new ≡ with_file (D.files depot.old) name.now (flat_map (λ p. p.items) pieces.now)) }
-    ensures part { OnErr result ((D.files depot.new ≡ D.files depot.old) ⊎ ((k : ℕ) × (D.files depot.new ≡ with_file (D.files depot.old) name.now (take k (flat_map (λ p. p.items) pieces.now))))) }
-
-    ensures failed { result ≡ Err Fault.Failed → Rose (D.write_faults depot.old) (D.write_faults depot.new) }
-{
-    depot.begin(name)?;
-    for piece in pieces {
-        append_piece(depot, name, piece.as_slice())?;
-    }
+    let job = Job::new(alloc, query, events, Vec::new(alloc), shape)?;
+    depot.begin(options.out)?;
+    let mut sink = DepotSink::new(depot, options.out);
+    replay::<Q, Brand, _, _>(alloc, &job, options.depth, options.seed, gate, &mut sink)?;
     Ok(())
 }

@@ -1,0 +1,98 @@
+-- The last stage of q1, q2, q3 and q5 gives rows alone.
+use Rattle.std.specs.Prelude.{ℕ, ◌==◌, ◌%◌, map, Bool, true, false, Option, Some, None, List, [], ◌∷◌, All, IfSome, if◌then◌else◌, length}
+use Rattle.std.specs.List.{filter_map}
+use Rattle.std.specs.Option.{is_some, option_map, option_to_list}
+use Rattle.std.proofs.lemmas.List.Elements.{All-append, All-cons, All-map, All-nil}
+use Rattle.mp_model.proofs.Lists.{All-filter_map}
+use Rattle.mp_model.specs.declared.record.Rec.{Rec}
+use Rattle.mp_model.specs.declared.value.Value.{Value}
+use Rattle.mp_model.specs.declared.value.Value.TheVariants.{Person, Auction, Bid, Sale, Count, Row}
+use Rattle.mp_model.specs.Entry.{Entry}
+use Rattle.mp_output.specs.Rows.{GivesRows, IsRow}
+use Rattle.mp_q_simple.specs.Q1.{q1_facts, row as row_of_q1}
+use Rattle.mp_q_simple.specs.Q2.{q2_facts, row as row_of_q2}
+use Rattle.mp_q_join.specs.Q3.{q3_facts}
+use Rattle.mp_q_join.specs.declared.home.Home.{Home}
+use Rattle.mp_q_join.specs.Joining.{Kept, after_value, row_of, rows_along, rows_of_home, rows_of_value}
+use Rattle.mp_q_window.specs.Counts.{greatest_of, row_at}
+use Rattle.mp_q_window.specs.Q5.{q5_facts}
+
+-- An option of a row
+
+listed : (o : Option Value) → IfSome o IsRow → All IsRow (option_to_list o)
+listed (Some v) h = All-cons IsRow v [] h (All-nil IsRow)
+listed None h = All-nil IsRow
+
+where_so : (b : Bool) (v : Value) → IsRow v → IfSome (if b then Some v else None) IsRow
+where_so true v h = h
+where_so false v h = tt
+
+-- q1 and q2
+
+one_of_q1 : (v : Value) → IfSome (row_of_q1 v) IsRow
+one_of_q1 (Bid auction bidder price) = tt
+one_of_q1 (Person id name city state) = tt
+one_of_q1 (Auction id seller category reserve expires) = tt
+one_of_q1 (Sale of price) = tt
+one_of_q1 (Count auction count) = tt
+one_of_q1 (Row fields) = tt
+
+one_of_q2 : (v : Value) → IfSome (row_of_q2 v) IsRow
+one_of_q2 (Bid auction bidder price) = where_so (auction % 123 == 0) _ tt
+one_of_q2 (Person id name city state) = tt
+one_of_q2 (Auction id seller category reserve expires) = tt
+one_of_q2 (Sale of price) = tt
+one_of_q2 (Count auction count) = tt
+one_of_q2 (Row fields) = tt
+
+each_of : (row : Value → Option Value) → ((v : Value) → IfSome (row v) IsRow) → (rs : List Rec) → All (λ r. IfSome (row r.value) IsRow) rs
+each_of row h [] = All-nil (λ r. IfSome (row r.value) IsRow)
+each_of row h (r ∷ rs) = All-cons (λ r. IfSome (row r.value) IsRow) r rs (h r.value) (each_of row h rs)
+
+pub q1_gives_rows : GivesRows q1_facts
+q1_gives_rows cell e = All-filter_map IsRow (λ r. row_of_q1 r.value) e.recs (each_of row_of_q1 one_of_q1 e.recs)
+
+pub q2_gives_rows : GivesRows q2_facts
+q2_gives_rows cell e = All-filter_map IsRow (λ r. row_of_q2 r.value) e.recs (each_of row_of_q2 one_of_q2 e.recs)
+
+-- q3
+
+rows_of_ids : (home : Home) (ids : List ℕ) → All (λ id. IsRow (row_of home id)) ids
+rows_of_ids home [] = All-nil (λ id. IsRow (row_of home id))
+rows_of_ids home (id ∷ ids) = All-cons (λ id. IsRow (row_of home id)) id ids tt (rows_of_ids home ids)
+
+of_home : (known : Bool) (home : Home) (ids : List ℕ) → All IsRow (if known then [] else map (row_of home) ids)
+of_home true home ids = All-nil IsRow
+of_home false home ids = All-map IsRow (row_of home) ids (rows_of_ids home ids)
+
+of_auction : (home : Option Home) (id : ℕ) → All IsRow (option_to_list (option_map (λ (home : Home). row_of home id) home))
+of_auction (Some home) id = listed (Some (row_of home id)) tt
+of_auction None id = All-nil IsRow
+
+of_value : (cell : Kept) (v : Value) → All IsRow (rows_of_value cell v)
+of_value cell (Person id name city state) = of_home (is_some cell.home) _ cell.waiting
+of_value cell (Auction id seller category reserve expires) = of_auction cell.home id
+of_value cell (Bid auction bidder price) = All-nil IsRow
+of_value cell (Sale of price) = All-nil IsRow
+of_value cell (Count auction count) = All-nil IsRow
+of_value cell (Row fields) = All-nil IsRow
+
+along : (cell : Kept) (rs : List Rec) → All IsRow (rows_along cell rs)
+along cell [] = All-nil IsRow
+along cell (r ∷ rs) = All-append IsRow (rows_of_value cell r.value) (rows_along (after_value cell r.value) rs) (of_value cell r.value) (along (after_value cell r.value) rs)
+
+pub q3_gives_rows : GivesRows q3_facts
+q3_gives_rows cell e = along cell e.recs
+
+-- q5
+
+one_of_q5 : (m : ℕ) (v : Value) → IfSome (row_at m v) IsRow
+one_of_q5 m (Count auction count) = where_so (count == m) _ tt
+one_of_q5 m (Person id name city state) = tt
+one_of_q5 m (Auction id seller category reserve expires) = tt
+one_of_q5 m (Bid auction bidder price) = tt
+one_of_q5 m (Sale of price) = tt
+one_of_q5 m (Row fields) = tt
+
+pub q5_gives_rows : GivesRows q5_facts
+q5_gives_rows cell e = All-filter_map IsRow (λ r. row_at (greatest_of e.recs) r.value) e.recs (each_of (row_at (greatest_of e.recs)) (one_of_q5 (greatest_of e.recs)) e.recs)

@@ -1,0 +1,40 @@
+//! What stopped the writing of an answer, as the refusal of the command.
+ghost use Rattle.std.specs.Prelude.{◌≡◌};
+ghost use Rattle.mp_cli.specs.declared.refusal.Refusal.TheVariants.{NoMemory};
+ghost use Rattle.mp_cli.specs.Refused.{refused_at, refused_for};
+
+use crate::refusal::Refusal;
+use mp_drive::DriveStop;
+use mp_outside::Fault;
+use std::alloc::AllocError;
+
+impl<'a> From<AllocError> for Refusal<'a> {
+    ghost from_gives = { λ _ refusal. refusal ≡ NoMemory };
+
+    fn from(_: AllocError) -> Self {
+        Refusal::NoMemory
+    }
+}
+
+// Reads answer a `ReadRefused`: a fault alone is that of a begin or an append.
+impl<'a> From<Fault> for Refusal<'a> {
+    ghost from_gives = { λ fault refusal. refusal ≡ refused_for fault };
+
+    fn from(fault: Fault) -> Self {
+        match fault {
+            Fault::Failed => Refusal::WriteFault,
+            Fault::NoMemory => Refusal::NoMemory,
+        }
+    }
+}
+
+impl<'a> From<DriveStop> for Refusal<'a> {
+    ghost from_gives = { λ stop refusal. refusal ≡ refused_at stop };
+
+    fn from(stop: DriveStop) -> Self {
+        match stop {
+            DriveStop::Write => Refusal::WriteFault,
+            DriveStop::Memory => Refusal::NoMemory,
+        }
+    }
+}
