@@ -1,75 +1,98 @@
--- Where a note is placed, and that the order of notes doesn't matter.
-use Rattle.std.proofs.Common.{◌≡◌, ◌≢◌, ℕ, zero, suc, ◌<◌, ◌≤◌, Bool, true, false, cond, nat_lt, List, [], ◌∷◌, length, get_or, refl, sym, ap, ◌∙◌, ⊎_elim, arith}
-use Rattle.std.specs.List.{insert}
-use Rattle.std.proofs.lemmas.Bool.{cases_lt, lt-ltb, le-ltb}
-use Rattle.mp_names.specs.declared.controls.Shape.{Shape}
+-- Where a note is placed, what stays true then, and that the order of notes doesn't matter.
+use Rattle.std.proofs.Common.{◌≡◌, ◌≢◌, ℕ, zero, suc, ◌<◌, ◌≤◌, Bool, true, false, cond, ◌||◌, ◌==◌, List, [], ◌∷◌, length, get_or, refl, sym, ap, ◌∙◌, ⊎_elim, arith}
+use Rattle.std.specs.List.{insert, All}
+use Rattle.std.proofs.lemmas.Bool.{both_ways, cases_Bool, false_from_ne_true}
+use Rattle.std.proofs.lemmas.List.Elements.{All-cons, All-head, All-tail, All-nil}
+use Rattle.mp_names.specs.Names.{is_before}
 use Rattle.mp_bins.specs.declared.owners.Note.{Note}
-use Rattle.mp_bins.specs.Notes.{with_note, IsWithin, AreWithin}
+use Rattle.mp_bins.specs.Notes.{with_note, is_noted, rank_of_note, AreInOrder}
+use Rattle.mp_bins.proofs.Ranks.{not_back, before_both, one_before}
 
--- the place is after the notes of no greater index
-pub placed_at : (ns : List Note) (note : Note) (at : ℕ) → at ≤ length ns → ((k : ℕ) (d : Note) → k < at → (get_or ns k d).index ≤ note.index) → (d : Note) → (at < length ns → note.index < (get_or ns at d).index) → insert ns at note ≡ with_note ns note
-placed_at [] note zero l h d g = refl
-placed_at [] note (suc at) l h d g = absurd (omega arith)
-placed_at (n ∷ ns) note zero l h d g = let e : nat_lt note.index n.index ≡ true = lt-ltb note.index n.index (g (omega arith)) in rw e refl
-placed_at (n ∷ ns) note (suc at) l h d g =
-    let e : nat_lt note.index n.index ≡ false = le-ltb note.index n.index (h 0 n (omega arith)) in
-    rw e (ap (λ (r : List Note). n ∷ r) (placed_at ns note at (omega arith) (λ k e m. h (suc k) e (omega arith)) d (λ m. g (omega arith))))
+-- where one note is put
 
-pub within : (shape : Shape) (ns : List Note) (note : Note) → IsWithin shape note.control → AreWithin shape ns → AreWithin shape (with_note ns note)
-within shape [] note h k = (h, tt)
-within shape (n ∷ ns) note h k = pick (nat_lt note.index n.index) (within shape ns note h k.1)
+pub goes_first : (n : Note) (ns : List Note) (note : Note) → is_before (rank_of_note note) (rank_of_note n) ≡ true → with_note (n ∷ ns) note ≡ note ∷ n ∷ ns
+goes_first n ns note h = rw h refl
+
+pub goes_on : (n : Note) (ns : List Note) (note : Note) → is_before (rank_of_note note) (rank_of_note n) ≡ false → with_note (n ∷ ns) note ≡ n ∷ with_note ns note
+goes_on n ns note h = rw h refl
+
+-- the place is after the notes of no greater rank
+pub placed_at : (ns : List Note) (note : Note) (at : ℕ) → at ≤ length ns → ((k : ℕ) (d : Note) → k < at → is_before (rank_of_note note) (rank_of_note (get_or ns k d)) ≡ false) → ((d : Note) → at < length ns → is_before (rank_of_note note) (rank_of_note (get_or ns at d)) ≡ true) → insert ns at note ≡ with_note ns note
+placed_at [] note zero l h g = refl
+placed_at [] note (suc at) l h g = absurd (omega arith)
+placed_at (n ∷ ns) note zero l h g = sym (goes_first n ns note (g n (omega arith)))
+placed_at (n ∷ ns) note (suc at) l h g =
+    ap (λ (r : List Note). n ∷ r) (placed_at ns note at (omega arith) (λ k d m. h (suc k) d (omega arith)) (λ d m. g d (omega arith)))
+    ∙ sym (goes_on n ns note (h 0 n (omega arith)))
+
+-- what is true of each note and of the new one is true of each then
+pub All-with : (P : Note → Type 0) (ns : List Note) (note : Note) → P note → All P ns → All P (with_note ns note)
+All-with P [] note h k = All-cons P note [] h k
+All-with P (n ∷ ns) note h k = pick (is_before (rank_of_note note) (rank_of_note n)) (All-with P ns note h (All-tail P n ns k))
   where
-    pick : (q : Bool) → AreWithin shape (with_note ns note) → AreWithin shape (cond q (note ∷ n ∷ ns) (n ∷ with_note ns note))
-    pick true r = (h, k)
-    pick false r = (k.0, r)
+    pick : (q : Bool) → All P (with_note ns note) → All P (cond q (note ∷ n ∷ ns) (n ∷ with_note ns note))
+    pick true r = All-cons P note (n ∷ ns) h k
+    pick false r = All-cons P n (with_note ns note) (All-head P n ns k) r
 
-pub goes_first : (n : Note) (ns : List Note) (note : Note) → note.index < n.index → with_note (n ∷ ns) note ≡ note ∷ n ∷ ns
-goes_first n ns note h = let e : nat_lt note.index n.index ≡ true = lt-ltb note.index n.index h in rw e refl
+pub with_in_order : (ns : List Note) (note : Note) → AreInOrder ns → AreInOrder (with_note ns note)
+with_in_order [] note h = (All-nil (λ m. is_before (rank_of_note m) (rank_of_note note) ≡ false), tt)
+with_in_order (n ∷ ns) note h = pick (with_in_order ns note h.1) (is_before (rank_of_note note) (rank_of_note n)) refl
+  where
+    -- what isn't before n isn't before what comes before n
+    behind : is_before (rank_of_note note) (rank_of_note n) ≡ true → All (λ m. is_before (rank_of_note m) (rank_of_note note) ≡ false) ns
+    behind e k d l =
+        let m = rank_of_note (get_or ns k d) in
+        false_from_ne_true (is_before m (rank_of_note note)) (λ f. both_ways (is_before m (rank_of_note n)) (h.0 k d l) (before_both m (rank_of_note note) (rank_of_note n) f e))
 
-pub goes_on : (n : Note) (ns : List Note) (note : Note) → n.index ≤ note.index → with_note (n ∷ ns) note ≡ n ∷ with_note ns note
-goes_on n ns note h = let e : nat_lt note.index n.index ≡ false = le-ltb note.index n.index h in rw e refl
+    pick : AreInOrder (with_note ns note) → (q : Bool) → is_before (rank_of_note note) (rank_of_note n) ≡ q → AreInOrder (cond q (note ∷ n ∷ ns) (n ∷ with_note ns note))
+    pick r true e = (All-cons (λ m. is_before (rank_of_note m) (rank_of_note note) ≡ false) n ns (not_back (rank_of_note note) (rank_of_note n) e) (behind e), h)
+    pick r false e = (All-with (λ m. is_before (rank_of_note m) (rank_of_note n) ≡ false) ns note e h.0, r)
 
-strict : (s t : ℕ) → t ≤ s → s ≢ t → t < s
-strict s t l ne = grind arith
+-- in either order
 
--- the smaller index comes first
-in_turn : (ns : List Note) (a b : Note) → a.index < b.index → with_note (a ∷ ns) b ≡ a ∷ with_note ns b
-in_turn ns a b h = goes_on a ns b (omega arith)
-
-both_first : (n : Note) (ns : List Note) (a b : Note) → a.index < b.index → a.index < n.index → b.index < n.index → with_note (a ∷ n ∷ ns) b ≡ with_note (b ∷ n ∷ ns) a
-both_first n ns a b h k l = in_turn (n ∷ ns) a b h ∙ ap (λ (r : List Note). a ∷ r) (goes_first n ns b l) ∙ sym (goes_first b (n ∷ ns) a h)
-
-pub commute : (ns : List Note) (a b : Note) → a.index ≢ b.index → with_note (with_note ns a) b ≡ with_note (with_note ns b) a
-commute [] a b h =
+-- the first of two is noted first, or second
+commute_in_turn : (ns : List Note) (a b : Note) → is_before (rank_of_note a) (rank_of_note b) ≡ true → with_note (with_note ns a) b ≡ with_note (with_note ns b) a
+commute_in_turn [] a b h = goes_on a [] b (not_back (rank_of_note a) (rank_of_note b) h) ∙ sym (goes_first b [] a h)
+commute_in_turn (n ∷ ns) a b h =
     ⊎_elim
-    (λ (l : a.index < b.index). in_turn [] a b l ∙ sym (goes_first b [] a l))
-    (λ (l : b.index ≤ a.index). let k = strict a.index b.index l h in goes_first a [] b k ∙ sym (in_turn [] b a k))
-    (cases_lt a.index b.index)
-commute (n ∷ ns) a b h =
+    (λ (k : is_before (rank_of_note b) (rank_of_note n) ≡ true).
+    ap (λ (r : List Note). with_note r b) (goes_first n ns a (before_both (rank_of_note a) (rank_of_note b) (rank_of_note n) h k))
+    ∙ goes_on a (n ∷ ns) b (not_back (rank_of_note a) (rank_of_note b) h)
+    ∙ ap (λ (r : List Note). a ∷ r) (goes_first n ns b k)
+    ∙ sym (ap (λ (r : List Note). with_note r a) (goes_first n ns b k) ∙ goes_first b (n ∷ ns) a h))
+    (λ (k : is_before (rank_of_note b) (rank_of_note n) ≡ false).
     ⊎_elim
-    (λ (l : a.index < n.index).
+    (λ (l : is_before (rank_of_note a) (rank_of_note n) ≡ true).
     ap (λ (r : List Note). with_note r b) (goes_first n ns a l)
-    ∙ ⊎_elim
-    (λ (k : b.index < n.index).
-    ⊎_elim
-    (λ (m : a.index < b.index). both_first n ns a b m l k)
-    (λ (m : b.index ≤ a.index). sym (both_first n ns b a (strict a.index b.index m h) k l))
-    (cases_lt a.index b.index)
-    ∙ sym (ap (λ (r : List Note). with_note r a) (goes_first n ns b k)))
-    (λ (k : n.index ≤ b.index).
-    in_turn (n ∷ ns) a b (omega arith)
+    ∙ goes_on a (n ∷ ns) b (not_back (rank_of_note a) (rank_of_note b) h)
     ∙ ap (λ (r : List Note). a ∷ r) (goes_on n ns b k)
     ∙ sym (ap (λ (r : List Note). with_note r a) (goes_on n ns b k) ∙ goes_first n (with_note ns b) a l))
-    (cases_lt b.index n.index))
-    (λ (l : n.index ≤ a.index).
+    (λ (l : is_before (rank_of_note a) (rank_of_note n) ≡ false).
     ap (λ (r : List Note). with_note r b) (goes_on n ns a l)
-    ∙ ⊎_elim
-    (λ (k : b.index < n.index).
-    goes_first n (with_note ns a) b k
-    ∙ sym (ap (λ (r : List Note). with_note r a) (goes_first n ns b k) ∙ in_turn (n ∷ ns) b a (omega arith) ∙ ap (λ (r : List Note). b ∷ r) (goes_on n ns a l)))
-    (λ (k : n.index ≤ b.index).
-    goes_on n (with_note ns a) b k
-    ∙ ap (λ (r : List Note). n ∷ r) (commute ns a b h)
+    ∙ goes_on n (with_note ns a) b k
+    ∙ ap (λ (r : List Note). n ∷ r) (commute_in_turn ns a b h)
     ∙ sym (ap (λ (r : List Note). with_note r a) (goes_on n ns b k) ∙ goes_on n (with_note ns b) a l))
-    (cases_lt b.index n.index))
-    (cases_lt a.index n.index)
+    (cases_Bool (is_before (rank_of_note a) (rank_of_note n))))
+    (cases_Bool (is_before (rank_of_note b) (rank_of_note n)))
+
+pub commute : (ns : List Note) (a b : Note) → a.index ≢ b.index → with_note (with_note ns a) b ≡ with_note (with_note ns b) a
+commute ns a b h =
+    ⊎_elim
+    (λ (k : is_before (rank_of_note a) (rank_of_note b) ≡ true). commute_in_turn ns a b k)
+    (λ (k : is_before (rank_of_note a) (rank_of_note b) ≡ false). sym (commute_in_turn ns b a (one_before (rank_of_note b) (rank_of_note a) (λ e. h (cc)) k)))
+    (cases_Bool (is_before (rank_of_note a) (rank_of_note b)))
+
+-- which indices are noted
+
+pub noted_with : (ns : List Note) (note : Note) (i : ℕ) → is_noted (with_note ns note) i ≡ (note.index == i || is_noted ns i)
+noted_with [] note i = refl
+noted_with (n ∷ ns) note i = pick (is_before (rank_of_note note) (rank_of_note n)) (noted_with ns note i)
+  where
+    other_way : (a b c : Bool) → (a || (b || c)) ≡ (b || (a || c))
+    other_way true true c = refl
+    other_way true false c = refl
+    other_way false b c = refl
+
+    pick : (q : Bool) → is_noted (with_note ns note) i ≡ (note.index == i || is_noted ns i) → is_noted (cond q (note ∷ n ∷ ns) (n ∷ with_note ns note)) i ≡ (note.index == i || (n.index == i || is_noted ns i))
+    pick true r = refl
+    pick false r = ap (λ (b : Bool). n.index == i || b) r ∙ other_way (n.index == i) (note.index == i) (is_noted ns i)

@@ -1,6 +1,6 @@
 //! What holds of all bins and notes, each law the contract of a function that does nothing.
 ghost use Rattle.mp_bins.specs.Bins.{BinsAreLeadingBits};
-ghost use Rattle.mp_bins.specs.Laws.{OrderDoesNotMatter};
+ghost use Rattle.mp_bins.specs.Laws.{NoNotesAreOfAll, NotedIndicesAreKept, NotedRecordsAreNotes, OrderDoesNotMatter, OwnersAreToldByNotes};
 
 /// Of a power of two of bins, the bin of a key is the number that the leading bits of its hash say.
 pub fn bins_are_leading_bits()
@@ -10,4 +10,13 @@ pub fn bins_are_leading_bits()
 /// What was noted doesn't depend on the order of the notes.
 pub fn order_does_not_matter()
     ensures { OrderDoesNotMatter }
+{}
+
+/// Where every record of a list up to a time is noted, the owners up to then are those that the list
+/// says; and what a job notes of its list, from nothing on, are notes of that list.
+pub fn owners_are_told_by_notes()
+    ensures told { OwnersAreToldByNotes }
+    ensures at_first { NoNotesAreOfAll }
+    ensures one_more { NotedRecordsAreNotes }
+    ensures noted { NotedIndicesAreKept }
 {}

@@ -2,13 +2,15 @@
 #![tactic(auto)]
 
 mod bin;
+mod finding;
 mod laws;
+mod leaving;
 mod owners;
 mod places;
 #[cfg(test)]
 mod tests;
 
 pub use bin::bin_of;
-pub use laws::{bins_are_leading_bits, order_does_not_matter};
+pub use laws::{bins_are_leading_bits, order_does_not_matter, owners_are_told_by_notes};
 pub use mp_names::{Control, Move, Shape};
 pub use owners::Owners;

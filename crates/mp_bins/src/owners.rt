@@ -1,10 +1,11 @@
 //! The control records that were noted, and the owners that they give.
-ghost use Rattle.std.specs.Prelude.{◌≡◌, ◌<◌, ◌≤◌, ◌-◌, [], false, None, Some, cond, IfOk, OnOk, OnErr, IsOk, length};
-ghost use Rattle.std.specs.List.{insert};
-ghost use Rattle.mp_names.specs.Controls.{last_below, later_of};
+ghost use Rattle.std.specs.Prelude.{◌≡◌, ◌<◌, ◌≤◌, ◌-◌, [], false, None, Some, cond, IfOk, OnOk, OnErr, IsOk, IfSome, IfNone};
 ghost use Rattle.mp_bins.specs.Places.{name_of};
-ghost use Rattle.mp_bins.specs.Notes.{IsShape, IsWithin, controls_in, is_move_of, is_noted, move_of, moves_of, owner_at, owner_before, with_note};
+ghost use Rattle.mp_bins.specs.Notes.{IsShape, IsWithin, first_owner, is_move_of, is_noted, move_of, moves_of, owner_at, owner_before, with_note};
+ghost use Rattle.mp_bins.specs.Leaving.{BinStays, IsNextLeaving, IsNextOfBin, NoneLeaves, earlier_of};
 
+use crate::finding::{StageBin, owner_below, place_for};
+use crate::leaving::{earlier, first_time, leaving_from};
 use crate::places::{Place, places_of};
 use mp_names::{Control, Move, Shape};
 use std::alloc::{AllocError, Global};
@@ -22,20 +23,20 @@ pub struct Note {
 #[derive(Drop)]
 pub struct Owners {
     shape: Shape,
-    // Ascending by index.
+    // In the order of their ranks: by stage, bin, time and index.
     notes: Vec<Note>,
 }
 
 impl Model for Owners {
     ghost use Rattle.std.specs.Prelude.{length, ◌-◌};
     ghost use Rattle.std.specs.Vec.{vec_capacity};
-    ghost use Rattle.mp_bins.specs.Notes.{Notes, AreWithin, IsShape};
+    ghost use Rattle.mp_bins.specs.Notes.{Notes, AreInOrder, AreWithin, IsShape};
 
     ghost Value = { Notes };
 
     ghost view = { λ o. record { shape = o.shape; noted = o.notes.items; room = vec_capacity o.notes - length o.notes.items } };
 
-    ghost invariant = { λ o. IsShape o.shape × AreWithin o.shape o.notes.items };
+    ghost invariant = { λ o. IsShape o.shape × AreWithin o.shape o.notes.items × AreInOrder o.notes.items };
 }
 
 impl Owners {
@@ -77,7 +78,7 @@ impl Owners {
         ensures never_refused_with_room { 0 < self.old.room → IsOk result }
     {
         self.notes.reserve(1)?;
-        let at = place_of(&self.notes, index);
+        let at = place_for(&self.notes, Note { index, control });
         self.notes.insert(at, Note { index, control })?;
         Ok(())
     }
@@ -139,53 +140,48 @@ impl Owners {
         })
     }
 
+    /// The next move, by time and then by bin, by which a bin of a stage leaves a worker, of those after a
+    /// place (a time and a bin); of all where there is none. `None` where none is left. By what was noted.
+    pub fn next_leaving(&self, stage: u32, worker: u32, after: Option<(u64, u32)>) -> Option<Move>
+        requires { stage < self.now.shape.stages }
+        ensures next { IfSome result (IsNextLeaving self.now stage worker after) }
+        ensures none_left { IfNone result (NoneLeaves self.now stage worker after) }
+    {
+        let mut next = None;
+        for bin in 0..self.shape.bins {
+            next = earlier(next, self.leaving(stage, worker, bin, after));
+        }
+        next
+    }
+
+    // The same for one bin.
+    fn leaving(&self, stage: u32, worker: u32, bin: u32, after: Option<(u64, u32)>) -> Option<Move>
+        ensures next { IfSome result (IsNextOfBin self.now stage worker bin after) }
+        ensures none_left { IfNone result (BinStays self.now stage worker bin after) }
+    {
+        leaving_from(
+            &self.notes,
+            self.stage_bin(stage, bin),
+            worker,
+            first_time(after, bin),
+        )
+    }
+
     // By the records of times below `limit`.
     fn worker_below(&self, stage: u32, bin: u32, limit: u128) -> u32
         ensures owner { result ≡ owner_before self.now stage bin limit }
         ensures worker { result < self.now.shape.workers }
     {
-        match last_below(&self.notes, stage, bin, limit) {
-            Some(control) => control.worker,
-            None => bin % self.shape.workers,
+        owner_below(&self.notes, self.stage_bin(stage, bin), limit)
+    }
+
+    fn stage_bin(&self, stage: u32, bin: u32) -> StageBin
+        ensures { result ≡ record { stage = stage; bin = bin; first = first_owner self.now.shape bin } }
+    {
+        StageBin {
+            stage,
+            bin,
+            first: bin % self.shape.workers,
         }
     }
-}
-
-// The record of this stage and bin, of a time below `limit`, that counts.
-fn last_below(notes: &[Note], stage: u32, bin: u32, limit: u128) -> Option<Control>
-    ensures { result ≡ last_below (controls_in notes.now) stage bin limit }
-{
-    let mut last = None;
-    let mut at = notes.len();
-    while at > 0 {
-        at -= 1;
-        let control = notes[at].control;
-        if control.stage == stage && control.bin == bin && u128::from(control.time) < limit {
-            last = Some(later_of(control, last));
-        }
-    }
-    last
-}
-
-// The record of the later time; where the times are equal, the second.
-fn later_of(control: Control, last: Option<Control>) -> Control
-    ensures { Some result ≡ later_of control last }
-{
-    match last {
-        Some(later) if later.time >= control.time => later,
-        _ => control,
-    }
-}
-
-// How many notes stand before the first one of a greater index.
-fn place_of(notes: &[Note], index: u32) -> usize
-    ensures inside { result ≤ length notes.now }
-    ensures place { (note : _) → note.index ≡ index → insert notes.now result note ≡ with_note notes.now note }
-{
-    for (at, note) in notes.iter().enumerate() {
-        if note.index > index {
-            return at;
-        }
-    }
-    notes.len()
 }

@@ -10,22 +10,38 @@ const ONE_BIN: Shape = Shape {
     stages: 1,
 };
 
+const FOUR_BINS: Shape = Shape {
+    workers: 3,
+    bins: 4,
+    stages: 1,
+};
+
 fn to_worker(worker: u32, time: u64) -> Control
     ensures { result ≡ record { time = time; stage = 0; bin = 0; worker = worker } }
+{
+    bin_to_worker(0, worker, time)
+}
+
+fn bin_to_worker(bin: u32, worker: u32, time: u64) -> Control
+    ensures { result ≡ record { time = time; stage = 0; bin = bin; worker = worker } }
 {
     Control {
         time,
         stage: 0,
-        bin: 0,
+        bin,
         worker,
     }
 }
 
 fn moved(time: u64, from: u32, to: u32) -> Move {
+    bin_moved(0, time, from, to)
+}
+
+fn bin_moved(bin: u32, time: u64, from: u32, to: u32) -> Move {
     Move {
         time,
         stage: 0,
-        bin: 0,
+        bin,
         from,
         to,
     }
@@ -85,5 +101,68 @@ fn last_record_of_a_time_wins(rt: HostRuntime) -> Result<(), Fail> {
         assert_eq!(rt; owners.owner(0, 0, time), 0);
     }
     assert!(rt; owners.moves()?.is_empty());
+    Ok(())
+}
+
+#[test]
+fn bin_leaves_there_and_back(rt: HostRuntime) -> Result<(), Fail> {
+    let mut owners = Owners::new(rt.alloc(), ONE_BIN)?;
+    owners.note(0, to_worker(1, 10))?;
+    owners.note(1, to_worker(0, 20))?;
+    assert_eq!(rt; owners.next_leaving(0, 0, None), Some(moved(10, 0, 1)));
+    assert_eq!(rt;
+        owners.next_leaving(0, 0, Some((9, 5))),
+        Some(moved(10, 0, 1))
+    );
+    assert_eq!(rt; owners.next_leaving(0, 0, Some((10, 0))), None);
+    assert_eq!(rt; owners.next_leaving(0, 1, None), Some(moved(20, 1, 0)));
+    assert_eq!(rt; owners.next_leaving(0, 1, Some((20, 0))), None);
+    assert_eq!(rt; owners.next_leaving(0, 1, Some((u64::MAX, 0))), None);
+    Ok(())
+}
+
+#[test]
+fn bin_leaves_by_the_last_record_of_a_time(rt: HostRuntime) -> Result<(), Fail> {
+    let mut owners = Owners::new(rt.alloc(), ONE_BIN)?;
+    owners.note(0, to_worker(1, 10))?;
+    owners.note(1, to_worker(0, 10))?;
+    owners.note(2, to_worker(1, 30))?;
+    assert_eq!(rt; owners.next_leaving(0, 0, None), Some(moved(30, 0, 1)));
+    assert_eq!(rt; owners.next_leaving(0, 1, None), None);
+    Ok(())
+}
+
+#[test]
+fn two_bins_leave_at_one_time(rt: HostRuntime) -> Result<(), Fail> {
+    let mut owners = Owners::new(rt.alloc(), FOUR_BINS)?;
+    owners.note(0, bin_to_worker(3, 1, 10))?;
+    owners.note(1, bin_to_worker(0, 2, 10))?;
+    owners.note(2, bin_to_worker(1, 0, 5))?;
+    assert_eq!(rt;
+        owners.next_leaving(0, 0, None),
+        Some(bin_moved(0, 10, 0, 2))
+    );
+    assert_eq!(rt;
+        owners.next_leaving(0, 0, Some((10, 0))),
+        Some(bin_moved(3, 10, 0, 1))
+    );
+    assert_eq!(rt; owners.next_leaving(0, 0, Some((10, 3))), None);
+    assert_eq!(rt;
+        owners.next_leaving(0, 1, None),
+        Some(bin_moved(1, 5, 1, 0))
+    );
+    assert_eq!(rt; owners.next_leaving(0, 2, None), None);
+    Ok(())
+}
+
+#[test]
+fn thousands_of_records_of_one_bin(rt: HostRuntime) -> Result<(), Fail> {
+    let mut owners = Owners::new(rt.alloc(), FOUR_BINS)?;
+    for index in 0..3000 {
+        owners.note(index, bin_to_worker(0, index % 3, u64::from(index)))?;
+    }
+    for time in 0..3000 {
+        assert_eq!(rt; owners.owner(0, 0, u64::from(time)), time % 3);
+    }
     Ok(())
 }

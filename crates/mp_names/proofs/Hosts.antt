@@ -35,7 +35,7 @@ left_from log j b s m l h =
 abbrev pub Brought : Log → ℕ → ℕ → ℕ → ℕ → Type 0
 Brought log j b s u = (m : ℕ) × (s < m) × (m ≤ u) × (left_since log j b m ≡ false) × In (Packet j b m) log.took
 
-brought_at : (log : Log) (j b s u : ℕ) → list_any (brings_wake log j b s u) log.took ≡ true → Brought log j b s u
+pub brought_at : (log : Log) (j b s u : ℕ) → list_any (brings_wake log j b s u) log.took ≡ true → Brought log j b s u
 brought_at log j b s u h = let r = any_at (brings_wake log j b s u) log.took h in found r.0 r.1 r.2
   where
     found : (x : Name) → In x log.took → brings_wake log j b s u x ≡ true → Brought log j b s u
@@ -47,7 +47,7 @@ brought_at log j b s u h = let r = any_at (brings_wake log j b s u) log.took h i
         (m, ltb-true s m r.0, leb-true m u z.0, not-true (left_since log j b m) z.1, subst (λ (i : ℕ). In (Packet i b m) log.took) (eqb-true i j p.0) (subst (λ (c : ℕ). In (Packet i c m) log.took) (eqb-true c b q.0) g))
     found _ g e = absurd (false≢true e)
 
-brought_from : (log : Log) (j b s u : ℕ) → Brought log j b s u → list_any (brings_wake log j b s u) log.took ≡ true
+pub brought_from : (log : Log) (j b s u : ℕ) → Brought log j b s u → list_any (brings_wake log j b s u) log.took ≡ true
 brought_from log j b s u r =
     let m = r.0 in
     let rest = not (left_since log j b m) in

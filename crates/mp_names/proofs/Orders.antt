@@ -28,11 +28,11 @@ is_before-from (x ∷ xs) (y ∷ ys) h =
     (λ (e : (x ≡ y) × IsBefore xs ys). or_right (nat_lt x y) (x == y && is_before xs ys) (and_from (x == y) (is_before xs ys) (eq-eqb x y e.0) (is_before-from xs ys e.1)))
     h
 
-before_irreflexive : (xs : List ℕ) → IsBefore xs xs → ⊥
+pub before_irreflexive : (xs : List ℕ) → IsBefore xs xs → ⊥
 before_irreflexive [] h = h
 before_irreflexive (x ∷ xs) h = ⊎_elim (λ (e : x < x). omega arith) (λ (e : (x ≡ x) × IsBefore xs xs). before_irreflexive xs e.1) h
 
-before_trans : (xs ys zs : List ℕ) → IsBefore xs ys → IsBefore ys zs → IsBefore xs zs
+pub before_trans : (xs ys zs : List ℕ) → IsBefore xs ys → IsBefore ys zs → IsBefore xs zs
 before_trans xs ys [] h k = none ys k
   where
     none : (ys : List ℕ) → IsBefore ys [] → ⊥
@@ -48,7 +48,7 @@ before_trans (x ∷ xs) (y ∷ ys) (z ∷ zs) h k =
     ⊎_elim (λ (f : y < z). inl (omega arith)) (λ (f : (y ≡ z) × IsBefore ys zs). inr (d ∙ f.0, before_trans xs ys zs e.1 f.1)) k)
     h
 
-before_connected : (xs ys : List ℕ) → (xs ≡ ys) ⊎ (IsBefore xs ys ⊎ IsBefore ys xs)
+pub before_connected : (xs ys : List ℕ) → (xs ≡ ys) ⊎ (IsBefore xs ys ⊎ IsBefore ys xs)
 before_connected [] [] = inl refl
 before_connected [] (y ∷ ys) = inr (inl tt)
 before_connected (x ∷ xs) [] = inr (inr tt)

@@ -173,7 +173,7 @@ move_in_shape o ok j b t h =
 
 -- what the list says, without a search
 
-abbrev Said : List Control → ℕ → ℕ → ℕ → Option Control → Type 0
+abbrev pub Said : List Control → ℕ → ℕ → ℕ → Option Control → Type 0
 Said cs j b t None = (i : ℕ) → i < length cs → is_below j b t (control_of cs i) ≡ false
 Said cs j b t (Some c) = (i : ℕ) × IsLastBelow cs j b t i × (control_of cs i ≡ c)
 
@@ -225,7 +225,7 @@ module _ (c : Control) (cs : List Control) (j b t : ℕ) where
   chosen d h true e = taken e d h
   chosen d h false e = skipped e d h
 
-said : (cs : List Control) (j b t : ℕ) → Said cs j b t (last_below cs j b t)
+pub said : (cs : List Control) (j b t : ℕ) → Said cs j b t (last_below cs j b t)
 said [] j b t = λ i l. absurd (omega arith)
 said (c ∷ cs) j b t = chosen c cs j b t (last_below cs j b t) (said cs j b t) (is_below j b t c) refl
 

@@ -43,6 +43,7 @@ impl<T: Drop, O: Order<T>> Ordered<T, O> {
     pub fn make_room(&mut self, count: u64) -> Result<(), AllocError>
         ensures room { OnOk result (count ≤ self.new.room) }
         ensures items { self.new.items ≡ self.old.items }
+        ensures no_less { self.old.room ≤ self.new.room }
         ensures refused { OnErr result (self.new ≡ self.old) }
     {
         self.items.reserve(count as usize)

@@ -6,6 +6,7 @@ ghost use Rattle.mp_postdated.specs.Wakes.{ComesNoLater, Has, IsAmongWakes, IsAs
 use mp_model::Time;
 use std::alloc::{AllocError, Global};
 use std::collections::BTreeSet;
+use std::collections::btree_set::Iter;
 use std::marker::Model;
 
 /// The keys that are to be woken, each with a time, as Megaphone's post-dated records. Contracts see the pairs of a
@@ -96,6 +97,15 @@ impl Wakes {
         ensures few { result < 2 ^ 63 }
     {
         self.set.iter().filter(|wake| wake.0 == time).count()
+    }
+
+    /// The wakes, by time and then by key.
+    pub fn iter(&self) -> Iter<'_, (Time, u64)>
+        ensures rest { result ≡ self.now }
+        ensures ascending { IsAscending self.now }
+        ensures fits { length self.now < 2 ^ 63 }
+    {
+        self.set.iter()
     }
 
     /// The first wake by time and then by key; `None` exactly where there is none.

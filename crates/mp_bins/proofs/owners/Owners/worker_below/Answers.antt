@@ -1,11 +1,16 @@
-use Rattle.std.proofs.Common.{◌<◌, List, ap, subst, sym, ◌∙◌}
-use Rattle.mp_names.specs.Controls.{last_below}
+use Rattle.std.proofs.Common.{◌≡◌, ◌%◌, ◌<◌, ℕ, List, ap, subst, sym, arith}
 use Rattle.mp_bins.specs.declared.owners.Note.{Note}
-use Rattle.mp_bins.specs.Notes.{Notes, controls_in}
-use Rattle.mp_bins.proofs.Searching.{found_worker}
+use Rattle.mp_bins.specs.declared.finding.StageBin.{StageBin}
+use Rattle.mp_bins.specs.Notes.{AreWithin, Notes}
+use Rattle.mp_bins.proofs.Searching.{owner_is_worker}
 use Rattle.mp_bins.proofs.owners.Owners.worker_below.Goals as goal
 
-pub returns-in-Some-clause-worker : goal.returns-in-Some-clause-worker
-returns-in-Some-clause-worker c =
-    let e = sym c.in-Some.is ∙ c.last_below.ensures ∙ ap (λ (ns : List Note). last_below (controls_in ns) c.args.stage c.args.bin c.args.limit) c.deref.ensures.value in
-    subst (λ (n : Notes). c.in-Some.control.worker < n.shape.workers) c.self.view_is (found_worker c.self.inside.shape c.self.inside.notes.items c.args.stage c.args.bin c.args.limit c.in-Some.control c.self.invariant.1 e)
+pub returns-clause-worker : goal.returns-clause-worker
+returns-clause-worker c =
+    let shape = c.args.self.now.shape in
+    let place = c.stage_bin.result in
+    let kept = subst (λ (ns : List Note). AreWithin c.self.inside.shape ns) (sym c.deref.ensures.value) c.self.invariant.1 in
+    let within = subst (λ (n : Notes). AreWithin n.shape c.deref.result.now) c.self.view_is kept in
+    let some_worker : 0 < shape.workers = subst (λ (n : Notes). 0 < n.shape.workers) c.self.view_is c.self.invariant.0.0 in
+    let first_is : place.first ≡ c.args.bin % shape.workers = ap (λ (s : StageBin). s.first) c.stage_bin.ensures in
+    subst (λ (w : ℕ). w < shape.workers) (sym c.owner_below.ensures) (owner_is_worker shape c.deref.result.now within place.first place.stage place.bin c.args.limit (omega arith))
