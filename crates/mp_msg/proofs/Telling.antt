@@ -1,7 +1,7 @@
 -- A name tells what a message of it holds.
 use Rattle.std.proofs.Common.{◌≡◌, ◌⊎◌, ℕ, ◌-◌, List, [], Contains, refl, sym, ap, ◌∙◌, subst, ⊎_elim}
 use Rattle.mp_names.specs.declared.names.Name.{Name}
-use Rattle.mp_names.specs.declared.names.Name.TheVariants.{Rec as RecName, Row as RowName}
+use Rattle.mp_names.specs.declared.names.Name.TheVariants.{Rec as RecName, Packet as PacketName, Row as RowName}
 use Rattle.mp_names.specs.declared.names.Tag.{Tag}
 use Rattle.mp_model.specs.declared.fields.Field.{Field}
 use Rattle.mp_model.specs.declared.record.Output.{Output}
@@ -16,9 +16,11 @@ use Rattle.mp_outline.proofs.Pairs.{Pairs-two}
 use Rattle.mp_outline.proofs.Records.{same_record}
 use Rattle.mp_outline.proofs.Stages.{same_parts}
 use Rattle.mp_outline.proofs.Tags.{tag_irreflexive}
-use Rattle.mp_msg.specs.declared.message.Body.TheVariants.{Rec, Row}
+use Rattle.mp_msg.specs.declared.message.Body.TheVariants.{Ctrl, Rec, Packet, Row}
 use Rattle.mp_msg.specs.Contents.{IsRecordOf, IsRowOf}
 use Rattle.mp_msg.specs.Laws.{BodiesFollowNames, RecordsFollowNames, RowsFollowNames}
+use Rattle.mp_msg.specs.States.{BinContent, IsStateBefore}
+use Rattle.mp_msg.proofs.States.{states_follow_names}
 
 -- the fields of a row
 fields_in : Value → List Field
@@ -29,11 +31,7 @@ same_fields : (a b : List Field) → RowValue a ≡ RowValue b → a ≡ b
 unfolding fields_in
 same_fields a b e = ap fields_in e
 
--- the kind, stage, time and tag of a name
-
-is_of_record : Name → Type 0
-is_of_record (RecName j t k g) = Unit {0}
-is_of_record _ = ⊥
+-- the stage, time and tag of a name
 
 stage_in : Name → ℕ
 stage_in (RecName j t k g) = j
@@ -54,10 +52,6 @@ same_stage i j s t k l a b e = ap stage_in e
 same_row : (s t : ℕ) (a b : Tag) → RowName s a ≡ RowName t b → (s ≡ t) × (a ≡ b)
 unfolding time_in tag_in
 same_row s t a b e = (ap time_in e, ap tag_in e)
-
-no_row : (j s t k : ℕ) (a b : Tag) → RecName j s k a ≡ RowName t b → ⊥
-unfolding is_of_record
-no_row j s t k a b e = subst is_of_record e tt
 
 module _ {Cell : Type 0} (q : QueryFacts Cell) (job : JobFacts) where
   pub records_follow_names : RecordsFollowNames q job
@@ -81,18 +75,29 @@ module _ {Cell : Type 0} (q : QueryFacts Cell) (job : JobFacts) where
   rows_follow_names t g a b h i =
       same_fields a b (ap (λ (o : Output). o.value) (same_output (record { time = t; tag = g; value = RowValue a }) (record { time = t; tag = g; value = RowValue b }) h i refl refl))
 
+  -- two states of one bin just before one time, where the numbers are only equal
+  same_packet : (j i b a t u : ℕ) (s r : BinContent Cell) → PacketName j b t ≡ PacketName i a u → IsStateBefore q job j b t s → IsStateBefore q job i a u r → Packet j b t s ≡ Packet i a u r
+  same_packet j i b a t u s r e h k =
+      let stage : j ≡ i = cc in
+      let bin : b ≡ a = cc in
+      let time : t ≡ u = cc in
+      let moved : IsStateBefore q job j b t r = rw (stage, bin, time) k in
+      let one : s ≡ r = states_follow_names q job j b t s r h moved in
+      cc
+
   pub bodies_follow_names : BodiesFollowNames q job
+  bodies_follow_names (Ctrl i v c) (Ctrl l w d) h k e = let one = h.2 in let other = k.2 in cc
   bodies_follow_names (Rec j r) (Rec i s) h k e =
       let stage = same_stage j i r.time s.time r.key s.key r.tag s.tag e in
       let parts = same_parts j i r.time s.time r.key s.key r.tag s.tag e in
       let moved = subst (λ (n : ℕ). IsRecordOf q job n s) (sym stage) k in
       let one = same_record q job.events j r s h.1 moved.1 parts.0 parts.2 in
       ap (λ (n : ℕ). Rec n r) stage ∙ ap (λ (u : Record). Rec i u) one
-  bodies_follow_names (Rec j r) (Row t g b) h k e = absurd (no_row j r.time t r.key r.tag g e)
-  bodies_follow_names (Row t g a) (Rec j r) h k e = absurd (no_row j r.time t r.key r.tag g (sym e))
+  bodies_follow_names (Packet j b t s) (Packet i a u r) h k e = same_packet j i b a t u s r e h.1 k.1
   bodies_follow_names (Row s f a) (Row t g b) h k e =
       let same = same_row s t f g e in
       let timed = subst (λ (u : ℕ). IsRowOf q job u f a) same.0 h in
       let tagged = subst (λ (u : Tag). IsRowOf q job t u a) same.1 timed in
       let one = rows_follow_names t g a b tagged k in
       ap (λ (u : ℕ). Row u f a) same.0 ∙ (ap (λ (u : Tag). Row t u a) same.1 ∙ ap (λ (fields : List Field). Row t g fields) one)
+  bodies_follow_names _ _ h k e = cc

@@ -1,6 +1,7 @@
 -- What the names of a job tell of its messages.
 use Rattle.std.specs.Prelude.{◌≡◌, ℕ, List}
-use Rattle.mp_names.specs.declared.names.Name.TheVariants.{Rec as RecName, Row as RowName}
+use Rattle.mp_names.specs.declared.controls.Control.{Control}
+use Rattle.mp_names.specs.declared.names.Name.TheVariants.{Ctrl as CtrlName, Rec as RecName, Packet as PacketName, Row as RowName}
 use Rattle.mp_names.specs.declared.names.Tag.{Tag}
 use Rattle.mp_names.specs.Outlines.{IsOwed}
 use Rattle.mp_model.specs.declared.fields.Field.{Field}
@@ -9,7 +10,8 @@ use Rattle.mp_model.specs.Facts.{JobFacts, QueryFacts}
 use Rattle.mp_outline.specs.JobOutline.{name_of_record, outline_of}
 use Rattle.mp_msg.specs.declared.message.Body.{Body}
 use Rattle.mp_msg.specs.Bodies.{IsContentOf, name_of_body}
-use Rattle.mp_msg.specs.Contents.{IsRecordOf, IsRowOf}
+use Rattle.mp_msg.specs.Contents.{IsControlOf, IsPacketOf, IsRecordOf, IsRowOf}
+use Rattle.mp_msg.specs.States.{BinContent, IsStateBefore}
 
 module _ {Cell : Type 0} where
   -- each record of a stage has to be sent
@@ -19,6 +21,14 @@ module _ {Cell : Type 0} where
   -- and so has each answer row
   abbrev pub RowsAreOwed : QueryFacts Cell → JobFacts → Type 0
   RowsAreOwed q job = (t : ℕ) (g : Tag) (fields : List Field) → IsRowOf q job t g fields → IsOwed (outline_of q job) (RowName t g)
+
+  -- and so has each control record, to each worker
+  abbrev pub ControlsAreOwed : QueryFacts Cell → JobFacts → Type 0
+  ControlsAreOwed q job = (i v : ℕ) (c : Control) → IsControlOf job i v c → IsOwed (outline_of q job) (CtrlName i v)
+
+  -- and the state of each bin that moves
+  abbrev pub PacketsAreOwed : QueryFacts Cell → JobFacts → Type 0
+  PacketsAreOwed q job = (j b t : ℕ) (s : BinContent Cell) → IsPacketOf q job j b t s → IsOwed (outline_of q job) (PacketName j b t)
 
   -- where the name of a record has to be sent the job has that record
   abbrev pub OwedRecordsAreThere : QueryFacts Cell → JobFacts → Type 0
@@ -36,7 +46,11 @@ module _ {Cell : Type 0} where
   abbrev pub RowsFollowNames : QueryFacts Cell → JobFacts → Type 0
   RowsFollowNames q job = (t : ℕ) (g : Tag) (a b : List Field) → IsRowOf q job t g a → IsRowOf q job t g b → a ≡ b
 
+  -- a bin has one state just before a time
+  abbrev pub StatesFollowNames : QueryFacts Cell → JobFacts → Type 0
+  StatesFollowNames q job = (j b t : ℕ) (s r : BinContent Cell) → IsStateBefore q job j b t s → IsStateBefore q job j b t r → s ≡ r
+
   -- two messages with one name hold the same
   abbrev pub BodiesFollowNames : QueryFacts Cell → JobFacts → Type 0
   BodiesFollowNames q job =
-      (a b : Body) → IsContentOf q job a → IsContentOf q job b → name_of_body a ≡ name_of_body b → a ≡ b
+      (a b : Body Cell) → IsContentOf q job a → IsContentOf q job b → name_of_body a ≡ name_of_body b → a ≡ b

@@ -4,16 +4,18 @@ ghost use Rattle.mp_names.specs.declared.names.Name.{Name};
 ghost use Rattle.mp_names.specs.Outlines.{IsOwed, IsOwedBy, IsOwedTo};
 ghost use Rattle.mp_model.specs.Facts.{JobFacts};
 ghost use Rattle.mp_outline.specs.JobOutline.{outline_of};
-ghost use Rattle.mp_msg.specs.Laws.{BodiesFollowNames, OwedRecordsAreThere, RecordsAreOwed, RecordsFollowNames, RowsAreOwed, RowsFollowNames};
+ghost use Rattle.mp_msg.specs.Laws.{BodiesFollowNames, ControlsAreOwed, OwedRecordsAreThere, PacketsAreOwed, RecordsAreOwed, RecordsFollowNames, RowsAreOwed, RowsFollowNames, StatesFollowNames};
 
 use crate::Msg;
 use mp_mailbox::Named;
 use mp_model::{Naming, Query};
 
-/// Each record of a stage and each answer row has to be sent, so a message goes from the name's sender to its receiver.
-/// Where the name of a record has to be sent there is that record.
+/// Each control record, record of a stage, state of a bin that moves and answer row has to be sent, so a message goes from
+/// the name's sender to its receiver. Where the name of a record has to be sent there is that record.
 pub fn messages_are_owed<Q: Query>()
+    ensures controls { (job : JobFacts) → ControlsAreOwed (Q.facts job.rules) job }
     ensures records { (job : JobFacts) → RecordsAreOwed (Q.facts job.rules) job }
+    ensures packets { (job : JobFacts) → PacketsAreOwed (Q.facts job.rules) job }
     ensures rows { (job : JobFacts) → RowsAreOwed (Q.facts job.rules) job }
     ensures there { (job : JobFacts) → OwedRecordsAreThere (Q.facts job.rules) job }
 {}
@@ -22,6 +24,7 @@ pub fn messages_are_owed<Q: Query>()
 pub fn names_tell_contents<Q: Query>()
     ensures records { (job : JobFacts) → RecordsFollowNames (Q.facts job.rules) job }
     ensures rows { (job : JobFacts) → RowsFollowNames (Q.facts job.rules) job }
+    ensures states { (job : JobFacts) → StatesFollowNames (Q.facts job.rules) job }
     ensures bodies { (job : JobFacts) → BodiesFollowNames (Q.facts job.rules) job }
 {}
 

@@ -1,22 +1,36 @@
 //! A message and what it holds.
 ghost use Rattle.std.specs.Prelude.{◌≡◌};
-ghost use Rattle.mp_names.specs.declared.names.Name.TheVariants.{Row as RowName};
+ghost use Rattle.mp_names.specs.declared.names.Name.TheVariants.{Ctrl as CtrlName, Packet as PacketName, Row as RowName};
 ghost use Rattle.mp_outline.specs.JobOutline.{name_of_record};
 ghost use Rattle.mp_msg.specs.Bodies.{IsContentOf, name_of_body};
-ghost use Rattle.mp_msg.specs.Contents.{IsRecordOf, IsRowOf};
+ghost use Rattle.mp_msg.specs.Contents.{IsControlOf, IsPacketOf, IsRecordOf, IsRowOf};
 
+use crate::BinState;
 use mp_mailbox::Named;
 use mp_model::{Fields, Naming, Query, Rec, Time};
-use mp_names::{Name, Tag};
+use mp_names::{Control, Name, Tag};
 use std::marker::{Model, PhantomData};
 
 /// What a message holds.
-#[derive(Drop, Debug)]
-pub enum Body {
+#[derive(Drop)]
+pub enum Body<C: Drop> {
+    /// The control record that stands at this index of the job's list, for worker `to`.
+    Ctrl {
+        index: u32,
+        to: u32,
+        control: Control,
+    },
     /// A record of a stage.
     Rec {
         stage: u32,
         rec: Rec,
+    },
+    /// What a bin of a stage has just before it moves at this time.
+    Packet {
+        stage: u32,
+        bin: u32,
+        time: Time,
+        state: BinState<C>,
     },
     /// An answer row: its time, what tells it from the others of that time, and its fields.
     Row {
@@ -29,7 +43,7 @@ pub enum Body {
 /// A message of the job J of the query Q. Contracts see its name.
 #[derive(Drop)]
 pub struct Msg<Q: Query, J: Naming> {
-    body: Body,
+    body: Body<Q::Cell>,
     of: PhantomData<(Q, J)>,
 }
 
@@ -59,6 +73,33 @@ impl<Q: Query, J: Naming> Named for Msg<Q, J> {
 }
 
 impl<Q: Query, J: Naming> Msg<Q, J> {
+    /// A message that takes the control record at an index of the job's list to a worker.
+    pub fn control(index: u32, to: u32, control: Control) -> Msg<Q, J>
+        requires { IsControlOf J.job index to control }
+        ensures { result ≡ CtrlName index to }
+    {
+        Msg {
+            body: Body::Ctrl { index, to, control },
+            of: PhantomData,
+        }
+    }
+
+    /// A message that takes what a bin has just before a move to its new owner.
+    pub fn packet(stage: u32, bin: u32, time: Time, state: BinState<Q::Cell>) -> Msg<Q, J>
+        requires { IsPacketOf (Q.facts J.job.rules) J.job stage bin time state }
+        ensures { result ≡ PacketName stage bin time }
+    {
+        Msg {
+            body: Body::Packet {
+                stage,
+                bin,
+                time,
+                state,
+            },
+            of: PhantomData,
+        }
+    }
+
     /// A message that holds a record of this stage of the job.
     pub fn rec(stage: u32, rec: Rec) -> Msg<Q, J>
         requires { IsRecordOf (Q.facts J.job.rules) J.job stage rec }
@@ -86,6 +127,20 @@ impl<Q: Query, J: Naming> Msg<Q, J> {
         ensures { result ≡ self.now }
     {
         match &self.body {
+            Body::Ctrl { index, to, .. } => Name::Ctrl {
+                index: *index,
+                to: *to,
+            },
+            Body::Packet {
+                stage,
+                bin,
+                time,
+                ..
+            } => Name::Packet {
+                stage: *stage,
+                bin: *bin,
+                time: *time,
+            },
             Body::Rec { stage, rec } => Name::Rec {
                 stage: *stage,
                 time: rec.time,
@@ -100,7 +155,7 @@ impl<Q: Query, J: Naming> Msg<Q, J> {
     }
 
     /// What it holds: of the job, and under the message's name.
-    pub fn into_body(self) -> Body
+    pub fn into_body(self) -> Body<Q::Cell>
         ensures name { name_of_body result ≡ self }
         ensures content { IsContentOf (Q.facts J.job.rules) J.job result }
     {

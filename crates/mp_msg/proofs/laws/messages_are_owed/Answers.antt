@@ -1,5 +1,11 @@
-use Rattle.mp_msg.proofs.Owed.{owed_records_are_there, records_are_owed, rows_are_owed}
+use Rattle.mp_msg.proofs.Owed.{controls_are_owed, owed_records_are_there, packets_are_owed, records_are_owed, rows_are_owed}
 use Rattle.mp_msg.proofs.laws.messages_are_owed.Goals as goal
+
+pub returns-clause-controls : goal.returns-clause-controls
+returns-clause-controls g c = λ job. controls_are_owed (g.Q.Query.facts job.rules) job
+
+pub returns-clause-packets : goal.returns-clause-packets
+returns-clause-packets g c = λ job. packets_are_owed (g.Q.Query.facts job.rules) job
 
 pub returns-clause-records : goal.returns-clause-records
 returns-clause-records g c = λ job. records_are_owed (g.Q.Query.facts job.rules) job

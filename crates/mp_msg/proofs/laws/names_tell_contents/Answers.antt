@@ -1,3 +1,4 @@
+use Rattle.mp_msg.proofs.States.{states_follow_names}
 use Rattle.mp_msg.proofs.Telling.{bodies_follow_names, records_follow_names, rows_follow_names}
 use Rattle.mp_msg.proofs.laws.names_tell_contents.Goals as goal
 
@@ -6,6 +7,9 @@ returns-clause-records g c = λ job. records_follow_names (g.Q.Query.facts job.r
 
 pub returns-clause-rows : goal.returns-clause-rows
 returns-clause-rows g c = λ job. rows_follow_names (g.Q.Query.facts job.rules) job
+
+pub returns-clause-states : goal.returns-clause-states
+returns-clause-states g c = λ job. states_follow_names (g.Q.Query.facts job.rules) job
 
 pub returns-clause-bodies : goal.returns-clause-bodies
 returns-clause-bodies g c = λ job. bodies_follow_names (g.Q.Query.facts job.rules) job
