@@ -1,5 +1,5 @@
 -- What stays true of a log's entries and of its room.
-use Rattle.std.proofs.Common.{◌≡◌, ℕ, List, ◌++◌, ℤ, ◌+ℤ◌, ◌-ℤ◌, max, ap, ◌∙◌, arith}
+use Rattle.std.proofs.Common.{◌≡◌, ℕ, List, ℤ, ◌+ℤ◌, ◌-ℤ◌, max, ap, ◌∙◌, arith}
 use Rattle.mp_names.specs.declared.locations.Loc.{Loc}
 use Rattle.mp_names.specs.declared.names.Name.{Name}
 use Rattle.mp_names.specs.Frontiers.{contribution}
@@ -13,7 +13,11 @@ use Rattle.mp_rows.specs.Entries.{AreChanges, AreContributions, sum_at}
 use Rattle.mp_rows.specs.Lists.{with_name}
 use Rattle.mp_rows.specs.Room.{HasRoom}
 use Rattle.mp_rows.specs.WorkerLog.{WorkerLog}
-use Rattle.mp_rows.proofs.Sums.{after_changes, sum_at-append}
+use Rattle.mp_rows.proofs.Sums.{after_changes}
+
+-- what is added to a list is added to the same one
+pub added_to : (es same new changes : List (Loc × ℕ × ℤ)) → same ≡ es → ((loc : Loc) (t : ℕ) → sum_at new loc t ≡ sum_at same loc t +ℤ sum_at changes loc t) → (loc : Loc) (t : ℕ) → sum_at new loc t ≡ sum_at es loc t +ℤ sum_at changes loc t
+added_to es same new changes e f = λ loc t. f loc t ∙ ap (λ (xs : List (Loc × ℕ × ℤ)). sum_at xs loc t +ℤ sum_at changes loc t) e
 
 module _ (o : Outline) where
   -- the same log and the same entries
@@ -25,12 +29,11 @@ module _ (o : Outline) where
   seen inside value xs ys e f h = λ loc t. rw (f, ← e) (h loc t)
 
   -- one more name, with its changes
-  pub grown : (inside value : WorkerLog) (list : LogList) (x : Name) (same new : Log) (entries changes ys : List (Loc × ℕ × ℤ)) → inside ≡ value → same ≡ inside.log → new ≡ with_name list x same → ys ≡ entries ++ changes → AreChanges o value.worker value.log (with_name list x value.log) changes → AreContributions o inside.worker inside.log entries → AreContributions o inside.worker new ys
+  pub grown : (inside value : WorkerLog) (list : LogList) (x : Name) (same new : Log) (entries changes ys : List (Loc × ℕ × ℤ)) → inside ≡ value → same ≡ inside.log → new ≡ with_name list x same → ((loc : Loc) (t : ℕ) → sum_at ys loc t ≡ sum_at entries loc t +ℤ sum_at changes loc t) → AreChanges o value.worker value.log (with_name list x value.log) changes → AreContributions o inside.worker inside.log entries → AreContributions o inside.worker new ys
   grown inside value list x same new entries changes ys e f g k c h = λ loc t.
       let n : new ≡ with_name list x inside.log = g ∙ ap (with_name list x) f in
       let d : sum_at changes loc t ≡ contribution o inside.worker (with_name list x inside.log) loc t -ℤ contribution o inside.worker inside.log loc t = rw e (c.sums loc t) in
-      let s : sum_at ys loc t ≡ sum_at entries loc t +ℤ sum_at changes loc t = rw k (sum_at-append entries changes loc t) in
-      rw n (after_changes (sum_at ys loc t) (sum_at entries loc t) (sum_at changes loc t) (contribution o inside.worker inside.log loc t) (contribution o inside.worker (with_name list x inside.log) loc t) s (h loc t) d)
+      rw n (after_changes (sum_at ys loc t) (sum_at entries loc t) (sum_at changes loc t) (contribution o inside.worker inside.log loc t) (contribution o inside.worker (with_name list x inside.log) loc t) (k loc t) (h loc t) d)
 
 -- room for the greater number
 pub room_max : (m n : ℕ) (l : Lists) → HasRoom m l → HasRoom n l → HasRoom (max m n) l

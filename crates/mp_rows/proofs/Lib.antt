@@ -5,3 +5,6 @@ pub mod Nothing
 pub mod Sources
 pub mod EmptyLog
 pub mod RowTaken
+pub mod Netted
+pub mod RowSent
+pub mod Single

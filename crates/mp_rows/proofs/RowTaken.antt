@@ -16,15 +16,15 @@ use Rattle.mp_names.specs.Names.{has, is_ctrl, is_packet, is_rec, is_row}
 use Rattle.mp_names.specs.Outlines.{Outline, ctrl_names, groups_of, is_posted, time_of}
 use Rattle.mp_rows.specs.Entries.{AreChanges, sum_at}
 
-or_none : (b : Bool) → b ≡ false → (b || false) ≡ false
+pub or_none : (b : Bool) → b ≡ false → (b || false) ≡ false
 or_none true e = absurd (false≢true (sym e))
 or_none false e = refl
 
-any_more : (p : Name → Bool) (x : Name) → p x ≡ false → (xs : List Name) → list_any p (xs ++ x ∷ []) ≡ list_any p xs
+pub any_more : (p : Name → Bool) (x : Name) → p x ≡ false → (xs : List Name) → list_any p (xs ++ x ∷ []) ≡ list_any p xs
 any_more p x e [] = or_none (p x) e
 any_more p x e (y ∷ ys) = ap (λ (b : Bool). p y || b) (any_more p x e ys)
 
-nothing : (x y : ℤ) → x ≡ y → pos 0 ≡ x -ℤ y
+pub nothing : (x y : ℤ) → x ≡ y → pos 0 ≡ x -ℤ y
 nothing x y e = omega (arith, ints)
 
 one_less : (a : ℤ) (b : Bool) (n m : ℕ) → m ≡ n + cond b 1 0 → cond b (negsuc 0) (pos 0) +ℤ pos 0 ≡ (a -ℤ pos m) -ℤ (a -ℤ pos n)

@@ -3,6 +3,7 @@
 
 mod lists;
 mod log;
+mod netting;
 mod opening;
 #[cfg(test)]
 mod tests;

@@ -7,6 +7,7 @@ ghost use Rattle.mp_rows.specs.Lists.{names_in, with_name};
 
 use crate::Change;
 use crate::lists::{Lists, LogList};
+use crate::netting::net_all;
 use crate::opening::opening_entries;
 use mp_job::{Job, Query};
 use mp_model::Naming;
@@ -20,7 +21,8 @@ use std::marker::{Model, PhantomData};
 pub struct Log<Q: Query, J: Naming> {
     worker: u32,
     lists: Lists,
-    // Their sum at each location and time is the log's contribution.
+    // Their sum at each location and time is the log's contribution. A change is added to the entry of its location and
+    // time, if there is one, so that the list doesn't grow with each name.
     contributions: Vec<Change>,
     // How many more names each list has room for, and how many changes there is room for.
     room_for_names: u64,
@@ -85,7 +87,8 @@ impl<Q: Query, J: Naming> Log<Q, J> {
         ensures ready { 1 ≤ self.old.room_for_names → length changes.now ≤ self.old.room_for_changes → IsOk result }
     {
         self.lists.reserve(1)?;
-        self.contributions.extend_from_slice(changes)?;
+        self.contributions.reserve(changes.len())?;
+        net_all(&mut self.contributions, changes);
         self.lists.push(list, name);
         self.room_for_names = self.room_for_names.saturating_sub(1);
         self.room_for_changes = self.room_for_changes.saturating_sub(changes.len() as u64);

@@ -7,6 +7,7 @@ ghost use Rattle.mp_job.specs.Legal.{ControlFits, ControlsFit};
 ghost use Rattle.mp_job.specs.Samples.{bids_fit, bids_give_nothing, bids_have_keys, bids_have_stages};
 ghost use Rattle.mp_job.specs.Samples.{bids_post_later, bids_post_once, bids_stay_fresh, waking_bids};
 
+use crate::netting::net_all;
 use crate::{Job, Loc, Log, LogList, Name, Naming, Query, Time};
 use mp_job::{Control, Event, Shape};
 use mp_model::{Group, PostList, Rec, Tag, Value};
@@ -189,6 +190,18 @@ fn take_row<J: Naming>(log: &mut Log<WakingBids, J>, time: Time) -> Result<(), A
     log.push(LogList::Took, row, &[(Loc::OutMail, time, -1)])
 }
 
+// Sends that row, of a log that has applied nothing.
+fn send_row<J: Naming>(log: &mut Log<WakingBids, J>, time: Time) -> Result<(), AllocError>
+    requires { log.old.log.applied ≡ [] }
+    ensures { log.new.log.applied ≡ [] }
+{
+    let row = Name::Row {
+        time,
+        tag: Tag(7, 0),
+    };
+    log.push(LogList::Sent, row, &[(Loc::OutMail, time, 1)])
+}
+
 fn logs_grow<J: Naming>(rt: &impl Abort, alloc: Global, job: &Job<WakingBids>) -> Result<(), Fail>
     requires job { job.now ≡ J.job }
     requires shape { job.now.shape ≡ SHAPE }
@@ -198,12 +211,8 @@ fn logs_grow<J: Naming>(rt: &impl Abort, alloc: Global, job: &Job<WakingBids>) -
     log.make_room(2)?;
     take_row(&mut log, 50)?;
     take_row(&mut log, 40)?;
-    let changes = [
-        (Loc::OutMail, 40, -1),
-        (Loc::OutMail, 50, -1),
-        (Loc::OutMail, 40, -1),
-    ];
-    assert_eq!(rt; log.contributions(), changes.as_slice());
+    let entries = [(Loc::OutMail, 40, -2), (Loc::OutMail, 50, -1)];
+    assert_eq!(rt; log.contributions(), entries.as_slice());
     assert_eq!(rt; log.names(LogList::Took).len(), 3);
     assert!(rt; log.names(LogList::Sent).is_empty());
     Ok(())
@@ -213,6 +222,51 @@ fn logs_grow<J: Naming>(rt: &impl Abort, alloc: Global, job: &Job<WakingBids>) -
 fn pushes_with_their_changes(rt: HostRuntime) -> Result<(), Fail> {
     let job = small_job(rt.alloc())?;
     logs_grow::<Brand>(&rt, rt.alloc(), &job)
+}
+
+fn changes_cancel<J: Naming>(
+    rt: &impl Abort,
+    alloc: Global,
+    job: &Job<WakingBids>,
+) -> Result<(), Fail>
+    requires job { job.now ≡ J.job }
+    requires shape { job.now.shape ≡ SHAPE }
+{
+    let mut log = Log::<WakingBids, J>::open(alloc, job, 2)?;
+    send_row(&mut log, 40)?;
+    send_row(&mut log, 50)?;
+    take_row(&mut log, 40)?;
+    assert_eq!(rt; log.contributions(), [(Loc::OutMail, 50, 1)].as_slice());
+    take_row(&mut log, 50)?;
+    assert!(rt; log.contributions().is_empty());
+    assert_eq!(rt; log.names(LogList::Took).len(), 2);
+    Ok(())
+}
+
+#[test]
+fn changes_that_cancel_leave_no_entry(rt: HostRuntime) -> Result<(), Fail> {
+    let job = small_job(rt.alloc())?;
+    changes_cancel::<Brand>(&rt, rt.alloc(), &job)
+}
+
+#[test]
+fn a_sum_that_does_not_fit_is_kept_apart(rt: HostRuntime) -> Result<(), Fail> {
+    let mut entries = Vec::new(rt.alloc());
+    entries.reserve(4)?;
+    let changes = [
+        (Loc::Source, 5, i64::MAX),
+        (Loc::Source, 6, 2),
+        (Loc::Source, 5, 1),
+        (Loc::Source, 5, -1),
+    ];
+    net_all(&mut entries, &changes);
+    let kept = [
+        (Loc::Source, 5, i64::MAX - 1),
+        (Loc::Source, 6, 2),
+        (Loc::Source, 5, 1),
+    ];
+    assert_eq!(&rt; entries.as_slice(), kept.as_slice());
+    Ok(())
 }
 
 #[test]
