@@ -4,8 +4,8 @@ use Rattle.std.specs.BTreeMap.{BTreeMap, is_at}
 use Rattle.std.specs.Map.{lookup}
 use Rattle.std.specs.Option.{unwrap_or}
 use Rattle.std.specs.Ordering.{is_eq, nat_cmp}
-use Rattle.mp_hosting.specs.Hosted.{cell_in}
-use Rattle.mp_host.specs.Cells.{cell_at}
+use Rattle.mp_msg.specs.States.{cell_in}
+use Rattle.mp_host.specs.Cells.{cell_of}
 
 same_key : (k l : ℕ) → is_eq (nat_cmp k l) ≡ (l == k)
 same_key k l = grind arith
@@ -19,5 +19,5 @@ module _ {Cell : Type 0} (fresh : Cell) where
   cell_found k [] = refl
   cell_found k (p ∷ ps) = rw (same_key k p.0) (one_more (p.0 == k) p.1 (cell_in fresh ps k) (lookup (is_at (nat_cmp k)) ps) (cell_found k ps))
 
-  pub cell_is : (cells : BTreeMap ℕ Cell) (k : ℕ) → cell_in fresh cells.entries k ≡ cell_at fresh cells k
+  pub cell_is : (cells : BTreeMap ℕ Cell) (k : ℕ) → cell_in fresh cells.entries k ≡ cell_of fresh cells k
   cell_is cells k = cell_found k cells.entries

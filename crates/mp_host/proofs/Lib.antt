@@ -1,7 +1,14 @@
-pub mod Unwoken
-pub mod Finding
 pub mod Kept
+pub mod WakesOf
+pub mod Numbered
+pub mod Finding
 pub mod Standing
 pub mod Stepped
 pub mod Told
 pub mod Enough
+pub mod Unwoken
+pub mod Woken
+pub mod Places
+pub mod Tallied
+pub mod Grouped
+pub mod Moved

@@ -1,5 +1,5 @@
 -- What the laws of hosts tell of a host that keeps to what it has to.
-use Rattle.std.proofs.Common.{◌≡◌, ◌↔◌, ◌⊎◌, ℕ, ◌<◌, ◌≤◌, List, Option, None, Some, All, Contains, IfSome, IfNone, sym, ap, ◌∙◌, subst, ⊎_elim, inl, inr, refl}
+use Rattle.std.proofs.Common.{◌≡◌, ◌↔◌, ◌⊎◌, ℕ, ◌<◌, ◌≤◌, List, Option, None, Some, IsSome, All, Contains, IfSome, IfNone, sym, ap, ◌∙◌, subst, ⊎_elim, inl, inr, refl}
 use Rattle.std.proofs.lemmas.Bool.{cases_order}
 use Rattle.std.proofs.lemmas.List.Elements.{All-contains, All-contains_itself, All-filter, All-weaker}
 use Rattle.mp_names.specs.declared.names.Name.TheVariants.{Group}
@@ -20,18 +20,25 @@ use Rattle.mp_job.specs.Legal.{JobIsLegal}
 use Rattle.mp_outline.specs.JobOutline.{outline_of}
 use Rattle.mp_outline.proofs.Soundness.{outline_is_sound}
 use Rattle.mp_msg.specs.Contents.{IsRecordOf}
+use Rattle.mp_msg.specs.States.{BinContent, IsStateBefore}
 use Rattle.mp_postdated.specs.Wakes.{ComesNoLater}
-use Rattle.mp_hosting.specs.Hosted.{Hosted, first_group, is_of, records_of}
+use Rattle.mp_hosting.specs.declared.held.Held.{Held}
+use Rattle.mp_hosting.specs.Hosted.{Hosted, first_group, is_of, records_of, state_before}
 use Rattle.mp_hosting.specs.Applying.{IsApplied, IsReceived, woken_by}
+use Rattle.mp_hosting.specs.Moving.{IsPutIn, IsTakenOut, brought}
 use Rattle.mp_hosting.specs.HostOf.{IsInformed, IsReadyAt, KnowsOwners}
 use Rattle.mp_hosting.specs.Laws.{FirstIsWhole, IsWholeHere}
 use Rattle.mp_hosting.proofs.Applied.{groups_are_held, woken_are_told}
 use Rattle.mp_hosting.proofs.Firsts.{first_waits}
 use Rattle.mp_hosting.proofs.Least.{first_is_least}
+use Rattle.mp_hosting.proofs.Coming.{packets_are_held}
+use Rattle.mp_hosting.proofs.Leaving.{bins_leave, leaving_bins_are_here}
 use Rattle.mp_hosting.proofs.Received.{records_are_held}
+use Rattle.mp_hosting.proofs.Returned.{bins_return}
 use Rattle.mp_hosting.proofs.Waiting.{record_waits}
 use Rattle.mp_hosting.proofs.Whole.{first_is_whole}
 use Rattle.mp_host.specs.Hosts.{IsHosted}
+use Rattle.mp_host.specs.Moves.{GetsBack, GivesUp, NothingLeaves, TakesPacket}
 use Rattle.mp_host.specs.Ready.{IsReadyHere}
 use Rattle.mp_host.specs.Telling.{AppliesGroup, TakesRecord}
 
@@ -51,7 +58,26 @@ module _ {Cell : Type 0} (q : QueryFacts Cell) (keeps : QueryKeeps q) (job its :
 
   -- a record that is received is held by the log with it taken
   pub takes_record : (r : Rec) (old new : Hosted Cell) → IsHosted q job its old → IsRecordOf q job old.stage r → IsReceived r old new → TakesRecord q job r old new
-  takes_record r old new h is received log host legal fresh = records_are_held q job (sound_outline h.legal) log r old new host legal is fresh received
+  takes_record r old new h is received log host legal fresh = records_are_held q job log r old new host legal is fresh received
+
+  -- a bin that may leave is given up, and where there is none nothing may leave
+  pub gives_up : (b t : ℕ) (one : Held Cell) (old new : Hosted Cell) → IsHosted q job its old → IsTakenOut b t one old new → (log : Log) → GivesUp q job log b t one old new
+  gives_up b t one old new h taken log host legal may = bins_leave q job (sound_outline h.legal) keeps.nothing log b t one old new h.order host legal may taken
+
+  pub nothing_leaves : (b t : ℕ) (old : Hosted Cell) → IsHosted q job its old → state_before old b t ≡ None → (log : Log) → NothingLeaves q job log old b t
+  nothing_leaves b t old h none log host legal may = is_none (state_before old b t) none (leaving_bins_are_here q job (sound_outline h.legal) log old b t host legal may)
+    where
+      is_none : (o : Option (Held Cell)) → o ≡ None → IsSome o → ⊥
+      is_none None e some = cc
+      is_none (Some s) e some = cc
+
+  -- a bin that was taken out is back
+  pub gets_back : (b t : ℕ) (one : Held Cell) (before old new : Hosted Cell) → IsPutIn one old new → (log : Log) → GetsBack q job log b t one before old new
+  gets_back b t one before old new put log host taken = bins_return q job log b t one before old new host taken put
+
+  -- what a packet brings is held by the log with it taken
+  pub takes_packet : (b t : ℕ) (s : BinContent Cell) (old new : Hosted Cell) → IsHosted q job its old → IsStateBefore q job old.stage b t s → IsPutIn (brought b t s) old new → (log : Log) → TakesPacket q job log b t s old new
+  takes_packet b t s old new h is put log host legal owed fresh = packets_are_held q job log b t s old new host legal owed fresh is put
 
   module _ (h : Hosted Cell) (hosted : IsHosted q job its h) where
     -- no record is of an earlier group than the first
@@ -145,7 +171,7 @@ module _ {Cell : Type 0} (q : QueryFacts Cell) (keeps : QueryKeeps q) (job its :
       is_this e = let same : ◌≡◌ {A = ℕ × ℕ} g (t, k) = cc in subst (λ (p : ℕ × ℕ). IsReadyHere job seen notes h p.0 p.1) same some
 
   -- the group that was ready here is applied by the log too
-  pub applies_group : (new : Hosted Cell) (t k : ℕ) (woke : List ℕ) → IsReadyHere job seen notes h t k → IsApplied q t k h new → woke ≡ woken_by q h t k → AppliesGroup q job log seen h new t k woke
+  pub applies_group : (new : Hosted Cell) (t k : ℕ) (woke : List ℕ) → IsReadyHere job seen notes h t k → IsApplied q job t k h new → woke ≡ woken_by q h t k → AppliesGroup q job log seen h new t k woke
   applies_group new t k woke ready applied same = record {
     ready = ready_by_log q keeps job its h hosted seen notes log informed t k ready;
     held = groups_are_held q keeps.nothing job sound log seen h new t k hosted.order informed hosted.stage hosted.worker ready.first ready.mail ready.state applied;

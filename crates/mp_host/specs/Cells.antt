@@ -6,5 +6,5 @@ use Rattle.std.specs.Ordering.{nat_cmp}
 
 module _ {Cell : Type 0} where
   -- the cell that the map has of a key, else the fresh one
-  abbrev pub cell_at : Cell → BTreeMap ℕ Cell → ℕ → Cell
-  cell_at fresh cells k = unwrap_or (get nat_cmp cells k) fresh
+  abbrev pub cell_of : Cell → BTreeMap ℕ Cell → ℕ → Cell
+  cell_of fresh cells k = unwrap_or (get nat_cmp cells k) fresh

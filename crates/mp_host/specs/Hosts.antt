@@ -1,27 +1,40 @@
 -- What a host of a job keeps to.
-use Rattle.std.specs.Prelude.{◌≡◌, ◌<◌, ℕ, List}
-use Rattle.std.specs.BTreeMap.{BTreeMap}
+use Rattle.std.specs.Prelude.{◌≡◌, ◌<◌, ℕ, All, Contains, List}
 use Rattle.mp_model.specs.declared.record.Rec.{Rec}
 use Rattle.mp_model.specs.Facts.{JobFacts, QueryFacts}
+use Rattle.mp_model.specs.Stages.{stage_records}
 use Rattle.mp_job.specs.Legal.{JobIsLegal}
 use Rattle.mp_ordered.specs.InOrder.{InOrder}
-use Rattle.mp_hosting.specs.Hosted.{Hosted, StandsInOrder}
+use Rattle.mp_postdated.specs.Wakes.{Has}
+use Rattle.mp_hosting.specs.declared.held.Held.{Held}
+use Rattle.mp_hosting.specs.Hosted.{Hosted, StandsInOrder, StateStands, wakes_in}
 
 -- what contracts see of a host with these parts
-abbrev pub hosted_of : {Cell : Type 0} → ℕ → ℕ → InOrder Rec → List (ℕ × ℕ) → BTreeMap ℕ Cell → Hosted Cell
-hosted_of stage worker records wakes cells = record {
+abbrev pub hosted_of : {Cell : Type 0} → ℕ → ℕ → InOrder Rec → List (Held Cell) → ℕ → Hosted Cell
+hosted_of stage worker records held room_for_bins = record {
   stage = stage;
   worker = worker;
   records = records.items;
-  wakes = wakes;
-  cells = cells.entries;
+  held = held;
   room = records.room;
+  room_for_bins = room_for_bins;
 }
 
--- it is of the job that it was made for, which is legal, on a worker and of a stage that the job has, and its records and wakes stand in order
+module _ {Cell : Type 0} (q : QueryFacts Cell) (job : JobFacts) where
+  -- each wake of the state is one that a record of its key posts
+  abbrev pub WakesArePosted : ℕ → Held Cell → Type 0
+  WakesArePosted j s = (u k : ℕ) → Has (wakes_in s) u k → (r : Rec) × Contains (stage_records q job.events j) r × (r.key ≡ k) × Contains (q.posts j r) u
+
+  -- a state that a host of the stage may have in hand
+  pub record MayBeHeld (j : ℕ) (s : Held Cell) : Type 0 where
+    pub stands : StateStands q job j s
+    pub posted : WakesArePosted j s
+
+-- it is of the job that it was made for, which is legal, on a worker and of a stage that the job has, its records and states stand in order, and records posted its wakes
 pub record IsHosted {Cell : Type 0} (q : QueryFacts Cell) (job its : JobFacts) (h : Hosted Cell) : Type 0 where
   pub same : its ≡ job
   pub legal : JobIsLegal q job
   pub stage : h.stage < job.shape.stages
   pub worker : h.worker < job.shape.workers
   pub order : StandsInOrder q job h
+  pub posted : All (WakesArePosted q job h.stage) h.held

@@ -1,19 +1,20 @@
 //! The application of the group that is ready.
-ghost use Rattle.std.specs.Prelude.{◌≡◌, ◌==◌, ℕ, Some, true, filter, not, IfNone, IfOk, OnErr, OnOk};
+ghost use Rattle.std.specs.Prelude.{◌≡◌, ℕ, Some, true, filter, not, IfNone, IfOk, IsSome, OnErr, OnOk};
 ghost use Rattle.mp_names.specs.Logs.{Log};
+ghost use Rattle.mp_bins.specs.Bins.{bin_of_key};
 ghost use Rattle.mp_model.specs.Ascending.{ascending};
 ghost use Rattle.mp_model.specs.Folds.{cell_before};
 ghost use Rattle.mp_model.specs.Stages.{stage_records};
 ghost use Rattle.mp_outline.specs.Laws.{group_at};
 ghost use Rattle.mp_hosting.specs.Applying.{IsApplied, group_here, posts_here, woken_by};
-ghost use Rattle.mp_hosting.specs.Hosted.{cell_in, first_group, has_wake_at, waits_at};
+ghost use Rattle.mp_hosting.specs.Hosted.{cell_at, first_group, state_at, waits_at};
 ghost use Rattle.mp_hosting.specs.HostOf.{IsInformed, KnowsOwners};
 ghost use Rattle.mp_host.specs.Ready.{IsReadyHere};
 ghost use Rattle.mp_host.specs.Telling.{AppliesGroup, IfDid};
 
-use crate::cells::step_in;
 use crate::groups::first_records;
 use crate::posts::{posts_of, put_in_order};
+use crate::stepping::step_state;
 use crate::{Applied, Host};
 use mp_bins::Owners;
 use mp_model::{Group, Naming, Query, Time, Value};
@@ -36,7 +37,7 @@ impl<'a, Q: Query, J: Naming> Host<'a, Q, J> {
 
         // Which group, and what became of the host.
         ensures ready { IfDid result (λ a. IsReadyHere J.job seen.now owners.now self.old a.time a.key) }
-        ensures applied { IfDid result (λ a. IsApplied (Q.facts J.job.rules) a.time a.key self.old self.new) }
+        ensures applied { IfDid result (λ a. IsApplied (Q.facts J.job.rules) J.job a.time a.key self.old self.new) }
 
         // What is told of it.
         ensures outputs { let q = Q.facts J.job.rules in let j = self.old.stage in
@@ -60,7 +61,7 @@ impl<'a, Q: Query, J: Naming> Host<'a, Q, J> {
         Ok(Some(self.apply_first(alloc, time, key)?))
     }
 
-    // Applies the first group, where the sums and counts of its key's cell with it fit their types.
+    // Applies the first group, whose bin is in hand, where the sums and counts of its key's cell with it fit their types.
     pub(crate) fn apply_first(
         &mut self,
         alloc: Global,
@@ -68,19 +69,19 @@ impl<'a, Q: Query, J: Naming> Host<'a, Q, J> {
         key: u64,
     ) -> Result<Applied, AllocError>
         requires first { first_group self.old ≡ Some (time, key) }
-        requires fits { let q = Q.facts J.job.rules in
-            q.fits self.old.stage (cell_in (q.fresh self.old.stage) self.old.cells key) (group_here self.old time key) ≡ true }
+        requires in_hand { IsSome (state_at self.old (bin_of_key key J.job.shape.bins) time) }
+        requires fits { let q = Q.facts J.job.rules in let h = self.old in
+            q.fits h.stage (cell_at (q.fresh h.stage) J.job.shape.bins h time key) (group_here h time key) ≡ true }
         ensures group { IfOk result (λ a. (a.time ≡ time) × (a.key ≡ key)) }
-        ensures applied { OnOk result (IsApplied (Q.facts J.job.rules) time key self.old self.new) }
-        ensures outputs { let q = Q.facts J.job.rules in
-            IfOk result (λ a. a.outputs.items ≡ q.gives self.old.stage (cell_in (q.fresh self.old.stage) self.old.cells key) (group_here self.old time key)) }
+        ensures applied { OnOk result (IsApplied (Q.facts J.job.rules) J.job time key self.old self.new) }
+        ensures outputs { let q = Q.facts J.job.rules in let h = self.old in
+            IfOk result (λ a. a.outputs.items ≡ q.gives h.stage (cell_at (q.fresh h.stage) J.job.shape.bins h time key) (group_here h time key)) }
         ensures woke { IfOk result (λ a. a.woke.items ≡ woken_by (Q.facts J.job.rules) self.old time key) }
         ensures refused { OnErr result (self.new ≡ self.old) }
     {
         let posts = self.posts(alloc, time, key)?;
         let woke = self.not_waiting(alloc, key, posts.as_slice())?;
-        let wakes = self.not_woken(alloc, key, posts.as_slice())?;
-        let outputs = self.step(alloc, time, key, wakes.as_slice())?;
+        let outputs = self.step(alloc, time, key, posts.as_slice())?;
         Ok(Applied {
             time,
             key,
@@ -111,49 +112,36 @@ impl<'a, Q: Query, J: Naming> Host<'a, Q, J> {
         Ok(list)
     }
 
-    // Those of the times at which a key isn't to be woken.
-    fn not_woken(&self, alloc: Global, key: u64, times: &[Time]) -> Result<Vec<Time>, AllocError>
-        ensures { IfOk result (λ v. v.items ≡ filter (λ u. not (has_wake_at self.now u key)) times.now) }
-    {
-        times
-            .iter()
-            .copied()
-            .filter(|time| !self.is_woken(*time, key))
-            .collect(alloc)
-    }
-
-    // Steps the cell of the first group's key. The group's records and its wake are used up, and these new wakes are made.
+    // Steps the state of the bin of the first group's key. The group's records and its wake are used up, and the posts are
+    // wakes.
     fn step(
         &mut self,
         alloc: Global,
         time: Time,
         key: u64,
-        wakes: &[Time],
+        posts: &[Time],
     ) -> Result<Vec<Value>, AllocError>
         requires first { first_group self.old ≡ Some (time, key) }
-        requires fits { let q = Q.facts J.job.rules in
-            q.fits self.old.stage (cell_in (q.fresh self.old.stage) self.old.cells key) (group_here self.old time key) ≡ true }
-        requires wakes { wakes.now ≡ filter (λ u. not (has_wake_at self.old u key)) (posts_here (Q.facts J.job.rules) self.old time key) }
-        ensures applied { OnOk result (IsApplied (Q.facts J.job.rules) time key self.old self.new) }
-        ensures outputs { let q = Q.facts J.job.rules in
-            IfOk result (λ v. v.items ≡ q.gives self.old.stage (cell_in (q.fresh self.old.stage) self.old.cells key) (group_here self.old time key)) }
+        requires in_hand { IsSome (state_at self.old (bin_of_key key J.job.shape.bins) time) }
+        requires fits { let q = Q.facts J.job.rules in let h = self.old in
+            q.fits h.stage (cell_at (q.fresh h.stage) J.job.shape.bins h time key) (group_here h time key) ≡ true }
+        requires posts { posts.now ≡ posts_here (Q.facts J.job.rules) self.old time key }
+        ensures applied { OnOk result (IsApplied (Q.facts J.job.rules) J.job time key self.old self.new) }
+        ensures outputs { let q = Q.facts J.job.rules in let h = self.old in
+            IfOk result (λ v. v.items ≡ q.gives h.stage (cell_at (q.fresh h.stage) J.job.shape.bins h time key) (group_here h time key)) }
         ensures refused { OnErr result (self.new ≡ self.old) }
     {
         let woken = self.is_woken(time, key);
-        self.wakes.add_all(key, wakes)?;
+        let Some(at) = self.place_at(time, key) else {
+            unreachable!()
+        };
         let recs = first_records(&self.records, time, key);
         let count = recs.len();
         let group = Group::new(time, key, woken, recs);
-        match step_in(alloc, self.job.query(), self.stage, &mut self.cells, &group) {
-            Ok(outputs) => {
-                self.records.drop_first(count);
-                self.wakes.take_due(time, key);
-                Ok(outputs)
-            }
-            Err(refused) => {
-                self.wakes.take_all(key, wakes);
-                Err(refused)
-            }
-        }
+        let one = &mut self.held[at];
+        let query = self.job.query();
+        let outputs = step_state(alloc, query, self.stage, &mut one.state, &group, posts)?;
+        self.records.drop_first(count);
+        Ok(outputs)
     }
 }

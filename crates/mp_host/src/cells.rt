@@ -1,13 +1,15 @@
 //! The cells of keys.
-ghost use Rattle.std.specs.Prelude.{◌≡◌, ◌==◌, ℕ, true, cond, IfOk, OnErr, OnOk};
-ghost use Rattle.mp_host.specs.Cells.{cell_at};
+ghost use Rattle.std.specs.Prelude.{◌≡◌, ◌≢◌, ◌==◌, ◌⊎◌, ℕ, Some, true, cond, IfOk, OnErr, OnOk};
+ghost use Rattle.std.specs.BTreeMap.{IsOrdered, get};
+ghost use Rattle.std.specs.Ordering.{nat_cmp};
+ghost use Rattle.mp_host.specs.Cells.{cell_of};
 
 use mp_model::{Group, Query, Value};
 use std::alloc::{AllocError, Global};
 use std::collections::BTreeMap;
 
-/// Applies a group to the cell of its key, which is fresh where there is none: the outputs, in order. `AllocError`: no
-/// memory, and each cell stays as it was.
+/// Applies a group to the cell of its key, which is fresh where there is none: the outputs, in order. A cell that is fresh
+/// then isn't kept. `AllocError`: no memory, and each cell stays as it was.
 pub fn step_in<Q: Query>(
     alloc: Global,
     query: &Q,
@@ -16,21 +18,33 @@ pub fn step_in<Q: Query>(
     group: &Group,
 ) -> Result<Vec<Value>, AllocError>
     requires fits { let q = Q.facts (Q.rules query.now) in
-        q.fits stage (cell_at (q.fresh stage) cells.old group.now.key) group.now ≡ true }
+        q.fits stage (cell_of (q.fresh stage) cells.old group.now.key) group.now ≡ true }
     ensures cells { let q = Q.facts (Q.rules query.now) in
-        OnOk result ((l : ℕ) → cell_at (q.fresh stage) cells.new l
-        ≡ cond (l == group.now.key) (q.step stage (cell_at (q.fresh stage) cells.old group.now.key) group.now) (cell_at (q.fresh stage) cells.old l)) }
+        OnOk result ((l : ℕ) → cell_of (q.fresh stage) cells.new l
+        ≡ cond (l == group.now.key) (q.step stage (cell_of (q.fresh stage) cells.old group.now.key) group.now) (cell_of (q.fresh stage) cells.old l)) }
+    ensures kept { let q = Q.facts (Q.rules query.now) in
+        OnOk result ((l : ℕ) (c : Q.Cell) → get nat_cmp cells.new l ≡ Some c
+        → (get nat_cmp cells.old l ≡ Some c) ⊎ ((l ≡ group.now.key) × (c ≢ q.fresh stage))) }
     ensures outputs { let q = Q.facts (Q.rules query.now) in
-        IfOk result (λ v. v.items ≡ q.gives stage (cell_at (q.fresh stage) cells.old group.now.key) group.now) }
+        IfOk result (λ v. v.items ≡ q.gives stage (cell_of (q.fresh stage) cells.old group.now.key) group.now) }
     ensures refused { OnErr result (cells.new.entries ≡ cells.old.entries) }
+    ensures ordered { IsOrdered nat_cmp cells.new }
 {
     let key = group.key();
     match cells.get_mut(&key) {
-        Some(cell) => query.step(alloc, stage, cell, group),
+        Some(cell) => {
+            let outputs = query.step(alloc, stage, cell, group)?;
+            if query.is_fresh(stage, cell) {
+                cells.remove(&key);
+            }
+            Ok(outputs)
+        }
         None => {
             let mut cell = query.fresh(alloc, stage);
             let outputs = query.step(alloc, stage, &mut cell, group)?;
-            cells.insert(key, cell)?;
+            if !query.is_fresh(stage, &cell) {
+                cells.insert(key, cell)?;
+            }
             Ok(outputs)
         }
     }
@@ -45,9 +59,9 @@ pub fn most_in<Q: Query>(
     group: &Group,
 ) -> u64
     requires fits { let q = Q.facts (Q.rules query.now) in
-        q.fits stage (cell_at (q.fresh stage) cells.now group.now.key) group.now ≡ true }
+        q.fits stage (cell_of (q.fresh stage) cells.now group.now.key) group.now ≡ true }
     ensures { let q = Q.facts (Q.rules query.now) in
-        result ≡ q.most stage (cell_at (q.fresh stage) cells.now group.now.key) group.now }
+        result ≡ q.most stage (cell_of (q.fresh stage) cells.now group.now.key) group.now }
 {
     match cells.get(&group.key()) {
         Some(cell) => query.most(stage, cell, group),

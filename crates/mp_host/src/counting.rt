@@ -1,23 +1,26 @@
 //! How many groups wait at a time, and how much a group may give.
-ghost use Rattle.std.specs.Prelude.{◌≡◌, ◌≤◌, ◌+◌, ◌<◌, ◌-◌, ◌^◌, ℕ, length, min, option_map};
+ghost use Rattle.std.specs.Prelude.{◌≡◌, ◌≤◌, ◌+◌, ◌<◌, ◌-◌, ◌^◌, ℕ, IsSome, drop, length, min, option_map, true};
 ghost use Rattle.mp_names.specs.Frontiers.{number_at};
 ghost use Rattle.mp_names.specs.Logs.{Log, LogIsLegal, is_pending};
 ghost use Rattle.mp_names.specs.Outlines.{groups_of};
+ghost use Rattle.mp_bins.specs.Bins.{bin_of_key};
 ghost use Rattle.mp_model.specs.Folds.{cell_before};
 ghost use Rattle.mp_model.specs.Stages.{stage_records};
 ghost use Rattle.mp_outline.specs.JobOutline.{outline_of};
 ghost use Rattle.mp_outline.specs.Laws.{group_at};
 ghost use Rattle.mp_hosting.specs.Applying.{group_here, posts_here, woken_by};
-ghost use Rattle.mp_hosting.specs.Hosted.{cell_in, keys_at};
+ghost use Rattle.mp_hosting.specs.Hosted.{cell_at, keys_at, state_at};
 ghost use Rattle.mp_hosting.specs.HostOf.{IsHostOf, IsInformed, KnowsOwners};
+ghost use Rattle.mp_host.specs.Hosts.{IsHosted};
 ghost use Rattle.mp_host.specs.Ready.{IsReadyHere};
-ghost use Rattle.mp_host.specs.Waiting.{begins_unwoken, unwoken_keys};
+ghost use Rattle.mp_host.specs.Waiting.{begins_unwoken, is_new, new_keys, unwoken_keys, woken_keys};
 
 use crate::Host;
-use crate::cells::most_in;
 use crate::groups::first_records;
 use crate::posts::count_posts;
+use crate::stepping::most_of_state;
 use mp_bins::Owners;
+use mp_hosting::Held;
 use mp_model::{Group, Naming, Query, Rec, Time};
 use mp_stamps::Seen;
 use std::alloc::Global;
@@ -30,7 +33,42 @@ impl<'a, Q: Query, J: Naming> Host<'a, Q, J> {
             (log : Log) → IsHostOf q J.job log self.now → LogIsLegal o self.now.worker log
             → result ≡ number_at o (is_pending o log) time (groups_of o self.now.stage) }
     {
-        (self.wakes.count_at(time) + self.count_unwoken(time)) as u64
+        (self.count_woken(time) + self.count_unwoken(time)) as u64
+    }
+
+    // How many keys are to be woken at a time.
+    fn count_woken(&self, time: Time) -> usize
+        ensures keys { result ≡ length (woken_keys time self.now.held) }
+        ensures few { result < 2 ^ 63 }
+        ensures hosted { IsHosted (Q.facts J.job.rules) J.job J.job self.now }
+    {
+        let mut count = 0;
+        for (at, one) in self.held.iter().enumerate() {
+            count += self.count_new(one, at + 1, time);
+        }
+        count
+    }
+
+    // How many keys of a state are to be woken at a time, but for those that a state from a place on has, too.
+    fn count_new(&self, one: &Held<Q::Cell>, next: usize, time: Time) -> usize
+        requires { next ≤ length self.now.held }
+        ensures { result ≡ length (new_keys time one.now (drop next self.now.held)) }
+    {
+        let mut count = 0;
+        for wake in one.state.wakes.iter() {
+            if self.is_new(wake, next, time) {
+                count += 1;
+            }
+        }
+        count
+    }
+
+    // Whether a wake is of the time, and no state from a place on has it.
+    fn is_new(&self, wake: &(Time, u64), next: usize, time: Time) -> bool
+        requires { next ≤ length self.now.held }
+        ensures { result ≡ is_new time (drop next self.now.held) wake.now }
+    {
+        wake.0 == time && !self.is_woken_beside(0, next, time, wake.1)
     }
 
     // How many keys of records of a time aren't to be woken then.
@@ -71,7 +109,7 @@ impl<'a, Q: Query, J: Naming> Host<'a, Q, J> {
             (log : Log) × IsInformed q J.job log seen.now self.now × KnowsOwners q J.job owners.now seen.now self.now.stage }
         ensures ready { let q = Q.facts J.job.rules in let h = self.now in
             (t k : ℕ) → IsReadyHere J.job seen.now owners.now h t k
-            → result ≡ min (q.most h.stage (cell_in (q.fresh h.stage) h.cells k) (group_here h t k) + length (posts_here q h t k)) (2 ^ 64 - 1) }
+            → result ≡ min (q.most h.stage (cell_at (q.fresh h.stage) J.job.shape.bins h t k) (group_here h t k) + length (posts_here q h t k)) (2 ^ 64 - 1) }
         ensures none { ((t k : ℕ) → ¬ IsReadyHere J.job seen.now owners.now self.now t k) → result ≡ 0 }
         ensures enough { let q = Q.facts J.job.rules in let h = self.now in let j = h.stage in
             (t k : ℕ) → IsReadyHere J.job seen.now owners.now h t k → result < 2 ^ 64 - 1
@@ -83,7 +121,22 @@ impl<'a, Q: Query, J: Naming> Host<'a, Q, J> {
         let query = self.job.query();
         let recs = first_records(&self.records, time, key);
         let group = Group::new(time, key, self.is_woken(time, key), recs);
-        let outputs = most_in(alloc, query, self.stage, &self.cells, &group);
+        let outputs = self.most_outputs(alloc, &group);
         outputs.saturating_add(count_posts(query, self.stage, recs))
+    }
+
+    // No fewer than the outputs of a group, whose bin is in hand at its time.
+    fn most_outputs(&self, alloc: Global, group: &Group) -> u64
+        requires in_hand { IsSome (state_at self.now (bin_of_key group.now.key J.job.shape.bins) group.now.time) }
+        requires fits { let q = Q.facts J.job.rules in let h = self.now in
+            q.fits h.stage (cell_at (q.fresh h.stage) J.job.shape.bins h group.now.time group.now.key) group.now ≡ true }
+        ensures { let q = Q.facts J.job.rules in let h = self.now in
+            result ≡ q.most h.stage (cell_at (q.fresh h.stage) J.job.shape.bins h group.now.time group.now.key) group.now }
+    {
+        let Some(at) = self.place_at(group.time(), group.key()) else {
+            unreachable!()
+        };
+        let query = self.job.query();
+        most_of_state(alloc, query, self.stage, &self.held[at].state, group)
     }
 }

@@ -1,19 +1,20 @@
 //! The host of a stage on a worker.
-ghost use Rattle.std.specs.Prelude.{◌≡◌, ◌≤◌, ◌<◌, ◌+◌, IsOk, OnErr, OnOk};
+ghost use Rattle.std.specs.Prelude.{◌≡◌, ◌≤◌, ◌<◌, ◌+◌, IfOk, IsOk, OnErr, OnOk};
 ghost use Rattle.mp_names.specs.Logs.{empty_log};
+ghost use Rattle.mp_job.specs.Legal.{JobIsLegal};
 ghost use Rattle.mp_msg.specs.Contents.{IsRecordOf};
 ghost use Rattle.mp_hosting.specs.Applying.{IsReceived};
-ghost use Rattle.mp_hosting.specs.Hosted.{IsNew};
+ghost use Rattle.mp_hosting.specs.Hosted.{IsNew, first_held};
 ghost use Rattle.mp_hosting.specs.HostOf.{IsHostOf};
 ghost use Rattle.mp_host.specs.Telling.{TakesRecord};
 
 use crate::order::ByGroup;
+use mp_hosting::Held;
 use mp_job::Job;
 use mp_model::{Naming, Query, Rec};
+use mp_msg::BinState;
 use mp_ordered::Ordered;
-use mp_postdated::Wakes;
 use std::alloc::{AllocError, Global};
-use std::collections::BTreeMap;
 use std::marker::{Model, PhantomData};
 
 /// The hosting half of a stage of the job J on one worker. Contracts see a `Hosted`.
@@ -24,55 +25,60 @@ pub struct Host<'a, Q: Query, J: Naming> {
     pub(crate) worker: u32,
     // Those whose group isn't applied.
     pub(crate) records: Ordered<Rec, ByGroup>,
-    // Those of groups that aren't applied.
-    pub(crate) wakes: Wakes,
-    // A key that isn't there has a fresh cell.
-    pub(crate) cells: BTreeMap<u64, Q::Cell>,
+    // The states of bins in hand, each as the packet that brought it left it and the groups applied since.
+    pub(crate) held: Vec<Held<Q::Cell>>,
     pub(crate) of: PhantomData<J>,
 }
 
 impl<'a, Q: Query, J: Naming> Model for Host<'a, Q, J> {
     ghost use Rattle.mp_hosting.specs.Hosted.{Hosted};
+    ghost use Rattle.std.specs.Prelude.{◌-◌, length};
+    ghost use Rattle.std.specs.Vec.{vec_capacity};
     ghost use Rattle.mp_host.specs.Hosts.{IsHosted, hosted_of};
 
     ghost Value = { Hosted Q.Cell };
 
-    ghost view = { λ h. hosted_of h.stage h.worker h.records h.wakes h.cells };
+    ghost view = { λ h. hosted_of h.stage h.worker h.records h.held.items (vec_capacity h.held - length h.held.items) };
 
     ghost invariant = { λ h.
-        IsHosted (Q.facts J.job.rules) J.job h.job.now (hosted_of h.stage h.worker h.records h.wakes h.cells) };
+        IsHosted (Q.facts J.job.rules) J.job h.job.now (hosted_of h.stage h.worker h.records h.held.items (vec_capacity h.held - length h.held.items)) };
 }
 
 impl<'a, Q: Query, J: Naming> Host<'a, Q, J> {
-    /// A host that has received nothing.
-    pub fn new(alloc: Global, stage: u32, worker: u32, job: &'a Job<Q>) -> Host<'a, Q, J>
+    /// A host that has received nothing, with the bins whose first owner the worker is. `AllocError`: no memory.
+    pub fn new(
+        alloc: Global,
+        stage: u32,
+        worker: u32,
+        job: &'a Job<Q>,
+    ) -> Result<Host<'a, Q, J>, AllocError>
         requires job { job.now ≡ J.job }
         requires stage { stage < J.job.shape.stages }
         requires worker { worker < J.job.shape.workers }
-        ensures stage { result.stage ≡ stage }
-        ensures worker { result.worker ≡ worker }
-        ensures new { IsNew result }
-        ensures held { IsHostOf (Q.facts J.job.rules) J.job empty_log result }
+        ensures stage { IfOk result (λ h. h.stage ≡ stage) }
+        ensures worker { IfOk result (λ h. h.worker ≡ worker) }
+        ensures new { IfOk result (λ h. IsNew J.job h) }
+        ensures held { IfOk result (λ h. IsHostOf (Q.facts J.job.rules) J.job empty_log h) }
     {
-        let _ = job.shape();
-        Host {
+        Ok(Host {
             job,
             stage,
             worker,
             records: Ordered::new(alloc),
-            wakes: Wakes::new(alloc),
-            cells: BTreeMap::new(alloc),
+            held: first_held::<Q>(alloc, worker, job)?,
             of: PhantomData,
-        }
+        })
     }
 
-    /// Makes room, so that the next `count` calls of `receive` answer `Ok`. `AllocError`: no memory, and nothing
-    /// changes.
+    /// Makes room, so that the next `count` calls of `receive` answer `Ok`, and the next one of `install` too.
+    /// `AllocError`: no memory, and nothing is held that wasn't.
     pub fn make_room(&mut self, count: u64) -> Result<(), AllocError>
         ensures room { OnOk result (count ≤ self.new.room) }
-        ensures same { self.new ≡ record self.old { room = self.new.room } }
-        ensures refused { OnErr result (self.new ≡ self.old) }
+        ensures for_bins { OnOk result (1 ≤ self.new.room_for_bins) }
+        ensures same { self.new ≡ record self.old { room = self.new.room; room_for_bins = self.new.room_for_bins } }
+        ensures no_less { (self.old.room ≤ self.new.room) × (self.old.room_for_bins ≤ self.new.room_for_bins) }
     {
+        self.held.reserve(1)?;
         self.records.make_room(count)
     }
 
@@ -83,9 +89,33 @@ impl<'a, Q: Query, J: Naming> Host<'a, Q, J> {
         ensures received { OnOk result (IsReceived rec self.old self.new) }
         ensures held { OnOk result (TakesRecord (Q.facts J.job.rules) J.job rec self.old self.new) }
         ensures room { OnOk result (self.old.room ≤ self.new.room + 1) }
+        ensures for_bins { self.new.room_for_bins ≡ self.old.room_for_bins }
         ensures refused { OnErr result (self.new ≡ self.old) }
         ensures never_refused_with_room { 0 < self.old.room → IsOk result }
     {
         self.records.insert(rec)
     }
+}
+
+// The bins whose first owner the worker is, with no cells and no wakes.
+fn first_held<Q: Query>(
+    alloc: Global,
+    worker: u32,
+    job: &Job<Q>,
+) -> Result<Vec<Held<Q::Cell>>, AllocError>
+    ensures bins { IfOk result (λ v. v.items ≡ first_held job.now worker job.now.shape.bins) }
+    ensures legal { OnOk result (JobIsLegal (Q.facts job.now.rules) job.now) }
+{
+    let shape = job.shape();
+    let mut held = Vec::new(alloc);
+    for bin in 0..shape.bins {
+        if bin % shape.workers == worker {
+            held.push(Held {
+                bin,
+                since: None,
+                state: BinState::new(alloc),
+            })?;
+        }
+    }
+    Ok(held)
 }

@@ -1,14 +1,15 @@
 //! Which group may be applied.
-ghost use Rattle.std.specs.Prelude.{◌≡◌, ◌==◌, ◌↔◌, ℕ, Some, IfNone, IfSome};
+ghost use Rattle.std.specs.Prelude.{◌≡◌, ◌==◌, ◌↔◌, ℕ, suc, Some, IfNone, IfSome, position};
 ghost use Rattle.mp_names.specs.Logs.{Log};
 ghost use Rattle.mp_bins.specs.Bins.{bin_of_key};
 ghost use Rattle.mp_bins.specs.Notes.{owner_at};
-ghost use Rattle.mp_hosting.specs.Hosted.{first_group};
+ghost use Rattle.mp_hosting.specs.Hosted.{first_group, is_held_before};
 ghost use Rattle.mp_hosting.specs.HostOf.{IsInformed, IsReadyAt, KnowsOwners};
 ghost use Rattle.mp_host.specs.Hosts.{IsHosted};
 ghost use Rattle.mp_host.specs.Ready.{IsReadyHere};
 
 use crate::Host;
+use crate::states::{earlier_of, first_wake, place_before};
 use mp_bins::{Owners, bin_of};
 use mp_model::{Naming, Query, Time};
 use mp_names::Loc;
@@ -48,13 +49,11 @@ impl<'a, Q: Query, J: Naming> Host<'a, Q, J> {
         ensures first { result ≡ first_group self.now }
         ensures hosted { IsHosted (Q.facts J.job.rules) J.job J.job self.now }
     {
-        let Some(rec) = self.records.first() else {
-            return self.wakes.least();
+        let record = match self.records.first() {
+            Some(rec) => Some((rec.time, rec.key)),
+            None => None,
         };
-        match self.wakes.least() {
-            Some(wake) if wake.0 < rec.time || wake.0 == rec.time && wake.1 < rec.key => Some(wake),
-            _ => Some((rec.time, rec.key)),
-        }
+        earlier_of(record, first_wake(&self.held))
     }
 
     // Whether the bin of a key is this worker's at a time, by what was noted.
@@ -64,5 +63,13 @@ impl<'a, Q: Query, J: Naming> Host<'a, Q, J> {
     {
         let bin = bin_of(key, self.job.shape().bins);
         owners.owner(self.stage, bin, time) == self.worker
+    }
+
+    // Where the state stands that a group of a key finds at a time: the first of the key's bin that began by then.
+    pub(crate) fn place_at(&self, time: Time, key: u64) -> Option<usize>
+        ensures { result ≡ position (is_held_before (bin_of_key key J.job.shape.bins) (suc time)) self.now.held }
+    {
+        let bin = bin_of(key, self.job.shape().bins);
+        place_before(&self.held, bin, u128::from(time) + 1)
     }
 }

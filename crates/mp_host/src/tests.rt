@@ -1,5 +1,7 @@
 //! A host of two bids of one auction, each of which wakes it ten later, with ample memory.
-ghost use Rattle.std.specs.Prelude.{◌≡◌, ◌++◌, ◌∷◌, [], IfOk, refl};
+ghost use Rattle.std.specs.Prelude.{◌≡◌, ◌≤◌, ◌++◌, ◌∷◌, [], IfOk, length, map, refl};
+ghost use Rattle.std.specs.Vec.{vec_capacity};
+ghost use Rattle.mp_model.specs.Ascending.{ascending};
 ghost use Rattle.mp_job.specs.Samples.{bids_fit, bids_give_nothing, bids_have_keys, bids_have_stages};
 ghost use Rattle.mp_job.specs.Samples.{bids_post_later, bids_post_once, bids_stay_fresh, waking_bids};
 ghost use Rattle.mp_host.specs.Samples.{bid_at, two_bids};
@@ -7,6 +9,7 @@ ghost use Rattle.mp_host.specs.Samples.{bid_at, two_bids};
 use crate::{Host, Job, Naming, Owners, Query, Rec, Seen, Time, Value};
 use mp_bins::Shape;
 use mp_model::{Event, Group, PostList};
+use mp_msg::BinState;
 use mp_stamps::{Counts, Loc};
 use std::alloc::{AllocError, Global};
 use std::marker::Brand;
@@ -131,7 +134,7 @@ fn bids_are_hosted<J: Naming>(
     requires events { job.now.events ≡ two_bids }
 {
     let owners = Owners::new(alloc, job.shape())?;
-    let mut host = Host::<WakingBids, J>::new(alloc, 0, 0, job);
+    let mut host = Host::<WakingBids, J>::new(alloc, 0, 0, job)?;
     let done = seen_at(alloc, None)?;
     assert!(rt; host.ready(&done, &owners).is_none());
     host.make_room(2)?;
@@ -154,6 +157,37 @@ fn bids_are_hosted<J: Naming>(
     assert_eq!(rt; host.pending(15), 1);
     assert_eq!(rt; host.pending(20), 1);
     assert_eq!(rt; host.ready(&done, &owners), Some((15, 7)));
+    bin_comes_back(rt, alloc, &mut host)
+}
+
+// An empty list with room for a number for each time that the state has a wake at.
+fn room_for(alloc: Global, state: &BinState<u64>) -> Result<Vec<(Time, u64)>, AllocError>
+    ensures empty { IfOk result (λ numbers. numbers.items ≡ []) }
+    ensures room { IfOk result (λ numbers. length (ascending (map (λ w. w.0) state.now.wakes)) ≤ vec_capacity numbers) }
+{
+    let numbers = Vec::with_capacity(alloc, state.wakes.len())?;
+    Ok(numbers)
+}
+
+// The bin leaves with the wake at 15, and comes back with it. The record at 20 stays.
+fn bin_comes_back<J: Naming>(
+    rt: &impl Abort,
+    alloc: Global,
+    host: &mut Host<'_, WakingBids, J>,
+) -> Result<(), Fail> {
+    assert!(rt; host.leaving(alloc, 0, 0)?.as_slice() == [(15, 1)].as_slice());
+    let Some(one) = host.take_bin(0, 20) else {
+        return Err("no state".into());
+    };
+    assert!(rt; one.since.is_none());
+    assert!(rt; host.leaving(alloc, 0, 20)?.is_empty());
+    assert_eq!(rt; host.pending(15), 0);
+    assert_eq!(rt; host.pending(20), 1);
+    let mut numbers = room_for(alloc, &one.state)?;
+    host.coming(&one.state, &mut numbers);
+    assert_eq!(rt; numbers.as_slice(), [(15, 1)].as_slice());
+    host.put_back(one);
+    assert_eq!(rt; host.pending(15), 1);
     Ok(())
 }
 

@@ -1,14 +1,17 @@
 //! Whether a group waits.
-ghost use Rattle.std.specs.Prelude.{◌≡◌};
+ghost use Rattle.std.specs.Prelude.{◌≡◌, ◌≤◌, ◌||◌, drop, length, take};
 ghost use Rattle.std.specs.List.{list_any};
 ghost use Rattle.mp_names.specs.declared.names.Name.TheVariants.{Group as GroupName};
 ghost use Rattle.mp_names.specs.Logs.{Log, LogIsLegal, is_pending};
 ghost use Rattle.mp_outline.specs.JobOutline.{outline_of};
-ghost use Rattle.mp_hosting.specs.Hosted.{has_wake_at, is_of, waits_at};
+ghost use Rattle.mp_hosting.specs.Hosted.{has_wake_at, has_wake_in, is_of, waits_at};
 ghost use Rattle.mp_hosting.specs.HostOf.{IsHostOf};
 ghost use Rattle.mp_host.specs.Hosts.{IsHosted};
+ghost use Rattle.mp_host.specs.Waiting.{is_woken_beside};
 
 use crate::Host;
+use crate::states::has_wake;
+use mp_bins::bin_of;
 use mp_model::{Naming, Query, Time};
 
 impl<'a, Q: Query, J: Naming> Host<'a, Q, J> {
@@ -23,7 +26,7 @@ impl<'a, Q: Query, J: Naming> Host<'a, Q, J> {
         self.has_record(time, key) || self.is_woken(time, key)
     }
 
-    fn has_record(&self, time: Time, key: u64) -> bool
+    pub(crate) fn has_record(&self, time: Time, key: u64) -> bool
         ensures here { result ≡ list_any (is_of time key) self.now.records }
         ensures hosted { IsHosted (Q.facts J.job.rules) J.job J.job self.now }
     {
@@ -36,6 +39,16 @@ impl<'a, Q: Query, J: Naming> Host<'a, Q, J> {
     pub(crate) fn is_woken(&self, time: Time, key: u64) -> bool
         ensures { result ≡ has_wake_at self.now time key }
     {
-        self.wakes.has(time, key)
+        self.is_woken_beside(0, 0, time, key)
+    }
+
+    // Whether a state that stands in front of place `from`, or from place `to` on, has the wake of a key at a time.
+    pub(crate) fn is_woken_beside(&self, from: usize, to: usize, time: Time, key: u64) -> bool
+        requires from { from ≤ to }
+        requires to { to ≤ length self.now.held }
+        ensures { result ≡ is_woken_beside self.now from to time key }
+    {
+        let bin = bin_of(key, self.job.shape().bins);
+        has_wake(&self.held[..from], bin, time, key) || has_wake(&self.held[to..], bin, time, key)
     }
 }

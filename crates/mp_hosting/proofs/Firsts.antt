@@ -12,8 +12,9 @@ use Rattle.mp_model.specs.declared.record.Rec.{Rec}
 use Rattle.mp_model.specs.Facts.{JobFacts, QueryFacts}
 use Rattle.mp_ordered.specs.InOrder.{IsInOrder}
 use Rattle.mp_postdated.specs.Wakes.{ComesNoLater, IsAscending, wake_cmp}
-use Rattle.mp_job.proofs.Members.{Contains-cases}
-use Rattle.mp_hosting.specs.Hosted.{Hosted, StandsInOrder, earlier_of, first_group, first_record, first_wake, group_rank, is_of, is_wake, has_wake_at, waits_at}
+use Rattle.mp_job.proofs.Members.{Contains-cases, Contains-here, Contains-later}
+use Rattle.mp_hosting.specs.declared.held.Held.{Held}
+use Rattle.mp_hosting.specs.Hosted.{Hosted, StandsInOrder, StateStands, earlier_of, first_group, first_record, first_wake_of, group_rank, has_wake_at, has_wake_in, is_of, is_wake, waits_at, wakes_in}
 use Rattle.mp_hosting.proofs.Lists.{Pairs-AllPairs, passing}
 use Rattle.mp_hosting.proofs.Waiting.{from_is_of, is_of_from, wake_in}
 
@@ -113,25 +114,48 @@ wakes_first (w ∷ ws) h = (
       (Contains-cases w (u, l) ws (wake_in (w ∷ ws) u l e))),
 )
 
+-- what is first of one property is first of another that holds of the same groups
+first_as : (P Q : ℕ → ℕ → Type 0) → ((u l : ℕ) → P u l → Q u l) → ((u l : ℕ) → Q u l → P u l) → (g : Option (ℕ × ℕ)) → IsFirst P g → IsFirst Q g
+first_as P Q to from None h = λ u l i. h u l (from u l i)
+first_as P Q to from (Some g) h = (to g.0 g.1 h.0, (λ u l i. h.1 u l (from u l i)))
+
+module _ {Cell : Type 0} where
+  -- the first of the first wakes of some states is the first of all their wakes
+  states_first : (ss : List (Held Cell)) → ((s : Held Cell) → Contains ss s → IsAscending (wakes_in s)) → IsFirst (λ u l. list_any (has_wake_in u l) ss ≡ true) (first_wake_of ss)
+  states_first [] h = λ u l e. false≢true e
+  states_first (s ∷ ss) h =
+      first_as (λ u l. (has_wake_in u l s ≡ true) ⊎ (list_any (has_wake_in u l) ss ≡ true)) (λ u l. list_any (has_wake_in u l) (s ∷ ss) ≡ true)
+      (λ u l i.
+      ⊎_elim
+      (λ (p : has_wake_in u l s ≡ true). or_left (has_wake_in u l s) (list_any (has_wake_in u l) ss) p)
+      (λ (p : list_any (has_wake_in u l) ss ≡ true). or_right (has_wake_in u l s) (list_any (has_wake_in u l) ss) p)
+      i)
+      (λ u l i. or_cases (has_wake_in u l s) (list_any (has_wake_in u l) ss) i)
+      (first_wake_of (s ∷ ss))
+      (earlier_is (λ u l. has_wake_in u l s ≡ true) (λ u l. list_any (has_wake_in u l) ss ≡ true) (slice_get (wakes_in s) 0) (first_wake_of ss)
+      (wakes_first (wakes_in s) (h s (Contains-here s ss)))
+      (states_first ss (λ r i. h r (Contains-later s r ss i))))
+
 module _ {Cell : Type 0} (q : QueryFacts Cell) (job : JobFacts) (h : Hosted Cell) (stands : StandsInOrder q job h) where
   -- the first group that waits is the first of all that wait
-  first_is_first : IsFirst (λ u l. (list_any (is_of u l) h.records ≡ true) ⊎ (has_wake_at h u l ≡ true)) (first_group h)
+  first_is_first : IsFirst (λ u l. waits_at h u l ≡ true) (first_group h)
   first_is_first =
-      earlier_is (λ u l. list_any (is_of u l) h.records ≡ true) (λ u l. has_wake_at h u l ≡ true) (first_record h) (first_wake h) (records_first h.records stands.records) (wakes_first h.wakes stands.wakes)
+      first_as (λ u l. (list_any (is_of u l) h.records ≡ true) ⊎ (has_wake_at h u l ≡ true)) (λ u l. waits_at h u l ≡ true)
+      (λ u l i.
+      ⊎_elim
+      (λ (p : list_any (is_of u l) h.records ≡ true). or_left (list_any (is_of u l) h.records) (has_wake_at h u l) p)
+      (λ (p : has_wake_at h u l ≡ true). or_right (list_any (is_of u l) h.records) (has_wake_at h u l) p)
+      i)
+      (λ u l i. or_cases (list_any (is_of u l) h.records) (has_wake_at h u l) i)
+      (first_group h)
+      (earlier_is (λ u l. list_any (is_of u l) h.records ≡ true) (λ u l. has_wake_at h u l ≡ true) (first_record h) (first_wake_of h.held)
+      (records_first h.records stands.records)
+      (states_first h.held (λ s i. (All-contains (StateStands q job h.stage) h.held s stands.states i).order.wakes)))
 
   -- it waits, and what waits isn't before it
   pub first_waits : (t k : ℕ) → first_group h ≡ Some (t, k) → (waits_at h t k ≡ true) × ((u l : ℕ) → waits_at h u l ≡ true → ComesNoLater (t, k) (u, l))
-  first_waits t k e =
-      let f = subst (IsFirst (λ u l. (list_any (is_of u l) h.records ≡ true) ⊎ (has_wake_at h u l ≡ true))) e first_is_first in (
-        ⊎_elim
-            (λ (p : list_any (is_of t k) h.records ≡ true). or_left (list_any (is_of t k) h.records) (has_wake_at h t k) p)
-            (λ (p : has_wake_at h t k ≡ true). or_right (list_any (is_of t k) h.records) (has_wake_at h t k) p)
-            f.0,
-        (λ u l p. f.1 u l (or_cases (list_any (is_of u l) h.records) (has_wake_at h u l) p)),
-      )
+  first_waits t k e = subst (IsFirst (λ u l. waits_at h u l ≡ true)) e first_is_first
 
   -- where there is none nothing waits
   pub none_waits : first_group h ≡ None → (u l : ℕ) → waits_at h u l ≡ true → ⊥
-  none_waits e u l p =
-      let f = subst (IsFirst (λ u l. (list_any (is_of u l) h.records ≡ true) ⊎ (has_wake_at h u l ≡ true))) e first_is_first in
-      f u l (or_cases (list_any (is_of u l) h.records) (has_wake_at h u l) p)
+  none_waits e u l p = let f = subst (IsFirst (λ u l. waits_at h u l ≡ true)) e first_is_first in f u l p

@@ -1,39 +1,65 @@
--- What a host holds, part by part, whatever the host is.
-use Rattle.std.proofs.Common.{◌≡◌, ◌≢◌, ◌↔◌, ℕ, false, true, List, filter, AllPairs, Contains, sym, subst}
+-- What is so of hosts whose parts are the same, and of states where the same groups are applied.
+use Rattle.std.proofs.Common.{◌≡◌, ◌<◌, ◌≤◌, ◌||◌, ℕ, nat_lt, false, Option, None, Some, List, sym, ap, ◌∙◌, subst, inl, inr, ⊎_elim}
 use Rattle.mp_names.specs.declared.names.Name.TheVariants.{Group}
+use Rattle.mp_names.specs.declared.names.Name.{Name}
 use Rattle.mp_names.specs.Names.{has, In}
-use Rattle.mp_names.specs.Logs.{Log, has_wake}
+use Rattle.mp_names.specs.Logs.{Log}
 use Rattle.mp_model.specs.declared.record.Rec.{Rec}
+use Rattle.mp_model.specs.Entry.{Entry}
 use Rattle.mp_model.specs.Facts.{JobFacts, QueryFacts}
 use Rattle.mp_model.specs.Folds.{fold_of}
-use Rattle.mp_outline.specs.JobOutline.{name_of_record, outline_of}
 use Rattle.mp_outline.specs.Laws.{timeline_of}
-use Rattle.mp_postdated.specs.Wakes.{Has}
-use Rattle.mp_msg.specs.Contents.{IsRecordOf}
-use Rattle.mp_hosting.specs.Hosted.{Hosted, cell_in}
-use Rattle.mp_hosting.specs.HostOf.{IsHostOf}
-use Rattle.mp_hosting.proofs.Logs.{IsUnmoved}
+use Rattle.mp_hosting.specs.declared.held.Held.{Held}
+use Rattle.mp_hosting.specs.Hosted.{Hosted}
+use Rattle.mp_hosting.specs.HostOf.{CameInto, IsStateOf, is_taken_in}
+use Rattle.mp_hosting.proofs.Lists.{filter_within}
+
+-- Logs of which the same groups are applied
+
+came_same : (old new : Log) → old.applied ≡ new.applied → (j : ℕ) (since : Option ℕ) (k v u : ℕ) → CameInto old j since k v u → CameInto new j since k v u
+came_same old new e j None k v u came = subst (In (Group j v k)) e came
+came_same old new e j (Some m) k v u came =
+    ⊎_elim
+    (λ (c : (v < m) × (m ≤ u)). inl c)
+    (λ (c : (m ≤ v) × In (Group j v k) old.applied). inr (c.0, subst (In (Group j v k)) e c.1))
+    came
+
+taken_same : (old new : Log) → old.applied ≡ new.applied → (j : ℕ) (since : Option ℕ) (u k : ℕ) → is_taken_in old j since u k ≡ is_taken_in new j since u k
+taken_same old new e j None u k = ap (λ (xs : List Name). has xs (Group j u k)) e
+taken_same old new e j (Some m) u k = ap (λ (xs : List Name). nat_lt u m || has xs (Group j u k)) e
 
 module _ {Cell : Type 0} (q : QueryFacts Cell) (job : JobFacts) where
-  -- records, wakes and cells are those that the log says of the stage
-  pub record Holds (log : Log) (j : ℕ) (records : List Rec) (wakes : List (ℕ × ℕ)) (cells : List (ℕ × Cell)) : Type 0 where
-    pub unmoved : IsUnmoved log j
-    pub records_are : (r : Rec) → (Contains records r ↔ (IsRecordOf q job j r × In (name_of_record j r) log.took × (has log.applied (Group j r.time r.key) ≡ false)))
-    pub once : AllPairs (λ r s. r ≢ s) records
-    pub wakes_are : (t k : ℕ) → (Has wakes t k ↔ ((has_wake (outline_of q job) log j t k ≡ true) × (has log.applied (Group j t k) ≡ false)))
-    pub cells_are : (k : ℕ) → cell_in (q.fresh j) cells k ≡ fold_of q j (q.fresh j) (filter (λ e. has log.applied (Group j e.time k)) (timeline_of q job j k))
+  -- a state in hand has the same by both
+  pub state_same : (old new : Log) → old.applied ≡ new.applied → (j : ℕ) (s : Held Cell) → IsStateOf q job old j s → IsStateOf q job new j s
+  state_same old new e j s is = record {
+    wakes = λ u k b. (
+      (λ w. let a = (is.wakes u k b).0 w in (subst (λ (xs : List Name). has xs (Group j u k) ≡ false) e a.0, a.1, a.2, came_same old new e j s.since k a.1 u a.3)),
+      (λ a. (is.wakes u k b).1 (subst (λ (xs : List Name). has xs (Group j u k) ≡ false) (sym e) a.0, a.1, a.2, came_same new old (sym e) j s.since k a.1 u a.3)),
+    );
+    cells = λ k b.
+        is.cells k b
+        ∙ ap (fold_of q j (q.fresh j)) (filter_within (λ (f : Entry). is_taken_in old j s.since f.time k) (λ (f : Entry). is_taken_in new j s.since f.time k) (timeline_of q job j k) (λ f i. taken_same old new e j s.since f.time k));
+  }
 
-  pub host_holds : (log : Log) (h : Hosted Cell) → IsHostOf q job log h → Holds log h.stage h.records h.wakes h.cells
-  host_holds log h host = record { unmoved = host.unmoved; records_are = host.records; once = host.once; wakes_are = host.wakes; cells_are = host.cells }
+-- Hosts by their parts
 
-  holding_host : (log : Log) (h : Hosted Cell) → Holds log h.stage h.records h.wakes h.cells → IsHostOf q job log h
-  holding_host log h holds = record { unmoved = holds.unmoved; records = holds.records_are; once = holds.once; wakes = holds.wakes_are; cells = holds.cells_are }
+module _ {Cell : Type 0} where
+  -- the state is of this bin, and began then
+  abbrev pub IsSince : ℕ → Option ℕ → Held Cell → Type 0
+  IsSince b a s = (s.bin ≡ b) × (s.since ≡ a)
 
-  -- the parts tell all of a host
-  pub holds_host : (log : Log) (h : Hosted Cell) (j : ℕ) (records : List Rec) (wakes : List (ℕ × ℕ)) (cells : List (ℕ × Cell)) → h.stage ≡ j → h.records ≡ records → h.wakes ≡ wakes → h.cells ≡ cells
-      → Holds log j records wakes cells → IsHostOf q job log h
-  holds_host log h j records wakes cells a b c d holds =
-      let at_cells = subst (λ (cs : List (ℕ × Cell)). Holds log j records wakes cs) (sym d) holds in
-      let at_wakes = subst (λ (ws : List (ℕ × ℕ)). Holds log j records ws h.cells) (sym c) at_cells in
-      let at_records = subst (λ (rs : List Rec). Holds log j rs h.wakes h.cells) (sym b) at_wakes in
-      holding_host log h (subst (λ (n : ℕ). Holds log n h.records h.wakes h.cells) (sym a) at_records)
+  -- the two states aren't of one bin and of one beginning
+  abbrev pub AreApart : Held Cell → Held Cell → Type 0
+  AreApart r s = (r.bin ≡ s.bin) × (r.since ≡ s.since) → ⊥
+
+  pub apart_turn : (r s : Held Cell) → AreApart r s → AreApart s r
+  apart_turn r s apart e = apart (sym e.0, sym e.1)
+
+  -- what is so of a host that has these parts is so of one whose parts are the same
+  pub by_parts : (P : Hosted Cell → Type 0) (h : Hosted Cell) (j w : ℕ) (records : List Rec) (held : List (Held Cell)) → h.stage ≡ j → h.worker ≡ w → h.records ≡ records → h.held ≡ held
+      → P (record h { stage = j; worker = w; records = records; held = held }) → P h
+  by_parts P h j w records held a b c d p =
+      let at_held = subst (λ (hs : List (Held Cell)). P (record h { stage = j; worker = w; records = records; held = hs })) (sym d) p in
+      let at_records = subst (λ (rs : List Rec). P (record h { stage = j; worker = w; records = rs })) (sym c) at_held in
+      let at_worker = subst (λ (n : ℕ). P (record h { stage = j; worker = n })) (sym b) at_records in
+      subst (λ (n : ℕ). P (record h { stage = n })) (sym a) at_worker

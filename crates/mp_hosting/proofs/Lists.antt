@@ -1,7 +1,8 @@
 -- Lists: what holds between their elements, what a filter keeps, and items that are put in order.
-use Rattle.std.proofs.Common.{◌≡◌, ◌⊎◌, ℕ, suc, ◌<◌, ◌≤◌, Bool, true, false, nat_lt, List, [], ◌∷◌, length, filter, fold, take_while, AllPairs, Contains, refl, sym, ap, ◌∙◌, subst, inl, inr, ⊎_elim, arith}
+use Rattle.std.proofs.Common.{◌≡◌, ◌⊎◌, ℕ, suc, ◌<◌, ◌≤◌, Bool, true, false, nat_lt, List, [], ◌∷◌, length, filter, fold, take_while, All, AllPairs, Contains, refl, sym, ap, ◌∙◌, subst, inl, inr, ⊎_elim, arith}
 use Rattle.std.specs.List.{list_any}
 use Rattle.std.proofs.lemmas.Bool.{cases_lt, cond_both, le-ltb, lt-ltb}
+use Rattle.std.proofs.lemmas.List.Elements.{All-contains_itself, All-weaker}
 use Rattle.std.proofs.lemmas.List.Folds.{Any-from_list_any, list_any-from_Any}
 use Rattle.std.proofs.lemmas.List.Sums.{take_while-cons}
 use Rattle.mp_names.specs.Names.{is_before}
@@ -17,6 +18,10 @@ module _ {X : Type 0} where
 
   pub passes : (p : X → Bool) (xs : List X) (x : X) → Contains xs x → p x ≡ true → list_any p xs ≡ true
   passes p xs x i e = list_any-from_Any p xs (found_there (λ y. p y ≡ true) xs x i e)
+
+  -- what holds of whatever stands in a list holds of each element
+  pub All-each : (P : X → Type 0) (xs : List X) → ((x : X) → Contains xs x → P x) → All P xs
+  All-each P xs h = All-weaker (Contains xs) P h xs (All-contains_itself xs)
 
   -- what holds between the elements at any two places holds between each element and all later ones
   pub Pairs-AllPairs : (R : X → X → Type 0) (xs : List X) → AllPairs R xs → Pairs R xs

@@ -1,17 +1,23 @@
--- The log of a worker that has no packet of a stage: its wakes are those that its applied groups posted.
-use Rattle.std.proofs.Common.{◌≡◌, ◌⊎◌, ℕ, ◌==◌, ◌&&◌, ◌||◌, nat_le, nat_lt, Bool, true, false, not, List, [], ◌∷◌, ◌++◌, filter, refl, sym, ap, subst, ⊎_elim}
+-- What the log of a worker says of wakes: each came into a state that is in hand.
+use Rattle.std.proofs.Common.{◌≡◌, ◌⊎◌, ℕ, suc, ◌<◌, ◌≤◌, ◌==◌, ◌&&◌, ◌||◌, Bool, true, false, not, Option, None, Some, List, [], ◌∷◌, ◌++◌, filter, refl, sym, ap, subst, inl, inr, ⊎_elim, arith}
 use Rattle.std.specs.List.{list_any}
-use Rattle.std.proofs.lemmas.Bool.{false≢true, and_from, and_parts, both_ways, eq-eqb, eqb-true, false_from_ne_true, not-true, not_from_false, or_cases, or_left, or_right}
+use Rattle.std.proofs.lemmas.Bool.{false≢true, and_from, and_parts, both_ways, eq-eqb, eqb-true, false_from_ne_true, not-true, ltb-true, not_from_false, or_cases, or_left, or_right}
 use Rattle.mp_names.specs.declared.names.Name.{Name}
 use Rattle.mp_names.specs.declared.names.Name.TheVariants.{Rec, Packet, Group}
 use Rattle.mp_names.specs.declared.names.Tag.{Tag}
-use Rattle.mp_names.specs.Names.{has, In, is_group, is_packet, IsAscending, IsPrefix, Less}
+use Rattle.mp_names.specs.Names.{has, In, is_group, IsAscending, IsPrefix, Less}
 use Rattle.mp_names.specs.Outlines.{Outline, OutlineIsSound, group_owner, groups_of, is_posted}
-use Rattle.mp_names.specs.Logs.{Log, LogIsLegal, brings_wake, has_record, has_wake, is_pending, is_record_of, is_owned, is_wake_here, left_since, owned_groups, with_applied}
+use Rattle.mp_names.specs.Logs.{Log, LogIsLegal, brings_wake, has_record, has_wake, is_pending, is_record_of, is_owned, is_wake_here, left_since, owned_groups}
 use Rattle.mp_names.proofs.Lists.{any_at, any_from, filter_In, In_append, In_cases, In_filter, In_here, In_left, In_push, In_right}
 use Rattle.mp_names.proofs.Orders.{filter_ascends, less_irreflexive, less_trans}
 use Rattle.mp_names.proofs.Listed.{groups_ascend, posted_group}
-use Rattle.mp_names.proofs.Hosts.{left_at}
+use Rattle.mp_names.proofs.Hosts.{Brought, brought_at, brought_from, left_at, left_from}
+use Rattle.mp_model.specs.Facts.{JobFacts, QueryFacts}
+use Rattle.mp_outline.specs.JobOutline.{outline_of}
+use Rattle.mp_msg.specs.States.{IsPostedAt}
+use Rattle.mp_hosting.specs.Hosted.{began_before}
+use Rattle.mp_hosting.specs.HostOf.{CameInto, IsInHandSince}
+use Rattle.mp_hosting.proofs.Stays.{since_before}
 
 -- two tests that follow from each other are one
 pub same_test : (a b : Bool) → (a ≡ true → b ≡ true) → (b ≡ true → a ≡ true) → a ≡ b
@@ -19,68 +25,102 @@ same_test true b to from = sym (to refl)
 same_test false true to from = from refl
 same_test false false to from = refl
 
--- no packet of the stage is taken or sent
-abbrev pub IsUnmoved : Log → ℕ → Type 0
-IsUnmoved log j = (x : Name) → is_packet j x ≡ true → (has log.took x ≡ false) × (has log.sent x ≡ false)
+-- the group of what posted at s is applied and the bin hasn't left since, or a packet brought the wake
+abbrev pub IsKept : Outline → Log → ℕ → ℕ → ℕ → ℕ → Type 0
+IsKept o log j k s u = (In (Group j s k) log.applied × (left_since log j (o.bin_of k) s ≡ false)) ⊎ Brought log j (o.bin_of k) s u
 
--- a record of the key whose group is applied posts the time
-abbrev pub IsPosted : Outline → Log → ℕ → ℕ → ℕ → Type 0
-IsPosted o log j u k = (s : ℕ) × (g : Tag) × In (Rec j s k g) (o.records j) × (is_posted o (Rec j s k g) u ≡ true) × In (Group j s k) log.applied
+-- a record of the key posts the time, and the wake is here
+abbrev pub IsHere : Outline → Log → ℕ → ℕ → ℕ → Type 0
+IsHere o log j u k = (s : ℕ) × (g : Tag) × In (Rec j s k g) (o.records j) × (is_posted o (Rec j s k g) u ≡ true) × IsKept o log j k s u
 
-none_left : (log : Log) (j b s : ℕ) → IsUnmoved log j → left_since log j b s ≡ false
-none_left log j b s still =
-    false_from_ne_true (left_since log j b s) (λ e. let r = left_at log j b s e in both_ways (has log.sent (Packet j b r.0)) (still (Packet j b r.0) (eq-eqb j j refl)).1 r.2)
-
-none_brought : (log : Log) (j b s u : ℕ) → IsUnmoved log j → list_any (brings_wake log j b s u) log.took ≡ true → ⊥
-none_brought log j b s u still h = let r = any_at (brings_wake log j b s u) log.took h in form r.0 r.1 r.2
+pub wake_here : (o : Outline) → OutlineIsSound o → (log : Log) (j u k : ℕ) → has_wake o log j u k ≡ true → IsHere o log j u k
+wake_here o sound log j u k h = let r = any_at (is_wake_here o log j u k) (o.records j) h in form r.0 r.1 r.2
   where
-    form : (x : Name) → In x log.took → brings_wake log j b s u x ≡ true → ⊥
-    form (Packet i c m) g e =
-        both_ways (has log.took (Packet i c m)) (still (Packet i c m) (and_parts (i == j) (c == b && (nat_lt s m && (nat_le m u && not (left_since log j b m)))) e).0).0 g
-    form _ g e = false≢true e
-
--- a wake that is here was posted by an applied group
-pub wake_posted : (o : Outline) → OutlineIsSound o → (log : Log) (j u k : ℕ) → IsUnmoved log j → has_wake o log j u k ≡ true → IsPosted o log j u k
-wake_posted o sound log j u k still h = let r = any_at (is_wake_here o log j u k) (o.records j) h in form r.0 r.1 r.2
-  where
-    form : (x : Name) → In x (o.records j) → is_wake_here o log j u k x ≡ true → IsPosted o log j u k
+    form : (x : Name) → In x (o.records j) → is_wake_here o log j u k x ≡ true → IsHere o log j u k
     form (Rec i s l g) f e =
-        let stays = has log.applied (Group j s k) && not (left_since log j (o.bin_of k) s) in
+        let applied = has log.applied (Group j s k) in
+        let left = left_since log j (o.bin_of k) s in
         let brought = list_any (brings_wake log j (o.bin_of k) s u) log.took in
-        let p = and_parts (l == k) (is_posted o (Rec i s l g) u && (stays || brought)) e in
-        let c = and_parts (is_posted o (Rec i s l g) u) (stays || brought) p.1 in
+        let p = and_parts (l == k) (is_posted o (Rec i s l g) u && (applied && not left || brought)) e in
+        let c = and_parts (is_posted o (Rec i s l g) u) (applied && not left || brought) p.1 in
         let d = eqb-true l k p.0 in
         let a = eqb-true i j (sound.records_are j (Rec i s l g) f).1 in
-        let applied = ⊎_elim
-        (λ (q : stays ≡ true). (and_parts (has log.applied (Group j s k)) (not (left_since log j (o.bin_of k) s)) q).0)
-        (λ (q : brought ≡ true). absurd (none_brought log j (o.bin_of k) s u still q))
-        (or_cases stays brought c.1) in (
+        let kept : IsKept o log j k s u = ⊎_elim
+        (λ (q : (applied && not left) ≡ true). let v = and_parts applied (not left) q in inl (v.0, not-true left v.1))
+        (λ (q : brought ≡ true). inr (brought_at log j (o.bin_of k) s u q))
+        (or_cases (applied && not left) brought c.1) in (
           s,
           g,
           subst (λ (i : ℕ). In (Rec i s k g) (o.records j)) a (subst (λ (l : ℕ). In (Rec i s l g) (o.records j)) d f),
           subst (λ (i : ℕ). is_posted o (Rec i s k g) u ≡ true) a (subst (λ (l : ℕ). is_posted o (Rec i s l g) u ≡ true) d c.0),
-          applied,
+          kept,
         )
     form _ f e = absurd (false≢true e)
 
--- and what an applied group posted is here
-pub posted_wake : (o : Outline) (log : Log) (j u k : ℕ) → IsUnmoved log j → IsPosted o log j u k → has_wake o log j u k ≡ true
-posted_wake o log j u k still p =
+pub here_wake : (o : Outline) (log : Log) (j u k : ℕ) → IsHere o log j u k → has_wake o log j u k ≡ true
+here_wake o log j u k p =
     let s = p.0 in
     let b = o.bin_of k in
     let x = Rec j s k p.1 in
-    let stays = has log.applied (Group j s k) && not (left_since log j b s) in
+    let applied = has log.applied (Group j s k) in
+    let left = left_since log j b s in
     let brought = list_any (brings_wake log j b s u) log.took in
-    let here : stays ≡ true = and_from (has log.applied (Group j s k)) (not (left_since log j b s)) p.4 (not_from_false (left_since log j b s) (none_left log j b s still)) in
-    any_from (is_wake_here o log j u k) x (o.records j) p.2 (and_from (k == k) (is_posted o x u && (stays || brought)) (eq-eqb k k refl) (and_from (is_posted o x u) (stays || brought) p.3 (or_left stays brought here)))
+    let kept : (applied && not left || brought) ≡ true = ⊎_elim
+    (λ (c : In (Group j s k) log.applied × (left_since log j b s ≡ false)). or_left (applied && not left) brought (and_from applied (not left) c.0 (not_from_false left c.1)))
+    (λ (c : Brought log j b s u). or_right (applied && not left) brought (brought_from log j b s u c))
+    p.4 in
+    any_from (is_wake_here o log j u k) x (o.records j) p.2 (and_from (k == k) (is_posted o x u && (applied && not left || brought)) (eq-eqb k k refl) (and_from (is_posted o x u) (applied && not left || brought) p.3 kept))
 
--- so it has a group
-pub posted_in_groups : (o : Outline) (log : Log) (j u k : ℕ) → IsPosted o log j u k → In (Group j u k) (groups_of o j)
-posted_in_groups o log j u k p = posted_group o j p.0 k u p.1 p.2 p.3
+-- a wake that is here has a group
+pub here_in_groups : (o : Outline) (log : Log) (j u k : ℕ) → IsHere o log j u k → In (Group j u k) (groups_of o j)
+here_in_groups o log j u k p = posted_group o j p.0 k u p.1 p.2 p.3
 
--- with one more group applied, the old ones are
-pub posted_still : (o : Outline) (log : Log) (j u k : ℕ) (x : Name) → IsPosted o log j u k → IsPosted o (with_applied log x) j u k
-posted_still o log j u k x p = (p.0, p.1, p.2, p.3, In_left (Group j p.0 k) log.applied (x ∷ []) p.4)
+-- a bin that hasn't left since an earlier time hasn't since a later one
+pub still_later : (log : Log) (j b m s : ℕ) → m ≤ s → left_since log j b m ≡ false → left_since log j b s ≡ false
+still_later log j b m s l e =
+    false_from_ne_true (left_since log j b s) (λ h. let r = left_at log j b s h in let g : s < r.0 = r.1 in both_ways (left_since log j b m) e (left_from log j b m r.0 (omega arith) r.2))
+
+module _ {Cell : Type 0} (q : QueryFacts Cell) (job : JobFacts) (sound : OutlineIsSound (outline_of q job)) (w : ℕ) (log : Log) (legal : LogIsLegal (outline_of q job) w log) where
+  -- The wake that a record of the key at some time posts came into a state of the key's bin that is in hand
+  abbrev pub HasSource : ℕ → ℕ → ℕ → Type 0
+  HasSource j u k = (since : Option ℕ) × IsInHandSince q job w log j ((outline_of q job).bin_of k) since × (v : ℕ) × IsPostedAt q job j k v u × CameInto log j since k v u
+
+  applied_source : (j u k v : ℕ) → IsPostedAt q job j k v u → In (Group j v k) log.applied → left_since log j ((outline_of q job).bin_of k) v ≡ false → HasSource j u k
+  applied_source j u k v posted applied still =
+      let b = (outline_of q job).bin_of k in
+      let in_hand = (legal.applied_ready (Group j v k) applied).2 in
+      let s = since_before q job w log legal j b (suc v) (sound.bins_fit k) in_hand (λ n l e. both_ways (left_since log j b v) still (left_from log j b v n (omega arith) e)) in
+      came s.0 s.1 s.2
+    where
+      came : (since : Option ℕ) → IsInHandSince q job w log j ((outline_of q job).bin_of k) since → began_before (suc v) since ≡ true → HasSource j u k
+      came None own began = (None, own, v, posted, applied)
+      came (Some m) own began = let l : m < suc v = ltb-true m (suc v) began in (Some m, own, v, posted, inr (omega arith, applied))
+
+  pub wake_source : (j u k : ℕ) → has_wake (outline_of q job) log j u k ≡ true → HasSource j u k
+  wake_source j u k h =
+      let o = outline_of q job in
+      let p = wake_here o sound log j u k h in
+      ⊎_elim
+      (λ (c : In (Group j p.0 k) log.applied × (left_since log j (o.bin_of k) p.0 ≡ false)). applied_source j u k p.0 (p.1, p.2, p.3) c.0 c.1)
+      (λ (c : Brought log j (o.bin_of k) p.0 u). (Some c.0, (c.4, c.3), p.0, (p.1, p.2, p.3), inl (c.1, c.2)))
+      p.4
+
+  -- and the other way round
+  pub source_wake : (j u k : ℕ) → HasSource j u k → has_wake (outline_of q job) log j u k ≡ true
+  source_wake j u k h = form h.0 h.1 h.2 h.3 h.4
+    where
+      form : (since : Option ℕ) → IsInHandSince q job w log j ((outline_of q job).bin_of k) since → (v : ℕ) → IsPostedAt q job j k v u → CameInto log j since k v u → has_wake (outline_of q job) log j u k ≡ true
+      form None own v posted came =
+          let b = (outline_of q job).bin_of k in
+          let still = false_from_ne_true (left_since log j b v) (λ e. let r = left_at log j b v e in both_ways (has log.sent (Packet j b r.0)) (own.2 r.0) r.2) in
+          here_wake (outline_of q job) log j u k (v, posted.0, posted.1, posted.2, inl (came, still))
+      form (Some m) own v posted came =
+          let b = (outline_of q job).bin_of k in
+          let kept : IsKept (outline_of q job) log j k v u = ⊎_elim
+          (λ (c : (v < m) × (m ≤ u)). inr (m, c.0, c.1, own.1, own.0))
+          (λ (c : (m ≤ v) × In (Group j v k) log.applied). inl (c.1, still_later log j b m v c.0 own.1))
+          came in
+          here_wake (outline_of q job) log j u k (v, posted.0, posted.1, posted.2, kept)
 
 -- What waits
 

@@ -1,20 +1,22 @@
 -- The first group that waits at a host is whole, once the frontiers of records and packets have passed its time.
-use Rattle.std.proofs.Common.{◌≡◌, ◌≢◌, ◌⊎◌, ℕ, suc, ◌<◌, ◌≤◌, ◌==◌, nat_lt, true, false, Some, List, [], ◌∷◌, filter, take_while, Contains, refl, sym, ap, ◌∙◌, subst, inl, inr, ⊎_elim, arith}
-use Rattle.std.proofs.lemmas.Bool.{and_from, both_ways, cases_eq, cases_order, eq-eqb, false_from_ne_true, le-ltb, lt-ltb, or_left, or_right}
+use Rattle.std.proofs.Common.{◌≡◌, ◌≢◌, ◌⊎◌, ℕ, suc, ◌<◌, ◌≤◌, ◌==◌, nat_lt, true, false, Option, None, Some, List, [], ◌∷◌, filter, take_while, Contains, refl, sym, ap, ◌∙◌, subst, inl, inr, ⊎_elim, arith}
+use Rattle.std.specs.Option.{is_some, option_map_or}
+use Rattle.std.proofs.lemmas.Bool.{and_from, both_ways, cases_lt, cases_order, eq-eqb, false_from_ne_true, le-ltb, lt-ltb, ltb-true, or_from, or_left, or_right}
+use Rattle.std.proofs.lemmas.List.Elements.{All-contains}
 use Rattle.std.proofs.lemmas.List.Sums.{take_while-cons}
 use Rattle.mp_names.specs.declared.locations.Loc.TheVariants.{Mail, State}
 use Rattle.mp_names.specs.declared.names.Name.TheVariants.{Rec as RecName, Packet, Group}
 use Rattle.mp_names.specs.Names.{has, In, is_before, IsLeast}
-use Rattle.mp_names.specs.Outlines.{OutlineIsSound, group_owner, groups_of, IsMove, owner_before}
+use Rattle.mp_names.specs.Outlines.{OutlineIsSound, groups_of}
 use Rattle.mp_names.specs.Logs.{Log, LogIsLegal, has_wake}
 use Rattle.mp_names.specs.Frontiers.{HasPassed}
 use Rattle.mp_names.specs.Keeping.{GroupIsWhole, IsWaiting}
 use Rattle.mp_names.proofs.Lists.{same_tag}
 use Rattle.mp_names.proofs.Hosts.{pending_new}
-use Rattle.mp_names.proofs.Owners.{leaves}
 use Rattle.mp_names.proofs.Whole.{whole}
 use Rattle.mp_stamps.specs.declared.seen.Seen.{Seen}
 use Rattle.mp_stamps.specs.Seen.{seen_at}
+use Rattle.mp_bins.specs.Bins.{bin_of_key}
 use Rattle.mp_model.specs.declared.record.Rec.{Rec}
 use Rattle.mp_model.specs.Entry.{Entry}
 use Rattle.mp_model.specs.Facts.{JobFacts, QueryFacts}
@@ -30,15 +32,18 @@ use Rattle.mp_outline.proofs.Pairs.{Pairs, Pairs-filter, Pairs-within}
 use Rattle.mp_outline.proofs.Records.{records_in_order, same_record}
 use Rattle.mp_outline.proofs.Stages.{group_named, name_stands}
 use Rattle.mp_outline.proofs.Timelines.{groups_are_on, wakes_are}
-use Rattle.mp_hosting.specs.Hosted.{Hosted, StandsInOrder, cell_in, first_group, group_rank, has_wake_at, is_of, records_of}
+use Rattle.mp_msg.specs.States.{cell_in}
+use Rattle.mp_hosting.specs.declared.held.Held.{Held}
+use Rattle.mp_hosting.specs.Hosted.{Hosted, StandsInOrder, began_before, cell_at, first_group, group_rank, has_wake_at, is_of, records_of}
 use Rattle.mp_hosting.specs.Applying.{group_here}
-use Rattle.mp_hosting.specs.HostOf.{IsHostOf, IsInformed, IsReadyAt}
+use Rattle.mp_hosting.specs.HostOf.{IsHostOf, IsInformed, IsReadyAt, IsStateOf, is_taken_in}
 use Rattle.mp_hosting.specs.Laws.{FirstIsWhole, IsWholeHere}
 use Rattle.mp_hosting.proofs.Groups.{in_group, of_group}
 use Rattle.mp_hosting.proofs.Least.{first_least}
 use Rattle.mp_hosting.proofs.Lists.{Pairs-AllPairs, same_ordered, take_below}
 use Rattle.mp_hosting.proofs.Logs.{applied_before, same_test}
-use Rattle.mp_hosting.proofs.Waiting.{from_is_of, in_wake, is_of_from, wake_in}
+use Rattle.mp_hosting.proofs.Stays.{IsStateThen, StaysSince, none_from_group, owned_in, state_then, stay_began}
+use Rattle.mp_hosting.proofs.Waiting.{from_is_of, is_of_from, log_wake_here, wake_in_log}
 
 -- tags in order
 
@@ -93,7 +98,7 @@ fits_at q j cell e (f ∷ es) h i fits =
 
 module _ {Cell : Type 0} (q : QueryFacts Cell) (nothing : LaterStagesPostNothing q) (job : JobFacts) (sound : OutlineIsSound (outline_of q job)) (log : Log) (h : Hosted Cell) (t k : ℕ)
     (host : IsHostOf q job log h) (legal : LogIsLegal (outline_of q job) h.worker log) (stands : StandsInOrder q job h) (below : h.stage < job.shape.stages)
-    (full : GroupIsWhole (outline_of q job) h.worker log h.stage t k) (unapplied : has log.applied (Group h.stage t k) ≡ false) where
+    (full : GroupIsWhole (outline_of q job) h.worker log h.stage t k) (unapplied : has log.applied (Group h.stage t k) ≡ false) (group : In (Group h.stage t k) (groups_of (outline_of q job) h.stage)) where
   -- The records
 
   here_there : (r : Rec) → Contains (records_of h t k) r → Contains (group_at q job h.stage t k).recs r
@@ -147,13 +152,7 @@ module _ {Cell : Type 0} (q : QueryFacts Cell) (nothing : LaterStagesPostNothing
   -- The wake
 
   wake_is_known : has_wake_at h t k ≡ (group_at q job h.stage t k).woken
-  wake_is_known =
-      let o = outline_of q job in
-      same_test (has_wake_at h t k) (has_wake o log h.stage t k)
-      (λ e. ((host.wakes t k).0 (wake_in h.wakes t k e)).0)
-      (λ e. in_wake h.wakes t k ((host.wakes t k).1 (e, unapplied)))
-      ∙ full.wake_known
-      ∙ wakes_are q nothing job h.stage t k below
+  wake_is_known = same_test (has_wake_at h t k) (has_wake (outline_of q job) log h.stage t k) (λ e. (wake_in_log q job sound log h host legal stands t k e).0) (λ e. log_wake_here q job sound log h host legal stands t k e unapplied) ∙ full.wake_known ∙ wakes_are q nothing job h.stage t k below
 
   pub group_is_whole : group_here h t k ≡ group_at q job h.stage t k
   group_is_whole =
@@ -161,39 +160,37 @@ module _ {Cell : Type 0} (q : QueryFacts Cell) (nothing : LaterStagesPostNothing
       let b = wake_is_known in
       rw (a, b) refl
 
+  -- The state
+
+  -- no packet of the bin is sent from the next time on
+  pub none_sent : (n : ℕ) → suc t ≤ n → In (Packet h.stage (bin_of_key k job.shape.bins) n) log.sent → ⊥
+  none_sent = none_from_group (outline_of q job) h.worker log legal h.stage t k group full.owned unapplied
+
+  -- the state of the bin at the time
+  pub state_here : (a : Option ℕ) × (s : Held Cell) × IsStateThen q job log h (bin_of_key k job.shape.bins) (suc t) a s
+  state_here = state_then q job log h host legal (bin_of_key k job.shape.bins) (suc t) (sound.bins_fit k) full.bin_in_hand (λ m l owed. full.packets_sent m (omega arith) owed) none_sent
+
   -- The cell
-
-  -- the bin hasn't moved up to the time
-  no_move : (m : ℕ) → m ≤ t → IsMove (outline_of q job) h.stage ((outline_of q job).bin_of k) m → ⊥
-  no_move m l move =
-      let o = outline_of q job in
-      let b = o.bin_of k in
-      ⊎_elim
-      (λ (none : (m : ℕ) → m < suc t → IsMove o h.stage b m → ⊥). none m (omega arith) move)
-      (λ (some : (m : ℕ) × (m < suc t) × IsMove o h.stage b m × ((n : ℕ) → m < n → n < suc t → IsMove o h.stage b n → ⊥) × In (Packet h.stage b m) log.took).
-      both_ways (has log.took (Packet h.stage b some.0)) (host.unmoved (Packet h.stage b some.0) (eq-eqb h.stage h.stage refl)).0 some.4)
-      full.bin_in_hand.1
-
-  -- so the worker owned it all the time
-  pub owned_before : (s : ℕ) → s ≤ t → group_owner (outline_of q job) h.stage s k ≡ h.worker
-  owned_before s l =
-      let o = outline_of q job in
-      let b = o.bin_of k in
-      ⊎_elim
-      (λ (e : owner_before o h.stage b (suc s) ≡ owner_before o h.stage b (suc t)). e ∙ full.owned)
-      (λ (e : owner_before o h.stage b (suc s) ≡ owner_before o h.stage b (suc t) → ⊥). let r = leaves (owner_before o h.stage b) s t l e in absurd (no_move r.0 r.2 r.4))
-      (cases_eq (owner_before o h.stage b (suc s)) (owner_before o h.stage b (suc t)))
 
   entry_group : (e : Entry) → Contains (timeline_of q job h.stage k) e → In (Group h.stage e.time k) (groups_of (outline_of q job) h.stage)
   entry_group e i = group_named q nothing job h.stage k e.time below (group_is q h.stage k (stage_records q job.events h.stage) e i).1
 
-  -- of the groups of the key those before it are applied
-  pub earlier_applied : (e : Entry) → Contains (timeline_of q job h.stage k) e → e.time < t → has log.applied (Group h.stage e.time k) ≡ true
-  earlier_applied e i l = full.earlier_applied e.time k (entry_group e i) (owned_before e.time (omega arith)) (inr (refl, inl l))
+  -- of the groups of the key those before it are taken into the state
+  pub earlier_taken : (a : Option ℕ) → StaysSince (outline_of q job) log h.stage (bin_of_key k job.shape.bins) (suc t) a → (e : Entry) → Contains (timeline_of q job h.stage k) e → e.time < t → is_taken_in log h.stage a e.time k ≡ true
+  earlier_taken None stays e i l =
+      let same = owned_in (outline_of q job) log h.stage (bin_of_key k job.shape.bins) (suc t) None stays (suc e.time) refl (omega arith) in
+      full.earlier_applied e.time k (entry_group e i) (same ∙ full.owned) (inr (refl, inl l))
+  earlier_taken (Some m) stays e i l =
+      ⊎_elim
+      (λ (c : e.time < m). or_left (nat_lt e.time m) (has log.applied (Group h.stage e.time k)) (lt-ltb e.time m c))
+      (λ (c : m ≤ e.time).
+      let same = owned_in (outline_of q job) log h.stage (bin_of_key k job.shape.bins) (suc t) (Some m) stays (suc e.time) (lt-ltb m (suc e.time) (omega arith)) (omega arith) in
+      or_right (nat_lt e.time m) (has log.applied (Group h.stage e.time k)) (full.earlier_applied e.time k (entry_group e i) (same ∙ full.owned) (inr (refl, inl l))))
+      (cases_lt e.time m)
 
-  -- and none from it on
-  pub later_unapplied : (u : ℕ) → t ≤ u → In (Group h.stage t k) (groups_of (outline_of q job) h.stage) → has log.applied (Group h.stage u k) ≡ false
-  later_unapplied u l group =
+  -- and none of them is applied from it on
+  pub later_unapplied : (u : ℕ) → t ≤ u → has log.applied (Group h.stage u k) ≡ false
+  later_unapplied u l =
       false_from_ne_true (has log.applied (Group h.stage u k)) (λ applied.
       ⊎_elim
       (λ (e : t ≡ u). both_ways (has log.applied (Group h.stage t k)) unapplied (subst (λ (n : ℕ). In (Group h.stage n k) log.applied) (sym e) applied))
@@ -204,26 +201,49 @@ module _ {Cell : Type 0} (q : QueryFacts Cell) (nothing : LaterStagesPostNothing
       e)
       (cases_order t u))
 
-  module _ (group : In (Group h.stage t k) (groups_of (outline_of q job) h.stage)) where
-    pub cell_is_before : cell_in (q.fresh h.stage) h.cells k ≡ cell_before q h.stage (stage_records q job.events h.stage) k t
-    cell_is_before =
-        host.cells k
-        ∙ ap (fold_of q h.stage (q.fresh h.stage))
-        (take_below (λ (e : Entry). e.time) (λ (e : Entry). has log.applied (Group h.stage e.time k)) t (timeline_of q job h.stage k) (timeline_rises q h.stage k (stage_records q job.events h.stage)) earlier_applied (λ e i l. later_unapplied e.time l group))
+  pub later_not_taken : (a : Option ℕ) → began_before (suc t) a ≡ true → (u : ℕ) → t ≤ u → is_taken_in log h.stage a u k ≡ false
+  later_not_taken None began u l = later_unapplied u l
+  later_not_taken (Some m) began u l =
+      let c : m < suc t = ltb-true m (suc t) began in
+      or_from (nat_lt u m) (has log.applied (Group h.stage u k)) (le-ltb u m (omega arith)) (later_unapplied u l)
 
-    pub on_timeline : Contains (timeline_of q job h.stage k) (group_at q job h.stage t k)
-    on_timeline = (groups_are_on q nothing job sound h.stage t k below).0 group
+  -- the state has the key's cell just before the time
+  pub state_cell : (a : Option ℕ) → StaysSince (outline_of q job) log h.stage (bin_of_key k job.shape.bins) (suc t) a → (s : Held Cell) → Contains h.held s → s.bin ≡ bin_of_key k job.shape.bins → s.since ≡ a
+      → cell_in (q.fresh h.stage) s.state.cells k ≡ cell_before q h.stage (stage_records q job.events h.stage) k t
+  state_cell a stays s here bin since =
+      let j = h.stage in
+      let fresh = q.fresh j in
+      let timeline = timeline_of q job j k in
+      let began = stay_began (outline_of q job) log j (bin_of_key k job.shape.bins) (suc t) a stays in
+      let is = All-contains (IsStateOf q job log j) h.held s host.states here in
+      is.cells k (sym bin)
+      ∙ ap (λ (c : Option ℕ). fold_of q j fresh (filter (λ (e : Entry). is_taken_in log j c e.time k) timeline)) since
+      ∙ ap (fold_of q j fresh) (take_below (λ (e : Entry). e.time) (λ (e : Entry). is_taken_in log j a e.time k) t timeline (timeline_rises q j k (stage_records q job.events j)) (earlier_taken a stays) (λ e i l. later_not_taken a began e.time l))
 
-    group_fits : SumsFit q → JobIsLegal q job → q.fits h.stage (cell_in (q.fresh h.stage) h.cells k) (group_here h t k) ≡ true
-    group_fits fit job_legal =
-        let j = h.stage in
-        let same : job.shape.stages ≡ q.stages = job_legal.stages in
-        let along = fit job.events job_legal.events j k (omega arith) in
-        let at = fits_at q j (q.fresh j) (group_at q job j t k) (timeline_of q job j k) (timeline_rises q j k (stage_records q job.events j)) on_timeline along in
-        rw (cell_is_before, group_is_whole) at
+  cell_is_before : cell_at (q.fresh h.stage) job.shape.bins h t k ≡ cell_before q h.stage (stage_records q job.events h.stage) k t
+  cell_is_before =
+      let there = state_here.2 in
+      ap (λ (o : Option (Held Cell)). option_map_or (λ s. cell_in (q.fresh h.stage) s.state.cells k) o (q.fresh h.stage)) there.found
+      ∙ state_cell state_here.0 there.stays state_here.1 there.here there.bin there.since
 
-    pub is_whole_here : SumsFit q → JobIsLegal q job → IsWholeHere q job h t k
-    is_whole_here fit job_legal = record { group = group_is_whole; cell = cell_is_before; fits = group_fits fit job_legal }
+  pub on_timeline : Contains (timeline_of q job h.stage k) (group_at q job h.stage t k)
+  on_timeline = (groups_are_on q nothing job sound h.stage t k below).0 group
+
+  group_fits : SumsFit q → JobIsLegal q job → q.fits h.stage (cell_at (q.fresh h.stage) job.shape.bins h t k) (group_here h t k) ≡ true
+  group_fits fit job_legal =
+      let j = h.stage in
+      let same : job.shape.stages ≡ q.stages = job_legal.stages in
+      let along = fit job.events job_legal.events j k (omega arith) in
+      let at = fits_at q j (q.fresh j) (group_at q job j t k) (timeline_of q job j k) (timeline_rises q j k (stage_records q job.events j)) on_timeline along in
+      rw (cell_is_before, group_is_whole) at
+
+  pub is_whole_here : SumsFit q → JobIsLegal q job → IsWholeHere q job h t k
+  is_whole_here fit job_legal = record {
+    group = group_is_whole;
+    in_hand = ap is_some state_here.2.found;
+    cell = cell_is_before;
+    fits = group_fits fit job_legal;
+  }
 
 module _ {Cell : Type 0} (q : QueryFacts Cell) (job : JobFacts) (sound : OutlineIsSound (outline_of q job)) (log : Log) (seen : Seen) (h : Hosted Cell) (t k : ℕ)
     (stands : StandsInOrder q job h) (informed : IsInformed q job log seen h) (below : h.stage < job.shape.stages) (first : first_group h ≡ Some (t, k))

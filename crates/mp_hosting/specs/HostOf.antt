@@ -1,17 +1,17 @@
 -- What it means that a host holds what its worker's log says, and which group may be applied.
-use Rattle.std.specs.Prelude.{◌≡◌, ◌≢◌, ◌↔◌, ℕ, true, false, AllPairs, Contains, filter}
+use Rattle.std.specs.Prelude.{◌≡◌, ◌≢◌, ◌↔◌, ◌⊎◌, ◌<◌, ◌≤◌, ◌||◌, ℕ, Bool, false, nat_lt, Option, None, Some, All, AllPairs, Any, Contains, filter}
 use Rattle.mp_names.specs.declared.locations.Loc.{Loc}
 use Rattle.mp_names.specs.declared.locations.Loc.TheVariants.{Mail, State}
-use Rattle.mp_names.specs.declared.names.Name.{Name}
-use Rattle.mp_names.specs.declared.names.Name.TheVariants.{Group}
-use Rattle.mp_names.specs.Names.{has, In, is_packet, IsLeast}
-use Rattle.mp_names.specs.Outlines.{owner_at}
-use Rattle.mp_names.specs.Logs.{Log, LogIsLegal, has_wake, InHand}
+use Rattle.mp_names.specs.declared.names.Name.TheVariants.{Packet, Group}
+use Rattle.mp_names.specs.Names.{has, In, IsLeast}
+use Rattle.mp_names.specs.Outlines.{Outline, IsOwedBy, owner_at}
+use Rattle.mp_names.specs.Logs.{Log, LogIsLegal, InHand, left_since}
 use Rattle.mp_names.specs.Frontiers.{HasPassed, IsClosedForOne}
 use Rattle.mp_names.specs.Keeping.{IsWaiting}
 use Rattle.mp_stamps.specs.declared.seen.Seen.{Seen}
 use Rattle.mp_stamps.specs.Seen.{HasLoc, seen_at}
-use Rattle.mp_bins.specs.Notes.{Notes, owner_at as noted_owner}
+use Rattle.mp_bins.specs.Bins.{bin_of_key}
+use Rattle.mp_bins.specs.Notes.{Notes, first_owner, owner_at as noted_owner}
 use Rattle.mp_model.specs.declared.record.Rec.{Rec}
 use Rattle.mp_model.specs.Facts.{JobFacts, QueryFacts}
 use Rattle.mp_model.specs.Folds.{fold_of}
@@ -19,19 +19,48 @@ use Rattle.mp_outline.specs.JobOutline.{name_of_record, outline_of}
 use Rattle.mp_outline.specs.Laws.{timeline_of}
 use Rattle.mp_postdated.specs.Wakes.{Has}
 use Rattle.mp_msg.specs.Contents.{IsRecordOf}
-use Rattle.mp_hosting.specs.Hosted.{Hosted, cell_in}
+use Rattle.mp_msg.specs.States.{IsPostedAt, cell_in}
+use Rattle.mp_hosting.specs.declared.held.Held.{Held}
+use Rattle.mp_hosting.specs.Hosted.{Hosted, wakes_in}
+
+-- A worker sends the packets of each bin in the order of their times, and applies no group before the packets of its bin that were due by its time are sent
+pub record MovesInOrder (o : Outline) (w : ℕ) (log : Log) (j : ℕ) : Type 0 where
+  pub packets : (b m n : ℕ) → m < n → In (Packet j b n) log.sent → IsOwedBy o w (Packet j b m) → In (Packet j b m) log.sent
+  pub groups : (u k m : ℕ) → m ≤ u → In (Group j u k) log.applied → IsOwedBy o w (Packet j (o.bin_of k) m) → In (Packet j (o.bin_of k) m) log.sent
+
+-- the group was taken into a state that has been in hand since then: it is of a time before that, or it is applied
+abbrev pub is_taken_in : Log → ℕ → Option ℕ → ℕ → ℕ → Bool
+is_taken_in log j None u k = has log.applied (Group j u k)
+is_taken_in log j (Some m) u k = nat_lt u m || has log.applied (Group j u k)
+
+-- what a record at s posts for u is a wake of the state: the packet brought it, or the record's group is applied since then
+abbrev pub CameInto : Log → ℕ → Option ℕ → ℕ → ℕ → ℕ → Type 0
+CameInto log j None k s u = In (Group j s k) log.applied
+CameInto log j (Some m) k s u = ((s < m) × (m ≤ u)) ⊎ ((m ≤ s) × In (Group j s k) log.applied)
 
 module _ {Cell : Type 0} (q : QueryFacts Cell) (job : JobFacts) where
-  -- The host holds just what the log says of its stage. A host can't take a bin out or in yet, so the log has no packet of the stage
+  -- the worker has had a state of the bin in hand since then: as the first owner, or since it took the packet of that time; and it hasn't left
+  abbrev pub IsInHandSince : ℕ → Log → ℕ → ℕ → Option ℕ → Type 0
+  IsInHandSince w log j b None = (b < job.shape.bins) × (first_owner job.shape b ≡ w) × ((m : ℕ) → has log.sent (Packet j b m) ≡ false)
+  IsInHandSince w log j b (Some m) = In (Packet j b m) log.took × (left_since log j b m ≡ false)
+
+  -- What a state in hand has: the wakes that came into it, of groups that aren't applied, and the cells of its bin's keys after the groups that were taken in
+  pub record IsStateOf (log : Log) (j : ℕ) (s : Held Cell) : Type 0 where
+    pub wakes : (u k : ℕ) → bin_of_key k job.shape.bins ≡ s.bin
+        → (Has (wakes_in s) u k ↔ ((has log.applied (Group j u k) ≡ false) × (v : ℕ) × IsPostedAt q job j k v u × CameInto log j s.since k v u))
+    pub cells : (k : ℕ) → bin_of_key k job.shape.bins ≡ s.bin
+        → cell_in (q.fresh j) s.state.cells k ≡ fold_of q j (q.fresh j) (filter (λ e. is_taken_in log j s.since e.time k) (timeline_of q job j k))
+
+  -- The host holds just what the log says of its stage
   pub record IsHostOf (log : Log) (h : Hosted Cell) : Type 0 where
-    pub unmoved : (x : Name) → is_packet h.stage x ≡ true → (has log.took x ≡ false) × (has log.sent x ≡ false)
+    pub moves : MovesInOrder (outline_of q job) h.worker log h.stage
     -- the records that were taken, of groups that aren't applied
     pub records : (r : Rec) → (Contains h.records r ↔ (IsRecordOf q job h.stage r × In (name_of_record h.stage r) log.took × (has log.applied (Group h.stage r.time r.key) ≡ false)))
     pub once : AllPairs (λ r s. r ≢ s) h.records
-    -- the wakes that are here, of groups that aren't applied
-    pub wakes : (t k : ℕ) → (Has h.wakes t k ↔ ((has_wake (outline_of q job) log h.stage t k ≡ true) × (has log.applied (Group h.stage t k) ≡ false)))
-    -- the cell of each key after its groups that are applied
-    pub cells : (k : ℕ) → cell_in (q.fresh h.stage) h.cells k ≡ fold_of q h.stage (q.fresh h.stage) (filter (λ e. has log.applied (Group h.stage e.time k)) (timeline_of q job h.stage k))
+    -- the bins that are in hand, each state once
+    pub held : (b : ℕ) (since : Option ℕ) → (Any (λ s. (s.bin ≡ b) × (s.since ≡ since)) h.held ↔ IsInHandSince h.worker log h.stage b since)
+    pub held_once : AllPairs (λ r s. (r.bin ≡ s.bin) × (r.since ≡ s.since) → ⊥) h.held
+    pub states : All (IsStateOf log h.stage) h.held
 
   -- What a host is asked by: it holds what a legal log of its worker says, and in that log all is done that was seen to be over
   pub record IsInformed (log : Log) (seen : Seen) (h : Hosted Cell) : Type 0 where

@@ -1,14 +1,15 @@
 -- What holds of hosts, whatever the query and the job.
-use Rattle.std.specs.Prelude.{◌≡◌, ◌↔◌, ℕ, ◌<◌, true, false, Contains, Some, None, length}
+use Rattle.std.specs.Prelude.{◌≡◌, ◌↔◌, ℕ, ◌<◌, true, false, Contains, IsSome, Some, None, length}
 use Rattle.mp_names.specs.declared.locations.Loc.TheVariants.{Mail, State}
-use Rattle.mp_names.specs.declared.names.Name.TheVariants.{Group}
-use Rattle.mp_names.specs.Names.{has, IsLeast}
-use Rattle.mp_names.specs.Outlines.{groups_of}
-use Rattle.mp_names.specs.Logs.{Log, LogIsLegal, empty_log, is_pending, with_applied, with_took}
+use Rattle.mp_names.specs.declared.names.Name.TheVariants.{Group, Packet}
+use Rattle.mp_names.specs.Names.{has, In, IsLeast}
+use Rattle.mp_names.specs.Outlines.{IsOwedBy, IsOwedTo, groups_of}
+use Rattle.mp_names.specs.Logs.{Log, LogIsLegal, empty_log, is_pending, with_applied, with_sent, with_took}
 use Rattle.mp_names.specs.Frontiers.{HasPassed, number_at}
 use Rattle.mp_names.specs.Keeping.{IsWaiting}
 use Rattle.mp_stamps.specs.declared.seen.Seen.{Seen}
 use Rattle.mp_stamps.specs.Seen.{seen_at}
+use Rattle.mp_bins.specs.Bins.{bin_of_key}
 use Rattle.mp_model.specs.declared.record.Rec.{Rec}
 use Rattle.mp_model.specs.Facts.{JobFacts, QueryFacts}
 use Rattle.mp_model.specs.Folds.{cell_before}
@@ -16,14 +17,17 @@ use Rattle.mp_model.specs.Stages.{stage_records}
 use Rattle.mp_outline.specs.JobOutline.{name_of_record, outline_of}
 use Rattle.mp_outline.specs.Laws.{group_at}
 use Rattle.mp_msg.specs.Contents.{IsRecordOf}
-use Rattle.mp_hosting.specs.Hosted.{Hosted, IsNew, StandsInOrder, cell_in, first_group, keys_at}
+use Rattle.mp_msg.specs.States.{BinContent, IsStateBefore}
+use Rattle.mp_hosting.specs.declared.held.Held.{Held}
+use Rattle.mp_hosting.specs.Hosted.{Hosted, IsNew, StandsInOrder, cell_at, first_group, keys_at, state_at, state_before}
 use Rattle.mp_hosting.specs.Applying.{IsApplied, IsReceived, group_here, woken_by}
+use Rattle.mp_hosting.specs.Moving.{IsPutIn, IsTakenOut, brought, not_waiting}
 use Rattle.mp_hosting.specs.HostOf.{IsHostOf, IsInformed, IsReadyAt}
 
 module _ {Cell : Type 0} (q : QueryFacts Cell) (job : JobFacts) where
   -- a new host holds what the empty log says
   abbrev pub NewHostsHoldNothing : Type 0
-  NewHostsHoldNothing = (h : Hosted Cell) → IsNew h → IsHostOf q job empty_log h
+  NewHostsHoldNothing = (h : Hosted Cell) → IsNew job h → IsHostOf q job empty_log h
 
   -- a host that receives a record holds what the log says with that record taken
   abbrev pub RecordsAreHeld : Type 0
@@ -47,11 +51,12 @@ module _ {Cell : Type 0} (q : QueryFacts Cell) (job : JobFacts) where
       → ((t k : ℕ) → first_group h ≡ Some (t, k) → IsLeast (IsWaiting (outline_of q job) log h.stage) (Group h.stage t k))
       × (first_group h ≡ None → (t k : ℕ) → IsWaiting (outline_of q job) log h.stage (Group h.stage t k) → ⊥)
 
-  -- What a host has of a group that is ready: the whole group, and the key's cell just before it
+  -- What a host has of a group that is ready: the whole group, the state of its key's bin, and the key's cell just before it
   pub record IsWholeHere (h : Hosted Cell) (t k : ℕ) : Type 0 where
     pub group : group_here h t k ≡ group_at q job h.stage t k
-    pub cell : cell_in (q.fresh h.stage) h.cells k ≡ cell_before q h.stage (stage_records q job.events h.stage) k t
-    pub fits : q.fits h.stage (cell_in (q.fresh h.stage) h.cells k) (group_here h t k) ≡ true
+    pub in_hand : IsSome (state_at h (bin_of_key k job.shape.bins) t)
+    pub cell : cell_at (q.fresh h.stage) job.shape.bins h t k ≡ cell_before q h.stage (stage_records q job.events h.stage) k t
+    pub fits : q.fits h.stage (cell_at (q.fresh h.stage) job.shape.bins h t k) (group_here h t k) ≡ true
 
   -- the first group that waits here is ready, and whole, once the frontiers of records and packets have passed its time
   abbrev pub FirstIsWhole : Type 0
@@ -77,7 +82,7 @@ module _ {Cell : Type 0} (q : QueryFacts Cell) (job : JobFacts) where
       → first_group old ≡ Some (t, k)
       → HasPassed (seen_at seen (Mail old.stage)) t
       → HasPassed (seen_at seen (State old.stage)) t
-      → IsApplied q t k old new
+      → IsApplied q job t k old new
       → IsHostOf q job (with_applied log (Group old.stage t k)) new
 
   -- and the times at which the key waits from then on, and didn't before, are those that are told
@@ -102,3 +107,74 @@ module _ {Cell : Type 0} (q : QueryFacts Cell) (job : JobFacts) where
       → LogIsLegal (outline_of q job) h.worker log
       → h.stage < job.shape.stages
       → length (keys_at h t) ≡ number_at (outline_of q job) (is_pending (outline_of q job) log) t (groups_of (outline_of q job) h.stage)
+
+  -- Bins that move
+
+  -- The packet of the bin's move at this time may leave: the worker owes it and hasn't sent it, the log stays legal with it, and the bin's earlier packets that the worker owes are sent
+  pub record MayLeaveNow (log : Log) (h : Hosted Cell) (b t : ℕ) : Type 0 where
+    pub owed : IsOwedBy (outline_of q job) h.worker (Packet h.stage b t)
+    pub unsent : has log.sent (Packet h.stage b t) ≡ false
+    pub legal : LogIsLegal (outline_of q job) h.worker (with_sent log (Packet h.stage b t))
+    pub earlier : (m : ℕ) → m < t → IsOwedBy (outline_of q job) h.worker (Packet h.stage b m) → In (Packet h.stage b m) log.sent
+
+  -- then a state of the bin that began before is here
+  abbrev pub LeavingBinsAreHere : Type 0
+  LeavingBinsAreHere = (log : Log) (h : Hosted Cell) (b t : ℕ) → IsHostOf q job log h → LogIsLegal (outline_of q job) h.worker log → MayLeaveNow log h b t → IsSome (state_before h b t)
+
+  -- a host from which it is taken out holds what the log says with the packet sent, and what was taken out is what the bin has just before that time
+  abbrev pub BinsLeave : Type 0
+  BinsLeave =
+      (log : Log) (b t : ℕ) (one : Held Cell) (old new : Hosted Cell)
+      → StandsInOrder q job old
+      → IsHostOf q job log old
+      → LogIsLegal (outline_of q job) old.worker log
+      → MayLeaveNow log old b t
+      → IsTakenOut b t one old new
+      → IsHostOf q job (with_sent log (Packet old.stage b t)) new × IsStateBefore q job old.stage b t one.state
+
+  -- the groups that wait no longer then are those of its wakes that don't wait without it
+  abbrev pub LeavingAreTold : Type 0
+  LeavingAreTold =
+      (log : Log) (b t : ℕ) (one : Held Cell) (old new : Hosted Cell) (u k : ℕ)
+      → StandsInOrder q job old
+      → IsHostOf q job log old
+      → LogIsLegal (outline_of q job) old.worker log
+      → old.stage < job.shape.stages
+      → MayLeaveNow log old b t
+      → IsTakenOut b t one old new
+      → (Contains (not_waiting new one.state) (u, k) ↔ ((is_pending (outline_of q job) log (Group old.stage u k) ≡ true) × (is_pending (outline_of q job) (with_sent log (Packet old.stage b t)) (Group old.stage u k) ≡ false)))
+
+  -- a host that gets back what was taken out of it holds what it held
+  abbrev pub BinsReturn : Type 0
+  BinsReturn =
+      (log : Log) (b t : ℕ) (one : Held Cell) (old between new : Hosted Cell)
+      → IsHostOf q job log old
+      → IsTakenOut b t one old between
+      → IsPutIn one between new
+      → IsHostOf q job log new
+
+  -- a host that is given the state that a packet brings holds what the log says with that packet taken
+  abbrev pub PacketsAreHeld : Type 0
+  PacketsAreHeld =
+      (log : Log) (b t : ℕ) (s : BinContent Cell) (old new : Hosted Cell)
+      → IsHostOf q job log old
+      → LogIsLegal (outline_of q job) old.worker log
+      → IsOwedTo (outline_of q job) old.worker (Packet old.stage b t)
+      → has log.took (Packet old.stage b t) ≡ false
+      → IsStateBefore q job old.stage b t s
+      → IsPutIn (brought b t s) old new
+      → IsHostOf q job (with_took log (Packet old.stage b t)) new
+
+  -- the groups that wait from then on, and didn't before, are those of its wakes that didn't wait
+  abbrev pub ComingAreTold : Type 0
+  ComingAreTold =
+      (log : Log) (b t : ℕ) (s : BinContent Cell) (old new : Hosted Cell) (u k : ℕ)
+      → StandsInOrder q job old
+      → IsHostOf q job log old
+      → LogIsLegal (outline_of q job) old.worker log
+      → old.stage < job.shape.stages
+      → IsOwedTo (outline_of q job) old.worker (Packet old.stage b t)
+      → has log.took (Packet old.stage b t) ≡ false
+      → IsStateBefore q job old.stage b t s
+      → IsPutIn (brought b t s) old new
+      → (Contains (not_waiting old s) (u, k) ↔ ((is_pending (outline_of q job) (with_took log (Packet old.stage b t)) (Group old.stage u k) ≡ true) × (is_pending (outline_of q job) log (Group old.stage u k) ≡ false)))

@@ -1,7 +1,7 @@
 //! The laws of hosts, each the contract of a function that does nothing.
 ghost use Rattle.mp_model.specs.Facts.{JobFacts};
 ghost use Rattle.mp_job.specs.Legal.{JobIsLegal};
-ghost use Rattle.mp_hosting.specs.Laws.{FirstIsLeast, FirstIsWhole, GroupsAreHeld, NewHostsHoldNothing, RecordsAreHeld, WaitingAreCounted, WokenAreTold};
+ghost use Rattle.mp_hosting.specs.Laws.{BinsLeave, BinsReturn, ComingAreTold, FirstIsLeast, FirstIsWhole, GroupsAreHeld, LeavingAreTold, LeavingBinsAreHere, NewHostsHoldNothing, PacketsAreHeld, RecordsAreHeld, WaitingAreCounted, WokenAreTold};
 
 use mp_model::Query;
 
@@ -28,4 +28,19 @@ pub fn groups_are_held<Q: Query>()
     ensures whole { (job : JobFacts) → let q = Q.facts job.rules in JobIsLegal q job → FirstIsWhole q job }
     ensures held { (job : JobFacts) → let q = Q.facts job.rules in JobIsLegal q job → GroupsAreHeld q job }
     ensures woken { (job : JobFacts) → let q = Q.facts job.rules in JobIsLegal q job → WokenAreTold q job }
+{}
+
+/// A bin that has to leave a host is there, and what is taken out is what it has just before its move. The host then holds
+/// what the log says with the packet sent, or, where it gets the bin back, what it held.
+pub fn bins_leave<Q: Query>()
+    ensures here { (job : JobFacts) → let q = Q.facts job.rules in JobIsLegal q job → LeavingBinsAreHere q job }
+    ensures left { (job : JobFacts) → let q = Q.facts job.rules in JobIsLegal q job → BinsLeave q job }
+    ensures told { (job : JobFacts) → let q = Q.facts job.rules in JobIsLegal q job → LeavingAreTold q job }
+    ensures returned { (job : JobFacts) → BinsReturn (Q.facts job.rules) job }
+{}
+
+/// A host that is given what a packet brings holds what the log says with that packet taken.
+pub fn packets_are_held<Q: Query>()
+    ensures held { (job : JobFacts) → let q = Q.facts job.rules in JobIsLegal q job → PacketsAreHeld q job }
+    ensures told { (job : JobFacts) → let q = Q.facts job.rules in JobIsLegal q job → ComingAreTold q job }
 {}

@@ -1,8 +1,13 @@
-//! What a host holds by its worker's log, and what becomes of it: definitions and their laws, with no code.
+//! What a host holds by its worker's log, and what becomes of it: definitions and their laws.
 #![tactic(auto)]
 
+mod held;
 mod laws;
 #[cfg(test)]
 mod tests;
 
-pub use laws::{groups_are_held, hosts_begin_empty, records_are_held, waiting_groups_are_told};
+pub use held::Held;
+pub use laws::{
+    bins_leave, groups_are_held, hosts_begin_empty, packets_are_held, records_are_held,
+    waiting_groups_are_told,
+};

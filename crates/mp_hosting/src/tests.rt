@@ -3,7 +3,10 @@ ghost use Rattle.std.specs.Prelude.{◌≡◌, [], refl};
 ghost use Rattle.mp_job.specs.Samples.{bids_fit, bids_give_nothing, bids_have_keys, bids_have_stages, bids_post_later, bids_post_once, bids_stay_fresh, waking_bids};
 ghost use Rattle.mp_hosting.specs.Samples.{BusyHostWaits};
 
-use crate::{groups_are_held, hosts_begin_empty, records_are_held, waiting_groups_are_told};
+use crate::{
+    bins_leave, groups_are_held, hosts_begin_empty, packets_are_held, records_are_held,
+    waiting_groups_are_told,
+};
 use mp_model::{Group, PostList, Query, Rec, Time, Value};
 use std::alloc::{AllocError, Global};
 use std::test::Fail;
@@ -83,6 +86,8 @@ fn laws_hold_of_a_query(_rt: HostRuntime) -> Result<(), Fail> {
     records_are_held::<WakingBids>();
     waiting_groups_are_told::<WakingBids>();
     groups_are_held::<WakingBids>();
+    bins_leave::<WakingBids>();
+    packets_are_held::<WakingBids>();
     Ok(())
 }
 

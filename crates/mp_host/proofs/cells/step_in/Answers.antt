@@ -2,10 +2,10 @@ use Rattle.std.proofs.Common.{sym, ◌∙◌}
 use Rattle.std.specs.BTreeMap.{is_at}
 use Rattle.std.specs.Ordering.{nat_cmp}
 use Rattle.std.proofs.lemmas.Map.Steps.{set_value_same}
-use Rattle.mp_host.proofs.Kept.{on_err}
+use Rattle.mp_host.proofs.Kept.{even_on_err}
 use Rattle.mp_host.proofs.cells.step_in.Goals as goal
 
-pub returns-in-Some-clause-refused : goal.returns-in-Some-clause-refused
-returns-in-Some-clause-refused g c =
-    on_err c.step.result _ _ c.step.ensures.kept
-    (λ same. rw same ((c.get_mut.follows.holds c.in-Some.cell.now).0 ∙ set_value_same (is_at (nat_cmp c.key-key.result)) c.args.cells.now.entries c.in-Some.cell.now (sym c.in-Some.ensures.value)))
+pub returns-in_err-outputs-in-Some-clause-refused : goal.returns-in_err-outputs-in-Some-clause-refused
+returns-in_err-outputs-in-Some-clause-refused g c =
+    even_on_err c.from_residual.result _
+    (rw c.in_err-outputs-in-Some.ensures.kept ((c.get_mut.follows.holds c.in-Some.cell.now).0 ∙ set_value_same (is_at (nat_cmp c.key-key.result)) c.args.cells.now.entries c.in-Some.cell.now (sym c.in-Some.ensures.value)))

@@ -5,6 +5,6 @@ use Rattle.mp_host.proofs.tests.bids_are_hosted.Goals as goal
 
 pub receive-requires-2-after_bounds : goal.receive-requires-2-after_bounds
 receive-requires-2-after_bounds g c = λ κs b.
-    let stage = c.in_ok-receive.ensures.received.stage ∙ ap (λ (h : Hosted ℕ). h.stage) c.in_ok-make_room.ensures.same ∙ c.new-host.ensures.stage in
+    let stage = c.in_ok-receive.ensures.received.stage ∙ ap (λ (h : Hosted ℕ). h.stage) c.in_ok-make_room.ensures.same ∙ c.in_ok-host.ensures.stage in
     let made = rw c.requires.events at c.in_ok-rec_at-2.ensures in
     rw (stage, ← c.requires.job, c.requires.shape, c.requires.events) (omega arith, (1, omega arith, cc))

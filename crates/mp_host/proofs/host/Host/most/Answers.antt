@@ -1,8 +1,10 @@
-use Rattle.std.proofs.Common.{ap, refl, ◌∙◌}
+use Rattle.std.proofs.Common.{◌-◌, ◌∙◌, ap, length}
+use Rattle.std.specs.Vec.{vec_capacity}
 use Rattle.mp_model.specs.Facts.{JobFacts}
+use Rattle.mp_hosting.specs.Hosted.{Hosted, records_of}
 use Rattle.mp_host.specs.Hosts.{hosted_of}
-use Rattle.mp_host.proofs.Stepped.{cut_sum, group_is, step_fits, step_most}
-use Rattle.mp_host.proofs.Enough.{most_holds}
+use Rattle.mp_host.proofs.Grouped.{group_is}
+use Rattle.mp_host.proofs.Enough.{cut_sum, most_holds}
 use Rattle.mp_host.proofs.Told.{group_is_in_time, none_before, one_ready, whole_here}
 use Rattle.mp_host.proofs.host.Host.most.Goals as goal
 
@@ -11,43 +13,41 @@ first_records-recs-requires g c =
     let laws = g.met.Q.Query g.world.𝓛 g.world.𝓜 g.world.𝓡 ((λ s x. x), (λ x. x), (λ x. x), λ x. x) in
     let job = g.J.Naming.job in
     let rules = job.rules in
-    let i = c.self.inside in
-    let h = hosted_of i.stage i.worker i.records i.wakes i.cells in
-    none_before (g.Q.Query.facts rules) (record { stages = laws.has_stages rules; later = laws.posts_are_later rules; nothing = laws.later_stages_post_nothing rules; fit = laws.sums_fit rules }) job i.job.now h c.self.invariant c.in-Some.time c.in-Some.key (rw (← c.self.view_is) at c.in-Some.ensures.some.first)
+    none_before (g.Q.Query.facts rules) (record { stages = laws.has_stages rules; later = laws.posts_are_later rules; nothing = laws.later_stages_post_nothing rules; fit = laws.sums_fit rules }) job _ _ c.self.invariant c.in-Some.time c.in-Some.key (rw (← c.self.view_is) at c.in-Some.ensures.some.first)
 
-pub most_in-outputs-requires-clause-fits : goal.most_in-outputs-requires-clause-fits
-most_in-outputs-requires-clause-fits g c = λ κs b.
+pub most_outputs-outputs-requires-clause-in_hand : goal.most_outputs-outputs-requires-clause-in_hand
+most_outputs-outputs-requires-clause-in_hand g c = λ κs b.
     let laws = g.met.Q.Query g.world.𝓛 g.world.𝓜 g.world.𝓡 ((λ s x. x), (λ x. x), (λ x. x), λ x. x) in
     let job = g.J.Naming.job in
     let rules = job.rules in
-    let i = c.self.inside in
-    let h = hosted_of i.stage i.worker i.records i.wakes i.cells in
-    let rules_are = c.query-query.ensures ∙ ap (λ (j : JobFacts). j.rules) c.self.invariant.same in
-    let woken = rw (← c.self.view_is) at c.is_woken.ensures in
-    let is = group_is h c.in-Some.time c.in-Some.key c.new-group.result _ _ c.new-group.ensures woken c.first_records-recs.ensures.records in
-    let whole = whole_here (g.Q.Query.facts rules) (record { stages = laws.has_stages rules; later = laws.posts_are_later rules; nothing = laws.later_stages_post_nothing rules; fit = laws.sums_fit rules }) job job c.args.self.now c.first_ready.ensures.hosted c.args.seen.now c.args.owners.now c.in-Some.time c.in-Some.key c.in-Some.ensures.some c.requires.informed in
-    rw rules_are (step_fits (g.Q.Query.facts rules) h c.in-Some.time c.in-Some.key i.cells refl c.new-group.result is (rw (← c.self.view_is) at whole.fits))
+    rw c.new-group.ensures ((whole_here (g.Q.Query.facts rules) (record { stages = laws.has_stages rules; later = laws.posts_are_later rules; nothing = laws.later_stages_post_nothing rules; fit = laws.sums_fit rules }) job job c.args.self.now c.first_ready.ensures.hosted c.args.seen.now c.args.owners.now c.in-Some.time c.in-Some.key c.in-Some.ensures.some c.requires.informed).in_hand)
+
+pub most_outputs-outputs-requires-clause-fits : goal.most_outputs-outputs-requires-clause-fits
+most_outputs-outputs-requires-clause-fits g c = λ κs b.
+    let laws = g.met.Q.Query g.world.𝓛 g.world.𝓜 g.world.𝓡 ((λ s x. x), (λ x. x), (λ x. x), λ x. x) in
+    let job = g.J.Naming.job in
+    let rules = job.rules in
+    let records = c.first_records-recs.ensures.records ∙ ap (λ (h : Hosted g.row.Q-Cell.Denot). records_of h c.in-Some.time c.in-Some.key) c.self.view_is in
+    let is = group_is c.args.self.now c.in-Some.time c.in-Some.key c.new-group.result _ _ c.new-group.ensures c.is_woken.ensures records in
+    rw is ((whole_here (g.Q.Query.facts rules) (record { stages = laws.has_stages rules; later = laws.posts_are_later rules; nothing = laws.later_stages_post_nothing rules; fit = laws.sums_fit rules }) job job c.args.self.now c.first_ready.ensures.hosted c.args.seen.now c.args.owners.now c.in-Some.time c.in-Some.key c.in-Some.ensures.some c.requires.informed).fits)
 
 pub count_posts-requires-after_bounds : goal.count_posts-requires-after_bounds
 count_posts-requires-after_bounds g c = λ κs b.
     let laws = g.met.Q.Query g.world.𝓛 g.world.𝓜 g.world.𝓡 ((λ s x. x), (λ x. x), (λ x. x), λ x. x) in
     let job = g.J.Naming.job in
     let rules = job.rules in
-    let i = c.self.inside in
-    let h = hosted_of i.stage i.worker i.records i.wakes i.cells in
-    rw c.first_records-recs.ensures.records (group_is_in_time (g.Q.Query.facts rules) (record { stages = laws.has_stages rules; later = laws.posts_are_later rules; nothing = laws.later_stages_post_nothing rules; fit = laws.sums_fit rules }) job i.job.now h c.self.invariant c.in-Some.time c.in-Some.key)
+    rw c.first_records-recs.ensures.records (group_is_in_time (g.Q.Query.facts rules) (record { stages = laws.has_stages rules; later = laws.posts_are_later rules; nothing = laws.later_stages_post_nothing rules; fit = laws.sums_fit rules }) job _ _ c.self.invariant c.in-Some.time c.in-Some.key)
 
 pub returns-clause-ready : goal.returns-clause-ready
 returns-clause-ready g c = λ t k ready.
     let job = g.J.Naming.job in
-    let rules = job.rules in
-    let i = c.self.inside in
-    let h = hosted_of i.stage i.worker i.records i.wakes i.cells in
     let same = one_ready job c.args.seen.now c.args.owners.now c.args.self.now t k c.in-Some.time c.in-Some.key ready c.in-Some.ensures.some in
     let rules_are = c.query-query.ensures ∙ ap (λ (j : JobFacts). j.rules) c.self.invariant.same in
+    let i = c.self.inside in
+    let h = hosted_of i.stage i.worker i.records i.held.items (vec_capacity i.held - length i.held.items) in
     let woken = rw (← c.self.view_is) at c.is_woken.ensures in
     let is = group_is h c.in-Some.time c.in-Some.key c.new-group.result _ _ c.new-group.ensures woken c.first_records-recs.ensures.records in
-    let outputs = step_most (g.Q.Query.facts rules) h c.in-Some.time c.in-Some.key i.cells refl c.new-group.result is c.most_in-outputs.result (rw rules_are at c.most_in-outputs.ensures) in
+    let outputs = rw (is, ← c.self.view_is) at c.most_outputs-outputs.ensures in
     let posts = rw (rules_are, c.first_records-recs.ensures.records) at c.count_posts.ensures in
     let sum = rw (outputs, posts) at c.saturating_add.ensures in
     rw (same.0, same.1, ← c.self.view_is) (sum ∙ cut_sum _ _ _)

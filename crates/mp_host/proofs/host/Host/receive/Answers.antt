@@ -1,5 +1,5 @@
 use Rattle.std.proofs.Common.{refl}
-use Rattle.mp_host.proofs.Kept.{either_way, hosted_still, on_ok, received_in_order}
+use Rattle.mp_host.proofs.Kept.{either_way, on_ok, received_still}
 use Rattle.mp_host.proofs.Told.{takes_record}
 use Rattle.mp_host.proofs.host.Host.receive.Goals as goal
 
@@ -8,12 +8,8 @@ invariant_of-self g c =
     let h = c.self.invariant in
     let is = rw (← c.self.view_is) at c.requires in
     either_way c.insert.result _ _ _ c.insert.ensures.put c.insert.ensures.refused
-    (λ put. hosted_still _ _ _ _ _ h refl refl (received_in_order _ _ c.args.rec _ _ h.order is refl refl put))
-    (λ same. hosted_still _ _ _ _ _ h refl refl (record {
-      content = rw same h.order.content;
-      records = rw same h.order.records;
-      wakes = h.order.wakes;
-    }))
+    (λ put. received_still _ _ _ _ c.args.rec _ _ _ h is put)
+    (λ same. rw same h)
 
 pub returns-clause-held : goal.returns-clause-held
 returns-clause-held g c =
@@ -23,4 +19,4 @@ returns-clause-held g c =
     let is = rw (← c.self.view_is) at c.requires in
     rw (← c.self.view_is)
     (on_ok c.insert.result _ _ c.insert.ensures.put
-    (λ put. takes_record (g.Q.Query.facts rules) (record { stages = laws.has_stages rules; later = laws.posts_are_later rules; nothing = laws.later_stages_post_nothing rules; fit = laws.sums_fit rules }) job _ c.args.rec _ _ c.self.invariant is (record { stage = refl; worker = refl; records = put; wakes = refl; cells = refl })))
+    (λ put. takes_record (g.Q.Query.facts rules) (record { stages = laws.has_stages rules; later = laws.posts_are_later rules; nothing = laws.later_stages_post_nothing rules; fit = laws.sums_fit rules }) job _ c.args.rec _ _ c.self.invariant is (record { stage = refl; worker = refl; records = put; held = refl })))

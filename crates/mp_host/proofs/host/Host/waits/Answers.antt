@@ -11,7 +11,7 @@ returns-then-has_record-clause-told g c = λ log host legal.
     let q = g.Q.Query.facts job.rules in
     let sound = outline_is_sound q (laws.has_stages job.rules) (laws.posts_are_later job.rules) (laws.later_stages_post_nothing job.rules) job c.has_record.ensures.hosted.legal in
     let here : c.has_record.result ≡ waits_at c.args.self.now c.args.time c.args.key = search rules in
-    here ∙ waits_is_pending q job sound log c.args.self.now host legal c.args.time c.args.key
+    here ∙ waits_is_pending q job sound log c.args.self.now host legal c.has_record.ensures.hosted.order c.args.time c.args.key
 
 pub returns-else-has_record-clause-told : goal.returns-else-has_record-clause-told
 returns-else-has_record-clause-told g c = λ log host legal.
@@ -20,4 +20,4 @@ returns-else-has_record-clause-told g c = λ log host legal.
     let q = g.Q.Query.facts job.rules in
     let sound = outline_is_sound q (laws.has_stages job.rules) (laws.posts_are_later job.rules) (laws.later_stages_post_nothing job.rules) job c.has_record.ensures.hosted.legal in
     let here : c.is_woken.result ≡ waits_at c.args.self.now c.args.time c.args.key = search rules in
-    here ∙ waits_is_pending q job sound log c.args.self.now host legal c.args.time c.args.key
+    here ∙ waits_is_pending q job sound log c.args.self.now host legal c.has_record.ensures.hosted.order c.args.time c.args.key

@@ -1,0 +1,42 @@
+-- Which states have a wake.
+use Rattle.std.proofs.Common.{◌≡◌, ◌&&◌, ◌||◌, ◌==◌, ℕ, Bool, true, false, List, [], ◌∷◌, All, refl, sym, ◌∙◌}
+use Rattle.std.proofs.lemmas.Bool.{eq-eqb, or_left}
+use Rattle.std.proofs.lemmas.List.Elements.{All-head, All-tail, All-weaker}
+use Rattle.std.specs.List.{list_any}
+use Rattle.mp_bins.specs.Bins.{bin_of_key}
+use Rattle.mp_model.specs.Facts.{JobFacts, QueryFacts}
+use Rattle.mp_hosting.specs.declared.held.Held.{Held}
+use Rattle.mp_hosting.specs.Hosted.{Hosted, StandsInOrder, StateStands, has_wake_in, wakes_in}
+use Rattle.mp_hosting.proofs.Waiting.{wake_in}
+
+-- where only states of one bin have the wake, only those need be asked
+module _ {Cell : Type 0} (t k b : ℕ) where
+  abbrev pub IsOwn : Held Cell → Type 0
+  IsOwn s = has_wake_in t k s ≡ true → s.bin ≡ b
+
+  only_its_bin : (s : Held Cell) → IsOwn s → (s.bin == b && has_wake_in t k s) ≡ has_wake_in t k s
+  only_its_bin s own = both (s.bin == b) (has_wake_in t k s) (λ e. eq-eqb s.bin b (own e))
+    where
+      both : (p r : Bool) → (r ≡ true → p ≡ true) → (p && r) ≡ r
+      both true r h = refl
+      both false true h = h refl
+      both false false h = refl
+
+  pub only_its_bins : (ss : List (Held Cell)) → All IsOwn ss → list_any (λ s. s.bin == b && has_wake_in t k s) ss ≡ list_any (has_wake_in t k) ss
+  only_its_bins [] h = refl
+  only_its_bins (s ∷ ss) h = rw (only_its_bin s (All-head IsOwn s ss h), only_its_bins ss (All-tail IsOwn s ss h)) refl
+
+-- the states of a host are such: each has wakes of keys of its bin
+module _ {Cell : Type 0} (q : QueryFacts Cell) (job : JobFacts) (h : Hosted Cell) (stands : StandsInOrder q job h) (t k : ℕ) where
+  pub wakes_are_own : All (IsOwn t k (bin_of_key k job.shape.bins)) h.held
+  wakes_are_own =
+      All-weaker (StateStands q job h.stage) (IsOwn t k (bin_of_key k job.shape.bins))
+      (λ s own e. sym (own.own.wakes t k (wake_in (wakes_in s) t k e)))
+      h.held stands.states
+
+-- one of two tests
+pub by_first : (r a b : Bool) → r ≡ a → r ≡ true → r ≡ (a || b)
+by_first r a b e f = f ∙ sym (or_left a b (sym e ∙ f))
+
+pub by_second : (r s a b : Bool) → r ≡ a → r ≡ false → s ≡ b → s ≡ (a || b)
+by_second r s a b e f g = rw (← e, f) g

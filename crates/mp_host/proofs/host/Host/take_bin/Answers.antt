@@ -1,0 +1,49 @@
+use Rattle.std.proofs.Common.{◌∙◌, refl, sym}
+use Rattle.mp_hosting.specs.Hosted.{is_held_before}
+use Rattle.mp_host.proofs.Kept.{even_on_none, hosted_still}
+use Rattle.mp_host.proofs.Moved.{left_fit, out_fits, taken_out}
+use Rattle.mp_host.proofs.Places.{no_place, place_is}
+use Rattle.mp_host.proofs.Told.{gives_up, nothing_leaves}
+use Rattle.mp_host.proofs.host.Host.take_bin.Goals as goal
+
+pub returns-in_err-at-clause-none : goal.returns-in_err-at-clause-none
+returns-in_err-at-clause-none g c =
+    let place = rw (c.deref.ensures.value, c.from.ensures) at c.place_before.ensures in
+    let none = no_place (is_held_before c.args.bin c.args.time) c.self.inside.held.items (sym place ∙ c.in_err-at.was) in
+    even_on_none c.from_residual.result _ (rw (← c.self.view_is) (none, refl))
+
+pub returns-in_err-at-clause-here : goal.returns-in_err-at-clause-here
+returns-in_err-at-clause-here g c =
+    let laws = g.met.Q.Query g.world.𝓛 g.world.𝓜 g.world.𝓡 ((λ s x. x), (λ x. x), (λ x. x), λ x. x) in
+    let job = g.J.Naming.job in
+    let rules = job.rules in
+    let place = rw (c.deref.ensures.value, c.from.ensures) at c.place_before.ensures in
+    let none = no_place (is_held_before c.args.bin c.args.time) c.self.inside.held.items (sym place ∙ c.in_err-at.was) in
+    even_on_none c.from_residual.result _
+    (rw (← c.self.view_is)
+    (nothing_leaves (g.Q.Query.facts rules) (record { stages = laws.has_stages rules; later = laws.posts_are_later rules; nothing = laws.later_stages_post_nothing rules; fit = laws.sums_fit rules }) job _ c.args.bin c.args.time _ c.self.invariant none))
+
+pub invariant_of-self : goal.invariant_of-self
+invariant_of-self g c =
+    let h = c.self.invariant in
+    rw c.remove.ensures.by_index.2 (hosted_still _ _ _ _ _ _ _ _ h h.order.content h.order.records (left_fit _ _ _ _ h c.in_ok-at.at))
+
+pub returns-clause-taken : goal.returns-clause-taken
+returns-clause-taken g c =
+    let place = rw (c.deref.ensures.value, c.from.ensures) at c.place_before.ensures in
+    rw (← c.self.view_is) (taken_out c.args.bin c.args.time _ _ c.in_ok-at.at (sym place ∙ c.in_ok-at.was) c.remove.result refl refl refl c.remove.ensures.value c.remove.ensures.by_index.2)
+
+pub returns-clause-fits : goal.returns-clause-fits
+returns-clause-fits g c =
+    let place = rw (c.deref.ensures.value, c.from.ensures) at c.place_before.ensures in
+    let at = place_is (is_held_before c.args.bin c.args.time) c.self.inside.held.items c.in_ok-at.at (sym place ∙ c.in_ok-at.was) c.remove.result in
+    rw (← c.self.view_is) (out_fits _ _ _ _ c.self.invariant c.in_ok-at.at c.remove.result at.inside c.remove.ensures.value)
+
+pub returns-clause-held : goal.returns-clause-held
+returns-clause-held g c = λ log.
+    let laws = g.met.Q.Query g.world.𝓛 g.world.𝓜 g.world.𝓡 ((λ s x. x), (λ x. x), (λ x. x), λ x. x) in
+    let job = g.J.Naming.job in
+    let rules = job.rules in
+    let place = rw (c.deref.ensures.value, c.from.ensures) at c.place_before.ensures in
+    rw (← c.self.view_is)
+    (gives_up (g.Q.Query.facts rules) (record { stages = laws.has_stages rules; later = laws.posts_are_later rules; nothing = laws.later_stages_post_nothing rules; fit = laws.sums_fit rules }) job _ c.args.bin c.args.time c.remove.result _ _ c.self.invariant (taken_out c.args.bin c.args.time _ _ c.in_ok-at.at (sym place ∙ c.in_ok-at.was) c.remove.result refl refl refl c.remove.ensures.value c.remove.ensures.by_index.2) log)
