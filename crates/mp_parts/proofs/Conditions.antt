@@ -1,30 +1,100 @@
 -- The conditions of the machine's steps, as the parts of a worker say them.
-use Rattle.std.proofs.Common.{◌≡◌, ℕ, ◌<◌, [], length, sym, ap, subst, arith}
-use Rattle.std.proofs.lemmas.Bool.{false≢true, eqb-true}
-use Rattle.mp_names.specs.declared.kinds.Kind.TheVariants.{Apply, Write}
-use Rattle.mp_names.specs.declared.locations.Loc.TheVariants.{OutMail}
+use Rattle.std.proofs.Common.{◌≡◌, ◌⊎◌, ℕ, ◌<◌, ◌≤◌, true, [], ◌∷◌, length, refl, sym, ◌∙◌, subst, inl, arith}
+use Rattle.std.proofs.lemmas.Bool.{false≢true, both_ways, eq-eqb, eqb-true}
+use Rattle.mp_names.specs.declared.kinds.Kind.TheVariants.{Apply, Extract, SendControl, Settle, Write}
+use Rattle.mp_names.specs.declared.locations.Loc.TheVariants.{CtlMail, Host, OutMail}
 use Rattle.mp_names.specs.declared.names.Name.{Name}
 use Rattle.mp_names.specs.declared.names.Name.TheVariants.{Ctrl, Packet, Group, Settled, Written}
-use Rattle.mp_names.specs.Names.{IsLeast, is_ctrl}
-use Rattle.mp_names.specs.Outlines.{HasControl, IsMove, Outline, OutlineIsSound, time_of}
-use Rattle.mp_names.specs.Logs.{Log, LogIsLegal, InHand}
-use Rattle.mp_names.specs.Frontiers.{HasPassed}
+use Rattle.mp_names.specs.Names.{has, In, IsLeast, is_ctrl, Less}
+use Rattle.mp_names.specs.Outlines.{IsOwedBy, OutlineIsSound, time_of}
+use Rattle.mp_names.specs.Logs.{Log, InHand, InHandBefore}
+use Rattle.mp_names.specs.Frontiers.{HasPassed, HasReached}
 use Rattle.mp_names.specs.Keeping.{IsHeld, IsUnsettled, IsUnwritten, IsWaiting}
 use Rattle.mp_names.proofs.Listed.{groups_are}
-use Rattle.mp_names.proofs.Owners.{move_has_control}
-use Rattle.mp_names.proofs.Steps.{noted_control}
-use Rattle.mp_machine.specs.Steps.{IsDue, MayApply}
-use Rattle.mp_machine.specs.Worlds.{Worker}
+use Rattle.mp_names.proofs.Lists.{In_here, In_right}
+use Rattle.mp_machine.specs.Steps.{IsDue, MayApply, MayLeave, MaySettle}
 use Rattle.mp_stamps.specs.Seen.{seen_at}
 use Rattle.mp_model.specs.Facts.{JobFacts, QueryFacts}
 use Rattle.mp_outline.specs.JobOutline.{outline_of}
 use Rattle.mp_hosting.specs.Hosted.{Hosted}
 use Rattle.mp_hosting.specs.HostOf.{IsReadyAt}
-use Rattle.mp_parts.specs.Laws.{CanDo, ConditionsAreTold, NoControlSteps}
+use Rattle.mp_handoff.specs.Due.{IsDueHere}
+use Rattle.mp_parts.specs.Laws.{CanDo, ConditionsAreTold}
 use Rattle.mp_parts.specs.Machine.{machine_worker}
-use Rattle.mp_parts.specs.Parts.{Parts}
+use Rattle.mp_parts.specs.Parts.{ArePartsOf, AreSentBefore, Parts, is_before}
+use Rattle.mp_parts.proofs.Legal.{packet_legal}
+use Rattle.mp_parts.proofs.Noted.{is_so_before, place_not_before}
 
-module _ {Cell : Type 0} (q : QueryFacts Cell) (job : JobFacts) (sound : OutlineIsSound (outline_of q job)) (p : Parts Cell) (posted : Log) where
+-- a control record that is less than another comes before its place
+less_before : (i v n m : ℕ) → Less (Ctrl i v) (Ctrl n m) → is_before (n, m) i v ≡ true
+less_before i v n m less = is_so_before (n, m) i v before
+  where
+    before : (i < n) ⊎ ((i ≡ n) × (v < m))
+    before = grind arith
+
+module _ {Cell : Type 0} (q : QueryFacts Cell) (job : JobFacts) (sound : OutlineIsSound (outline_of q job)) (p : Parts Cell) (parts : ArePartsOf q job p) (posted : Log) where
+  -- of the control records that are held none comes before the place of the next one
+  held_from_next : AreSentBefore job p.log p.next → (y : Name) → IsHeld (outline_of q job) p.number p.log is_ctrl y → Less y (Ctrl p.next.0 p.next.1) → ⊥
+  held_from_next before (Ctrl i v) held less =
+      both_ways (has p.log.sent (Ctrl i v)) held.3 (before.sent i v held.1.0 held.1.1 ∙ less_before i v p.next.0 p.next.1 less)
+  held_from_next before _ held less = absurd (false≢true held.0)
+
+  can_send_control : p.number ≡ 0 → p.next.0 < length job.controls → CanDo q job p posted SendControl (Ctrl p.next.0 p.next.1)
+  can_send_control first listed =
+      let before = parts.next first in
+      let unsent = before.sent p.next.0 p.next.1 listed before.fits ∙ place_not_before p.next in
+      (((refl, (listed, before.fits), eq-eqb p.number 0 first, unsent), held_from_next before), tt)
+
+  cant_send_control : (p.number ≡ 0 → length job.controls ≤ p.next.0) → (x : Name) → CanDo q job p posted SendControl x → ⊥
+  cant_send_control over x can = form x can.0.0
+    where
+      form : (x : Name) → IsHeld (outline_of q job) p.number p.log is_ctrl x → ⊥
+      form (Ctrl i v) held =
+          let first : p.number ≡ 0 = eqb-true p.number 0 held.2 in
+          let end : length job.controls ≤ p.next.0 = over first in
+          let listed : i < length job.controls = held.1.0 in
+          let sooner : i < p.next.0 = omega arith in
+          let sent = (parts.next first).sent i v held.1.0 held.1.1 in
+          both_ways (has p.log.sent (Ctrl i v)) held.3 (sent ∙ is_so_before p.next i v (inl sooner))
+      form _ held = absurd (false≢true held.0)
+
+  -- a packet that is due by what was seen is due, and the other way round
+  due_here : (j : ℕ) (x : Name) → IsDue (outline_of q job) p.number (machine_worker p posted) j x → IsDueHere (outline_of q job) p.log p.seen p.number j x
+  due_here j (Packet i b t) due = due
+  due_here j _ due = due
+
+  here_due : (j : ℕ) (x : Name) → IsDueHere (outline_of q job) p.log p.seen p.number j x → IsDue (outline_of q job) p.number (machine_worker p posted) j x
+  here_due j (Packet i b t) due = due
+  here_due j _ due = due
+
+  -- a bin that is due to leave is in hand, since the log stays legal with its packet
+  due_in_hand : (j b t : ℕ) → IsLeast (IsDueHere (outline_of q job) p.log p.seen p.number j) (Packet j b t) → HasReached (seen_at p.seen (Host j)) t → InHandBefore (outline_of q job) p.number p.log j b t
+  due_in_hand j b t least reached =
+      let x = Packet j b t in
+      let legal = packet_legal q job sound p.number parts.worker p.log parts.legal p.seen parts.done j b t least reached in
+      (legal.sent_given x (In_right x p.log.sent (x ∷ []) (In_here x []))).0
+
+  can_extract : (j b t : ℕ) → IsLeast (IsDueHere (outline_of q job) p.log p.seen p.number j) (Packet j b t) → HasReached (seen_at p.seen (Host j)) t → CanDo q job p posted (Extract j) (Packet j b t)
+  can_extract j b t least reached = ((here_due j (Packet j b t) least.0, (λ y due less. least.1 y (due_here j y due) less)), (reached, due_in_hand j b t least reached))
+
+  cant_extract : (j : ℕ) → ((b t : ℕ) → IsLeast (IsDueHere (outline_of q job) p.log p.seen p.number j) (Packet j b t) → HasReached (seen_at p.seen (Host j)) t → ⊥) → (x : Name) → CanDo q job p posted (Extract j) x → ⊥
+  cant_extract j none x can = form x (due_here j x can.0.0, (λ y due less. can.0.1 y (here_due j y due) less)) can.1
+    where
+      form : (x : Name) → IsLeast (IsDueHere (outline_of q job) p.log p.seen p.number j) x → MayLeave (outline_of q job) p.number (machine_worker p posted) j x → ⊥
+      form (Packet i b t) least may =
+          let o = outline_of q job in
+          none b t (subst (λ (n : ℕ). IsLeast (IsDueHere o p.log p.seen p.number j) (Packet n b t)) least.0.0.0 least) may.0
+      form _ least may = may
+
+  cant_settle : (j : ℕ)
+      → ((t : ℕ) → IsLeast (IsUnsettled (outline_of q job) p.log j) (Settled j t) → HasPassed (seen_at p.seen CtlMail) t → ((b : ℕ) → IsOwedBy (outline_of q job) p.number (Packet j b t) → In (Packet j b t) p.log.sent) → ⊥)
+      → (x : Name) → CanDo q job p posted (Settle j) x → ⊥
+  cant_settle j none x can = form x can.0 can.1
+    where
+      form : (x : Name) → IsLeast (IsUnsettled (outline_of q job) p.log j) x → MaySettle (outline_of q job) p.number (machine_worker p posted) j x → ⊥
+      form (Settled i t) least may = none t (subst (λ (n : ℕ). IsLeast (IsUnsettled (outline_of q job) p.log j) (Settled n t)) least.0.0 least) may.0 may.1
+      form _ least may = may
+
   -- a group that is ready is one that the machine may apply
   can_apply : (h : Hosted Cell) (t k : ℕ) → h.worker ≡ p.number → IsReadyAt q job p.log p.seen h t k → CanDo q job p posted (Apply h.stage) (Group h.stage t k)
   can_apply h t k own ready =
@@ -58,6 +128,12 @@ module _ {Cell : Type 0} (q : QueryFacts Cell) (job : JobFacts) (sound : Outline
   conditions_are_told = record {
     ingest = λ x next. (next, tt);
     no_ingest = λ none x can. none x can.0;
+    send_control = can_send_control;
+    no_send_control = cant_send_control;
+    extract = λ j b t below. can_extract j b t;
+    no_extract = cant_extract;
+    settle = λ j t least passed sent. (least, (passed, sent));
+    no_settle = cant_settle;
     route = λ j x may. may;
     no_route = λ j none x can. none x can;
     apply = can_apply;
@@ -67,36 +143,3 @@ module _ {Cell : Type 0} (q : QueryFacts Cell) (job : JobFacts) (sound : Outline
     write = λ t first least passed. ((first, least), passed);
     no_write = cant_write;
   }
-
--- Where the job has no control records
-
-module _ (o : Outline) (none : o.controls ≡ []) where
-  no_control_at : (j t : ℕ) → HasControl o j t → ⊥
-  no_control_at j t h = let l : h.0 < length o.controls = h.1 in let e : length o.controls ≡ 0 = ap length none in omega arith
-
-  -- no bin moves
-  pub no_move_at : (j b t : ℕ) → IsMove o j b t → ⊥
-  no_move_at j b t m = no_control_at j t (move_has_control o j b t m)
-
-  pub no_control_is_held : (w : ℕ) (log : Log) (x : Name) → IsHeld o w log is_ctrl x → ⊥
-  no_control_is_held w log (Ctrl i v) h = let l : i < length o.controls = h.1.0 in let e : length o.controls ≡ 0 = ap length none in omega arith
-  no_control_is_held w log _ h = false≢true h.0
-
-  pub no_packet_is_due : (w : ℕ) (worker : Worker) (j : ℕ) (x : Name) → IsDue o w worker j x → ⊥
-  no_packet_is_due w worker j (Packet i b t) h = no_move_at j b t h.0.1.0
-  no_packet_is_due w worker j _ h = h
-
-  pub no_time_is_unsettled : (w : ℕ) (log : Log) → LogIsLegal o w log → (j : ℕ) (x : Name) → IsUnsettled o log j x → ⊥
-  no_time_is_unsettled w log legal j (Settled i t) h = no_control_at j t (noted_control o w log legal j t h.1)
-  no_time_is_unsettled w log legal j _ h = h
-
-module _ {Cell : Type 0} (q : QueryFacts Cell) (job : JobFacts) (p : Parts Cell) (posted : Log) where
-  pub no_control_steps : job.controls ≡ [] → LogIsLegal (outline_of q job) p.number p.log → NoControlSteps q job p posted
-  no_control_steps none legal =
-      let o = outline_of q job in
-      record {
-        send_control = λ x next. no_control_is_held o none p.number p.log x next.0;
-        extract = λ j x next. no_packet_is_due o none p.number (machine_worker p posted) j x next.0;
-        settle = λ j x next. no_time_is_unsettled o none p.number p.log legal j x next.0;
-        packets = λ j b t m. no_move_at o none j b t m;
-      }

@@ -5,7 +5,10 @@ pub mod Handed
 pub mod Sending
 pub mod Legal
 pub mod Conditions
+pub mod Noted
 pub mod Kept
 pub mod InTurn
+pub mod OneByOne
 pub mod Asked
 pub mod Agreeing
+pub mod Tallied

@@ -1,28 +1,31 @@
 -- What the parts of a worker don't hear: what grows in its log and is no concern of theirs leaves them what they are.
-use Rattle.std.proofs.Common.{◌≡◌, ◌↔◌, ℕ, zero, suc, ◌-◌, Bool, true, false, List, [], ◌∷◌, ◌++◌, filter, refl, sym, ap, ◌∙◌, subst}
+use Rattle.std.proofs.Common.{◌≡◌, ◌↔◌, ℕ, zero, suc, ◌-◌, ◌<◌, ◌≤◌, ◌||◌, nat_lt, Bool, true, false, Option, None, Some, List, [], ◌∷◌, ◌++◌, refl, sym, ap, ◌∙◌, subst, inl, inr, ⊎_elim}
 use Rattle.std.proofs.lemmas.Bool.{false≢true, eq-eqb, eqb-true, both_ways}
+use Rattle.std.proofs.lemmas.List.Elements.{All-weaker}
 use Rattle.mp_names.specs.declared.names.Name.{Name}
-use Rattle.mp_names.specs.declared.names.Name.TheVariants.{Rec as RecName, Row, Group, Written}
+use Rattle.mp_names.specs.declared.names.Name.TheVariants.{Rec as RecName, Packet, Row, Group, Written}
 use Rattle.mp_names.specs.declared.names.Tag.{Tag}
-use Rattle.mp_names.specs.Names.{has, is_packet, is_rec, is_row, is_written}
-use Rattle.mp_names.specs.Outlines.{Outline, OutlineIsSound}
-use Rattle.mp_names.specs.Logs.{Log, LogGrows, has_wake, is_given, with_applied, with_ingested, with_sent, with_settled, with_took}
+use Rattle.mp_names.specs.Names.{has, In, is_packet, is_rec, is_row, is_written}
+use Rattle.mp_names.specs.Outlines.{Outline}
+use Rattle.mp_names.specs.Logs.{Log, LogGrows, is_given, left_since, with_applied, with_ingested, with_sent, with_settled, with_took}
 use Rattle.mp_names.specs.Keeping.{IsHeld}
 use Rattle.mp_names.proofs.Grows.{grown_closed}
+use Rattle.mp_names.proofs.Hosts.{left_at, left_from}
 use Rattle.mp_stamps.specs.declared.seen.Seen.{Seen}
 use Rattle.mp_model.specs.declared.record.Output.{Output}
-use Rattle.mp_model.specs.declared.record.Rec.{Rec}
 use Rattle.mp_model.specs.Entry.{Entry}
 use Rattle.mp_model.specs.Facts.{JobFacts, QueryFacts}
 use Rattle.mp_model.specs.Folds.{fold_of}
-use Rattle.mp_outline.specs.JobOutline.{name_of_record, outline_of}
+use Rattle.mp_outline.specs.JobOutline.{outline_of}
 use Rattle.mp_outline.specs.Laws.{timeline_of}
 use Rattle.mp_route.specs.Routed.{Routed}
 use Rattle.mp_route.specs.Unsent.{HoldsAllBut}
 use Rattle.mp_output.specs.Holding.{HoldsUnwritten}
+use Rattle.mp_hosting.specs.declared.held.Held.{Held}
 use Rattle.mp_hosting.specs.Hosted.{Hosted}
-use Rattle.mp_hosting.specs.HostOf.{IsHostOf}
-use Rattle.mp_hosting.proofs.Logs.{IsUnmoved, has_push, posted_wake, same_test, wake_posted}
+use Rattle.mp_hosting.specs.HostOf.{CameInto, IsHostOf, IsInHandSince, IsStateOf, MovesInOrder, is_taken_in}
+use Rattle.mp_hosting.proofs.Lists.{filter_within}
+use Rattle.mp_hosting.proofs.Logs.{has_push, same_test}
 use Rattle.mp_parts.specs.Parts.{HoldsRowsBut, SeenIsDone}
 use Rattle.mp_parts.specs.Laws.{HostsStay, RoutersStay, UnsentRowsStay, UnwrittenStay}
 
@@ -156,67 +159,112 @@ unwritten_applied log rows y = unwritten_stay log (with_applied log y) rows (λ 
 
 -- Hosts
 
-module _ {Cell : Type 0} (q : QueryFacts Cell) (job : JobFacts) (sound : OutlineIsSound (outline_of q job)) where
-  -- the wakes are told by what is applied, where no packet of the stage is there
-  wakes_alike : (old new : Log) (j : ℕ) → IsUnmoved old j → IsUnmoved new j → ((t k : ℕ) → has old.applied (Group j t k) ≡ has new.applied (Group j t k)) → (u k : ℕ) → has_wake (outline_of q job) old j u k ≡ has_wake (outline_of q job) new j u k
-  wakes_alike old new j before after same u k =
-      let o = outline_of q job in
-      same_test (has_wake o old j u k) (has_wake o new j u k)
-      (λ e. let p = wake_posted o sound old j u k before e in posted_wake o new j u k after (p.0, p.1, p.2, p.3, sym (same p.0 k) ∙ p.4))
-      (λ e. let p = wake_posted o sound new j u k after e in posted_wake o old j u k before (p.0, p.1, p.2, p.3, same p.0 k ∙ p.4))
+-- Both logs have the same of what a host of the stage hears: of its records and packets that are taken, of its packets that are sent, and of its groups that are applied
+record AreHeardAlike (j : ℕ) (old new : Log) : Type 0 where
+  pub records : (t k : ℕ) (g : Tag) → has old.took (RecName j t k g) ≡ has new.took (RecName j t k g)
+  pub brought : (b t : ℕ) → has old.took (Packet j b t) ≡ has new.took (Packet j b t)
+  pub sent : (b t : ℕ) → has old.sent (Packet j b t) ≡ has new.sent (Packet j b t)
+  pub groups : (t k : ℕ) → has old.applied (Group j t k) ≡ has new.applied (Group j t k)
 
-  pub host_stays : (old new : Log) (h : Hosted Cell) → IsUnmoved new h.stage → ((r : Rec) → has old.took (name_of_record h.stage r) ≡ has new.took (name_of_record h.stage r))
-      → ((t k : ℕ) → has old.applied (Group h.stage t k) ≡ has new.applied (Group h.stage t k)) → IsHostOf q job old h → IsHostOf q job new h
-  host_stays old new h unmoved taken same host =
+module _ (j : ℕ) (old new : Log) (same : AreHeardAlike j old new) where
+  alike_turn : AreHeardAlike j new old
+  alike_turn = record { records = λ t k g. sym (same.records t k g); brought = λ b t. sym (same.brought b t); sent = λ b t. sym (same.sent b t); groups = λ t k. sym (same.groups t k) }
+
+  moves_stay : (o : Outline) (w : ℕ) → MovesInOrder o w old j → MovesInOrder o w new j
+  moves_stay o w moves = record {
+    packets = λ b m n l i owed. sym (same.sent b m) ∙ moves.packets b m n l (same.sent b n ∙ i) owed;
+    groups = λ u k m l i owed. sym (same.sent (o.bin_of k) m) ∙ moves.groups u k m l (same.groups u k ∙ i) owed;
+  }
+
+  left_too : (b s : ℕ) → left_since old j b s ≡ true → left_since new j b s ≡ true
+  left_too b s e = let r = left_at old j b s e in left_from new j b s r.0 r.1 (sym (same.sent b r.0) ∙ r.2)
+
+  came_too : (since : Option ℕ) (k s u : ℕ) → CameInto old j since k s u → CameInto new j since k s u
+  came_too None k s u came = sym (same.groups s k) ∙ came
+  came_too (Some m) k s u came =
+      ⊎_elim
+      (λ (c : (s < m) × (m ≤ u)). inl c)
+      (λ (c : (m ≤ s) × In (Group j s k) old.applied). inr (c.0, sym (same.groups s k) ∙ c.1))
+      came
+
+  taken_alike : (since : Option ℕ) (u k : ℕ) → is_taken_in old j since u k ≡ is_taken_in new j since u k
+  taken_alike None u k = same.groups u k
+  taken_alike (Some m) u k = ap (λ (b : Bool). nat_lt u m || b) (same.groups u k)
+
+-- the bin left since then by both logs, or by neither
+left_alike : (j : ℕ) (old new : Log) → AreHeardAlike j old new → (b s : ℕ) → left_since old j b s ≡ left_since new j b s
+left_alike j old new same b s = same_test (left_since old j b s) (left_since new j b s) (left_too j old new same b s) (left_too j new old (alike_turn j old new same) b s)
+
+module _ {Cell : Type 0} (q : QueryFacts Cell) (job : JobFacts) where
+  since_stays : (j : ℕ) (old new : Log) → AreHeardAlike j old new → (w b : ℕ) (since : Option ℕ) → IsInHandSince q job w old j b since → IsInHandSince q job w new j b since
+  since_stays j old new same w b None own = (own.0, own.1, (λ m. sym (same.sent b m) ∙ own.2 m))
+  since_stays j old new same w b (Some m) own = (sym (same.brought b m) ∙ own.0, sym (left_alike j old new same b m) ∙ own.1)
+
+  module _ (old new : Log) (j : ℕ) (same : AreHeardAlike j old new) where
+    state_stays : (s : Held Cell) → IsStateOf q job old j s → IsStateOf q job new j s
+    state_stays s state = record {
+      wakes = λ u k own. (
+        (λ i. let a = (state.wakes u k own).0 i in (sym (same.groups u k) ∙ a.0, a.1, a.2, came_too j old new same s.since k a.1 u a.3)),
+        (λ a. (state.wakes u k own).1 (same.groups u k ∙ a.0, a.1, a.2, came_too j new old (alike_turn j old new same) s.since k a.1 u a.3)),
+      );
+      cells = λ k own.
+          state.cells k own
+          ∙ ap (fold_of q j (q.fresh j)) (filter_within (λ (e : Entry). is_taken_in old j s.since e.time k) (λ (e : Entry). is_taken_in new j s.since e.time k) (timeline_of q job j k) (λ e i. taken_alike j old new same s.since e.time k));
+    }
+
+  host_stays : (old new : Log) (h : Hosted Cell) → AreHeardAlike h.stage old new → IsHostOf q job old h → IsHostOf q job new h
+  host_stays old new h same host =
       let j = h.stage in
-      let wakes = wakes_alike old new j host.unmoved unmoved same in
+      let back = alike_turn j old new same in
       record {
-        unmoved = unmoved;
+        moves = moves_stay j old new same (outline_of q job) h.worker host.moves;
         records = λ r. (
-          (λ i. let a = (host.records r).0 i in (a.0, sym (taken r) ∙ a.1, sym (same r.time r.key) ∙ a.2)),
-          (λ a. (host.records r).1 (a.0, taken r ∙ a.1, same r.time r.key ∙ a.2)),
+          (λ i. let a = (host.records r).0 i in (a.0, sym (same.records r.time r.key r.tag) ∙ a.1, sym (same.groups r.time r.key) ∙ a.2)),
+          (λ a. (host.records r).1 (a.0, same.records r.time r.key r.tag ∙ a.1, same.groups r.time r.key ∙ a.2)),
         );
         once = host.once;
-        wakes = λ t k. (
-          (λ i. let a = (host.wakes t k).0 i in (sym (wakes t k) ∙ a.0, sym (same t k) ∙ a.1)),
-          (λ a. (host.wakes t k).1 (wakes t k ∙ a.0, same t k ∙ a.1)),
+        held = λ b since. (
+          (λ i. since_stays j old new same h.worker b since ((host.held b since).0 i)),
+          (λ own. (host.held b since).1 (since_stays j new old back h.worker b since own)),
         );
-        cells = λ k. host.cells k ∙ ap (λ (p : Entry → Bool). fold_of q j (q.fresh j) (filter p (timeline_of q job j k))) (λ i e. same e.time k i);
+        held_once = host.held_once;
+        states = All-weaker (IsStateOf q job old j) (IsStateOf q job new j) (state_stays old new j same) h.held host.states;
       }
 
-  -- no packet of the stage comes with a name that is none
-  unmoved_more : (xs : List Name) (j : ℕ) (y : Name) → is_packet j y ≡ false → (x : Name) → is_packet j x ≡ true → has xs x ≡ false → has (xs ++ y ∷ []) x ≡ false
-  unmoved_more xs j y n x h e = sym (unheard (is_packet j) xs x y n h) ∙ e
-
   pub host_ingested : (log : Log) (h : Hosted Cell) (y : Name) → IsHostOf q job log h → IsHostOf q job (with_ingested log y) h
-  host_ingested log h y host = host_stays log (with_ingested log y) h host.unmoved (λ r. refl) (λ t k. refl) host
+  host_ingested log h y =
+      host_stays log (with_ingested log y) h (record { records = λ t k g. refl; brought = λ b t. refl; sent = λ b t. refl; groups = λ t k. refl })
 
   pub host_settled : (log : Log) (h : Hosted Cell) (y : Name) → IsHostOf q job log h → IsHostOf q job (with_settled log y) h
-  host_settled log h y host = host_stays log (with_settled log y) h host.unmoved (λ r. refl) (λ t k. refl) host
+  host_settled log h y =
+      host_stays log (with_settled log y) h (record { records = λ t k g. refl; brought = λ b t. refl; sent = λ b t. refl; groups = λ t k. refl })
 
   pub host_sent : (log : Log) (h : Hosted Cell) (y : Name) → is_packet h.stage y ≡ false → IsHostOf q job log h → IsHostOf q job (with_sent log y) h
-  host_sent log h y n host =
+  host_sent log h y n =
+      let j = h.stage in
       host_stays log (with_sent log y) h
-      (λ x p. let a = host.unmoved x p in (a.0, unmoved_more log.sent h.stage y n x p a.1))
-      (λ r. refl)
-      (λ t k. refl)
-      host
+      (record { records = λ t k g. refl; brought = λ b t. refl; sent = λ b t. unheard (is_packet j) log.sent (Packet j b t) y n (eq-eqb j j refl); groups = λ t k. refl })
 
   pub host_took : (log : Log) (h : Hosted Cell) (y : Name) → is_rec h.stage y ≡ false → is_packet h.stage y ≡ false → IsHostOf q job log h → IsHostOf q job (with_took log y) h
-  host_took log h y m n host =
+  host_took log h y m n =
+      let j = h.stage in
       host_stays log (with_took log y) h
-      (λ x p. let a = host.unmoved x p in (unmoved_more log.took h.stage y n x p a.0, a.1))
-      (λ r. unheard (is_rec h.stage) log.took (name_of_record h.stage r) y m (eq-eqb h.stage h.stage refl))
-      (λ t k. refl)
-      host
+      (record {
+        records = λ t k g. unheard (is_rec j) log.took (RecName j t k g) y m (eq-eqb j j refl);
+        brought = λ b t. unheard (is_packet j) log.took (Packet j b t) y n (eq-eqb j j refl);
+        sent = λ b t. refl;
+        groups = λ t k. refl;
+      })
 
   pub host_applied : (log : Log) (h : Hosted Cell) (i t k : ℕ) → (i ≡ h.stage → ⊥) → IsHostOf q job log h → IsHostOf q job (with_applied log (Group i t k)) h
-  host_applied log h i t k n host =
+  host_applied log h i t k n =
       host_stays log (with_applied log (Group i t k)) h
-      host.unmoved
-      (λ r. refl)
-      (λ u l. sym (has_push log.applied (Group h.stage u l) (Group i t k) (other_stage i t k h.stage u l n)))
-      host
+      (record {
+        records = λ u l g. refl;
+        brought = λ b u. refl;
+        sent = λ b u. refl;
+        groups = λ u l. sym (has_push log.applied (Group h.stage u l) (Group i t k) (other_stage i t k h.stage u l n));
+      })
 
   pub hosts_stay : HostsStay q job
   hosts_stay = record { ingested = host_ingested; sent = host_sent; took = host_took; applied = host_applied; settled = host_settled }

@@ -3,14 +3,14 @@ use Rattle.std.specs.Prelude.{◌≡◌, ℕ, suc, ◌-◌, ◌<◌, ◌≤◌, 
 use Rattle.mp_names.specs.declared.kinds.Kind.{Kind}
 use Rattle.mp_names.specs.declared.kinds.Kind.TheVariants.{Ingest, SendControl, Route, Extract, Settle, Apply, SendRow, Write}
 use Rattle.mp_names.specs.declared.locations.Loc.{Loc}
-use Rattle.mp_names.specs.declared.locations.Loc.TheVariants.{OutMail}
+use Rattle.mp_names.specs.declared.locations.Loc.TheVariants.{CtlMail, Host as HostLoc, OutMail}
 use Rattle.mp_names.specs.declared.names.Name.{Name}
-use Rattle.mp_names.specs.declared.names.Name.TheVariants.{Group, Written}
+use Rattle.mp_names.specs.declared.names.Name.TheVariants.{Ctrl, Group, Packet, Settled, Written}
 use Rattle.mp_names.specs.Names.{has, In, IsLeast, IsPrefix, is_packet, is_rec, is_row, is_written}
-use Rattle.mp_names.specs.Outlines.{IsMove, IsOwedTo, Outline, share}
+use Rattle.mp_names.specs.Outlines.{IsOwedBy, IsOwedTo, Outline, share}
 use Rattle.mp_names.specs.Logs.{Log, LogGrows, LogIsLegal, with_applied, with_ingested, with_sent, with_settled, with_took}
-use Rattle.mp_names.specs.Frontiers.{HasPassed}
-use Rattle.mp_names.specs.Keeping.{IsHeld, IsUnwritten}
+use Rattle.mp_names.specs.Frontiers.{HasPassed, HasReached}
+use Rattle.mp_names.specs.Keeping.{IsHeld, IsUnsettled, IsUnwritten}
 use Rattle.mp_machine.specs.Steps.{IsNext, IsReady, KindFits}
 use Rattle.mp_machine.specs.Worlds.{Worker}
 use Rattle.mp_stamps.specs.declared.seen.Seen.{Seen}
@@ -31,6 +31,7 @@ use Rattle.mp_output.specs.Holding.{HoldsUnwritten}
 use Rattle.mp_output.specs.Unwritten.{place_rank}
 use Rattle.mp_hosting.specs.Hosted.{Hosted}
 use Rattle.mp_hosting.specs.HostOf.{IsHostOf, IsReadyAt}
+use Rattle.mp_handoff.specs.Due.{IsDueHere}
 use Rattle.mp_parts.specs.Given.{output_at, outputs_given, records_made}
 use Rattle.mp_parts.specs.Machine.{machine_worker}
 use Rattle.mp_parts.specs.Parts.{HoldsRowsBut, Parts, SeenIsDone}
@@ -85,6 +86,9 @@ module _ {Cell : Type 0} (q : QueryFacts Cell) (job : JobFacts) where
   -- Each step keeps the log of its worker legal, by what the parts say of it
   pub record StepsStayLegal (w : ℕ) (log : Log) (seen : Seen) : Type 0 where
     pub ingest : (x : Name) → IsPrefix (log.ingested ++ x ∷ []) (share (outline_of q job) w) → LogIsLegal (outline_of q job) w (with_ingested log x)
+    pub send_control : (i v : ℕ) → w ≡ 0 → i < length job.controls → v < job.shape.workers → has log.sent (Ctrl i v) ≡ false → LogIsLegal (outline_of q job) w (with_sent log (Ctrl i v))
+    pub extract : (j b t : ℕ) → IsLeast (IsDueHere (outline_of q job) log seen w j) (Packet j b t) → HasReached (seen_at seen (HostLoc j)) t → LogIsLegal (outline_of q job) w (with_sent log (Packet j b t))
+    pub settle : (j t : ℕ) → IsLeast (IsUnsettled (outline_of q job) log j) (Settled j t) → HasPassed (seen_at seen CtlMail) t → ((b : ℕ) → IsOwedBy (outline_of q job) w (Packet j b t) → In (Packet j b t) log.sent) → LogIsLegal (outline_of q job) w (with_settled log (Settled j t))
     pub route : (j : ℕ) (x : Name) → MayGo q job w log j seen x → LogIsLegal (outline_of q job) w (with_sent log x)
     pub receive : (x : Name) → IsOwedTo (outline_of q job) w x → has log.took x ≡ false → LogIsLegal (outline_of q job) w (with_took log x)
     pub apply : (h : Hosted Cell) (t k : ℕ) → h.worker ≡ w → h.stage < job.shape.stages → IsReadyAt q job log seen h t k → LogIsLegal (outline_of q job) w (with_applied log (Group h.stage t k))
@@ -134,6 +138,12 @@ module _ {Cell : Type 0} (q : QueryFacts Cell) (job : JobFacts) where
   pub record ConditionsAreTold (p : Parts Cell) (posted : Log) : Type 0 where
     pub ingest : (x : Name) → IsPrefix (p.log.ingested ++ x ∷ []) (share (outline_of q job) p.number) → CanDo p posted Ingest x
     pub no_ingest : ((x : Name) → IsPrefix (p.log.ingested ++ x ∷ []) (share (outline_of q job) p.number) → ⊥) → (x : Name) → CanDo p posted Ingest x → ⊥
+    pub send_control : p.number ≡ 0 → p.next.0 < length job.controls → CanDo p posted SendControl (Ctrl p.next.0 p.next.1)
+    pub no_send_control : (p.number ≡ 0 → length job.controls ≤ p.next.0) → (x : Name) → CanDo p posted SendControl x → ⊥
+    pub extract : (j b t : ℕ) → j < job.shape.stages → IsLeast (IsDueHere (outline_of q job) p.log p.seen p.number j) (Packet j b t) → HasReached (seen_at p.seen (HostLoc j)) t → CanDo p posted (Extract j) (Packet j b t)
+    pub no_extract : (j : ℕ) → ((b t : ℕ) → IsLeast (IsDueHere (outline_of q job) p.log p.seen p.number j) (Packet j b t) → HasReached (seen_at p.seen (HostLoc j)) t → ⊥) → (x : Name) → CanDo p posted (Extract j) x → ⊥
+    pub settle : (j t : ℕ) → IsLeast (IsUnsettled (outline_of q job) p.log j) (Settled j t) → HasPassed (seen_at p.seen CtlMail) t → ((b : ℕ) → IsOwedBy (outline_of q job) p.number (Packet j b t) → In (Packet j b t) p.log.sent) → CanDo p posted (Settle j) (Settled j t)
+    pub no_settle : (j : ℕ) → ((t : ℕ) → IsLeast (IsUnsettled (outline_of q job) p.log j) (Settled j t) → HasPassed (seen_at p.seen CtlMail) t → ((b : ℕ) → IsOwedBy (outline_of q job) p.number (Packet j b t) → In (Packet j b t) p.log.sent) → ⊥) → (x : Name) → CanDo p posted (Settle j) x → ⊥
     pub route : (j : ℕ) (x : Name) → MayGo q job p.number p.log j p.seen x → CanDo p posted (Route j) x
     pub no_route : (j : ℕ) → ((x : Name) → MayGo q job p.number p.log j p.seen x → ⊥) → (x : Name) → CanDo p posted (Route j) x → ⊥
     pub apply : (h : Hosted Cell) (t k : ℕ) → h.worker ≡ p.number → IsReadyAt q job p.log p.seen h t k → CanDo p posted (Apply h.stage) (Group h.stage t k)
@@ -142,10 +152,3 @@ module _ {Cell : Type 0} (q : QueryFacts Cell) (job : JobFacts) where
     pub no_send_row : ((x : Name) → IsHeld (outline_of q job) p.number p.log is_row x → ⊥) → (x : Name) → CanDo p posted SendRow x → ⊥
     pub write : (t : ℕ) → p.number ≡ 0 → IsLeast (IsUnwritten p.log) (Written t) → HasPassed (seen_at p.seen OutMail) t → CanDo p posted Write (Written t)
     pub no_write : (p.number ≡ 0 → (t : ℕ) → IsLeast (IsUnwritten p.log) (Written t) → HasPassed (seen_at p.seen OutMail) t → ⊥) → (x : Name) → CanDo p posted Write x → ⊥
-
-  -- where the job has no control records no step of theirs has a name, and no bin moves
-  pub record NoControlSteps (p : Parts Cell) (posted : Log) : Type 0 where
-    pub send_control : (x : Name) → IsNext (outline_of q job) p.number (machine_worker p posted) SendControl x → ⊥
-    pub extract : (j : ℕ) (x : Name) → IsNext (outline_of q job) p.number (machine_worker p posted) (Extract j) x → ⊥
-    pub settle : (j : ℕ) (x : Name) → IsNext (outline_of q job) p.number (machine_worker p posted) (Settle j) x → ⊥
-    pub packets : (j b t : ℕ) → IsMove (outline_of q job) j b t → ⊥

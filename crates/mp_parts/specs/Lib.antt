@@ -3,5 +3,7 @@ pub mod Parts
 pub mod Machine
 pub mod Given
 pub mod Laws
+pub mod Onward
 pub mod Kept
+pub mod Tallies
 pub mod Samples

@@ -1,5 +1,5 @@
 //! The laws of the parts of a worker, each the contract of a function that does nothing.
-ghost use Rattle.std.specs.Prelude.{◌≡◌, ℕ, [], List};
+ghost use Rattle.std.specs.Prelude.{ℕ, List};
 ghost use Rattle.mp_names.specs.declared.names.Name.{Name};
 ghost use Rattle.mp_names.specs.declared.names.Name.TheVariants.{Group};
 ghost use Rattle.mp_names.specs.Keeping.{IsWaiting};
@@ -7,7 +7,7 @@ ghost use Rattle.mp_names.specs.Logs.{Log, LogIsLegal};
 ghost use Rattle.mp_model.specs.Facts.{JobFacts};
 ghost use Rattle.mp_job.specs.Legal.{JobIsLegal};
 ghost use Rattle.mp_outline.specs.JobOutline.{outline_of};
-ghost use Rattle.mp_parts.specs.Laws.{ConditionsAgree, ConditionsAreTold, FirstRowsAreSent, GroupsHandOn, HostsStay, NoControlSteps, OutputsGoInTurn, RoutersStay, SeenStaysDone, SharesAreIngested, StepsAlwaysStayLegal, UnsentRowsStay, UnwrittenStay};
+ghost use Rattle.mp_parts.specs.Laws.{ConditionsAgree, ConditionsAreTold, FirstRowsAreSent, GroupsHandOn, HostsStay, OutputsGoInTurn, RoutersStay, SeenStaysDone, SharesAreIngested, StepsAlwaysStayLegal, UnsentRowsStay, UnwrittenStay};
 ghost use Rattle.mp_parts.specs.Kept.{PartsAreAsked, PartsBegin, StepsAlwaysKeepParts};
 ghost use Rattle.mp_parts.specs.Parts.{ArePartsOf, Parts};
 
@@ -15,7 +15,7 @@ use mp_model::Query;
 
 /// Each part holds what the log says of its own, so it stays where the log grows by anything else.
 pub fn parts_hear_their_own<Q: Query>()
-    ensures hosts { (job : JobFacts) → let q = Q.facts job.rules in JobIsLegal q job → HostsStay q job }
+    ensures hosts { (job : JobFacts) → HostsStay (Q.facts job.rules) job }
     ensures routers { (job : JobFacts) (w : ℕ) (rest : List Name) → RoutersStay (Q.facts job.rules) job w rest }
     ensures unsent { (job : JobFacts) (w : ℕ) (rest : List Name) → UnsentRowsStay (Q.facts job.rules) job w rest }
     ensures unwritten { UnwrittenStay }
@@ -52,7 +52,7 @@ pub fn parts_begin<Q: Query>()
 
 /// What the parts of a worker know where one of them is asked.
 pub fn parts_are_asked<Q: Query>()
-    ensures { (job : JobFacts) (p : Parts Q.Cell) → let q = Q.facts job.rules in ArePartsOf q job p → PartsAreAsked q job p }
+    ensures { (job : JobFacts) (p : Parts Q.Cell) → let q = Q.facts job.rules in JobIsLegal q job → ArePartsOf q job p → PartsAreAsked q job p }
 {}
 
 /// Each step keeps the log of its worker legal, by what the parts say of it.
@@ -60,13 +60,10 @@ pub fn steps_stay_legal<Q: Query>()
     ensures { (job : JobFacts) → let q = Q.facts job.rules in JobIsLegal q job → StepsAlwaysStayLegal q job }
 {}
 
-/// The parts say which steps of the machine their worker can make, and that there is none of control records where the
-/// job has none.
+/// The parts say which steps of the machine their worker can make.
 pub fn conditions_are_told<Q: Query>()
     ensures told { (job : JobFacts) (p : Parts Q.Cell) (posted : Log) → let q = Q.facts job.rules in
-        JobIsLegal q job → ConditionsAreTold q job p posted }
-    ensures no_control { (job : JobFacts) (p : Parts Q.Cell) (posted : Log) → let q = Q.facts job.rules in
-        job.controls ≡ [] → LogIsLegal (outline_of q job) p.number p.log → NoControlSteps q job p posted }
+        JobIsLegal q job → ArePartsOf q job p → ConditionsAreTold q job p posted }
     ensures agree { ConditionsAgree }
 {}
 

@@ -1,7 +1,7 @@
-//! The laws hold of a query of the tests' own; and what a small group gives.
+//! The laws hold of a query of the tests' own; what a small group gives, and the order of control records.
 ghost use Rattle.std.specs.Prelude.{◌≡◌, [], refl};
 ghost use Rattle.mp_job.specs.Samples.{bids_fit, bids_give_nothing, bids_have_keys, bids_have_stages, bids_post_later, bids_post_once, bids_stay_fresh, waking_bids};
-ghost use Rattle.mp_parts.specs.Samples.{OneBidGivesARow};
+ghost use Rattle.mp_parts.specs.Samples.{ControlsGoInTurn, OneBidGivesARow};
 
 use crate::{
     conditions_are_told, groups_hand_on, outputs_go_in_turn, parts_are_asked, parts_begin,
@@ -100,8 +100,14 @@ fn one_bid_gives_a_row()
     ensures { OneBidGivesARow }
 {}
 
+/// The order in which control records are sent to two workers, worked out.
+fn controls_go_in_turn()
+    ensures { ControlsGoInTurn }
+{}
+
 #[test]
 fn definitions_are_worked_out(_rt: HostRuntime) -> Result<(), Fail> {
     one_bid_gives_a_row();
+    controls_go_in_turn();
     Ok(())
 }

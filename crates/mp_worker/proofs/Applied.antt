@@ -30,6 +30,7 @@ use Rattle.mp_outline.proofs.Soundness.{outline_is_sound}
 use Rattle.mp_msg.specs.Contents.{IsRecordOf}
 use Rattle.mp_route.specs.Routed.{Routed}
 use Rattle.mp_route.specs.Unsent.{HoldsAllBut, HoldsUnsent}
+use Rattle.mp_handoff.specs.Moving.{Moving}
 use Rattle.mp_output.specs.Unwritten.{Unwritten}
 use Rattle.mp_hosting.specs.Hosted.{Hosted}
 use Rattle.mp_hosting.specs.HostOf.{IsHostOf, IsInformed, IsReadyAt, KnowsOwners}
@@ -37,14 +38,15 @@ use Rattle.mp_parts.specs.Given.{values_given}
 use Rattle.mp_parts.specs.Kept.{IsHostAt, IsRouterAt, PartsAreAsked, StepsKeepParts}
 use Rattle.mp_parts.specs.Laws.{ConditionsAreTold, GroupsHandOn}
 use Rattle.mp_parts.specs.Machine.{machine_worker}
-use Rattle.mp_parts.specs.Parts.{ArePartsOf, AtEach, HoldsRowsBut, Parts}
+use Rattle.mp_parts.specs.Parts.{AtEach, HoldsRowsBut, Parts}
 use Rattle.mp_parts.proofs.Asked.{parts_are_asked}
 use Rattle.mp_parts.proofs.Conditions.{conditions_are_told}
 use Rattle.mp_parts.proofs.Handed.{groups_hand_on}
 use Rattle.mp_parts.proofs.Kept.{steps_keep_parts}
 use Rattle.mp_states.specs.State.{CanMake, WorkerState}
 use Rattle.mp_worker.specs.Kept.{IsKept, parts_with}
-use Rattle.mp_worker.specs.Onward.{content, records_at}
+use Rattle.mp_parts.specs.Onward.{content, records_at}
+use Rattle.mp_worker.proofs.Keeping.{kept_as, other_routers}
 use Rattle.mp_worker.proofs.Counted.{group_in_time, number_of_records, number_of_rows, values_have_keys}
 
 -- a stage has a next one, or is the last
@@ -94,56 +96,45 @@ pub record AppliesBy {Cell : Type 0} (q : QueryFacts Cell) : Type 0 where
 pub record Fields (Cell : Type 0) : Type 0 where
   pub number : ℕ
   pub log : WorkerLog
-  pub owners : Notes
   pub seen : Seen
+  pub notes : Notes
+  pub next : ℕ × ℕ
   pub routers : List Routed
   pub hosts : List (Hosted Cell)
+  pub movers : List Moving
   pub unsent : Unwritten
   pub unwritten : Unwritten
 
-module _ {Cell : Type 0} (q : QueryFacts Cell) (keeps : AppliesBy q) (job its : JobFacts) (f : Fields Cell) (kept : IsKept q job its f.number f.log f.owners (parts_with f.log f.seen f.routers f.hosts f.unsent f.unwritten)) where
+-- a worker that has these keeps to what it is to
+abbrev pub Keeps : {Cell : Type 0} → QueryFacts Cell → JobFacts → JobFacts → Fields Cell → Type 0
+Keeps q job its f = IsKept q job its f.number f.log (parts_with f.log f.seen f.notes f.next f.routers f.hosts f.movers f.unsent f.unwritten)
+
+module _ {Cell : Type 0} (q : QueryFacts Cell) (keeps : AppliesBy q) (job its : JobFacts) (f : Fields Cell) (kept : Keeps q job its f) where
   o_sound : OutlineIsSound (outline_of q job)
   o_sound = outline_is_sound q keeps.stages keeps.later keeps.nothing job kept.legal
 
   -- with other rooms the parts are the same
   pub kept_with_room : (new : WorkerLog) (others : List Routed) (rows : Unwritten) → new.log ≡ f.log.log → new.worker ≡ f.log.worker → map content others ≡ map content f.routers → rows.rows ≡ f.unsent.rows
-      → IsKept q job its f.number new f.owners (parts_with new f.seen others f.hosts rows f.unwritten)
-  kept_with_room new others rows l w same r = record {
-    same = kept.same;
-    legal = kept.legal;
-    rows = kept.rows;
-    number = w ∙ kept.number;
-    shape = kept.shape;
-    none_noted = kept.none_noted;
-    parts = rw (l, w, r) (record {
-      worker = kept.parts.worker;
-      no_controls = kept.parts.no_controls;
-      legal = kept.parts.legal;
-      done = kept.parts.done;
-      all_routers = same_length others f.routers same ∙ kept.parts.all_routers;
-      routers = routers_still q job f.log.worker f.log.log f.routers others same kept.parts.routers;
-      all_hosts = kept.parts.all_hosts;
-      hosts = kept.parts.hosts;
-      unsent = kept.parts.unsent;
-      unwritten = kept.parts.unwritten;
-    });
-  }
+      → Keeps q job its (record f { log = new; routers = others; unsent = rows })
+  kept_with_room new others rows l w same r =
+      let still = other_routers kept.parts others (same_length others f.routers same) (routers_still q job f.log.worker f.log.log f.routers others same kept.parts.routers) in
+      kept_as kept new (parts_with new f.seen f.notes f.next others f.hosts f.movers rows f.unwritten) w (rw (l, w, r) still)
 
   -- the worker as contracts see it
   abbrev pub state : WorkerState
   state = record { number = f.number; log = f.log.log; seen = f.seen }
 
   abbrev pub its_parts : Parts Cell
-  its_parts = parts_with f.log f.seen f.routers f.hosts f.unsent f.unwritten
+  its_parts = parts_with f.log f.seen f.notes f.next f.routers f.hosts f.movers f.unsent f.unwritten
 
   told : ConditionsAreTold q job its_parts empty_log
-  told = conditions_are_told q job o_sound its_parts empty_log
+  told = conditions_are_told q job o_sound its_parts kept.parts empty_log
 
   steps : StepsKeepParts q job its_parts
   steps = steps_keep_parts q job o_sound its_parts kept.parts
 
   asked : PartsAreAsked q job its_parts
-  asked = parts_are_asked q job its_parts kept.parts
+  asked = parts_are_asked q job o_sound its_parts kept.parts
 
   -- the router of a stage
   pub router_at : (j : ℕ) → j < job.shape.stages → (r : Routed) → r ≡ get_or f.routers j r → IsRouterAt q job f.log.worker f.log.log j r
@@ -158,8 +149,8 @@ module _ {Cell : Type 0} (q : QueryFacts Cell) (keeps : AppliesBy q) (job its : 
     pub informed : IsInformed q job f.log.log f.seen h
     informed = asked.informed j h host_at
 
-    pub knows : KnowsOwners q job f.owners f.seen h.stage
-    knows = asked.owners f.owners kept.shape kept.none_noted h.stage
+    pub knows : KnowsOwners q job f.notes f.seen h.stage
+    knows = subst (λ (i : ℕ). KnowsOwners q job f.notes f.seen i) (sym host_at.0) (asked.owners j below)
 
     -- with the same host again its place is as it was
     pub hosts_again : (new : Hosted Cell) → new ≡ h → set f.hosts j new ≡ f.hosts
@@ -167,7 +158,7 @@ module _ {Cell : Type 0} (q : QueryFacts Cell) (keeps : AppliesBy q) (job its : 
 
     -- and so it is where nothing but rooms has changed
     pub kept_so_far : (n : ℕ) → n ≡ length f.routers → (new : WorkerLog) (others : List Routed) (again : Hosted Cell) (rows : Unwritten) → new.log ≡ f.log.log → new.worker ≡ f.log.worker → map content others ≡ map content f.routers → again ≡ h → rows.rows ≡ f.unsent.rows
-        → IsKept q job its f.number new f.owners (parts_with new f.seen (take n (others ++ drop (length others) f.routers)) (set f.hosts j again) rows f.unwritten)
+        → Keeps q job its (record f { log = new; routers = take n (others ++ drop (length others) f.routers); hosts = set f.hosts j again; unsent = rows })
     kept_so_far n all new others again rows l w same e r = rw (all_written n f.routers others all (same_length others f.routers same), hosts_again again e) (kept_with_room new others rows l w same r)
 
     -- the step of the machine
@@ -226,22 +217,19 @@ module _ {Cell : Type 0} (q : QueryFacts Cell) (keeps : AppliesBy q) (job its : 
           new_host : IsHostAt q job f.log.worker (with_applied f.log.log (Group j t k)) j new
           new_host = (same_stage ∙ host_at.0, same_worker ∙ host_at.1, subst (λ (i : ℕ). IsHostOf q job (with_applied f.log.log (Group i t k)) new) host_at.0 held)
 
-          still : (p : Parts Cell) → ArePartsOf q job p → IsKept q job its f.number grown f.owners p
-          still p are = record { same = kept.same; legal = kept.legal; rows = kept.rows; number = same_log ∙ kept.number; shape = kept.shape; none_noted = kept.none_noted; parts = are }
-
           pub kept_with_records : suc j < job.shape.stages → (old r : Routed) → old ≡ get_or f.routers (suc j) old → r.stage ≡ old.stage
               → ((w : ℕ) (log : Log) → HoldsAllBut q job w log (map (name_of_record (suc j)) (records_at q (suc j) t k vs)) old → HoldsUnsent q job w log r)
-              → IsKept q job its f.number grown f.owners (parts_with grown f.seen (set f.routers (suc j) r) (set f.hosts j new) f.unsent f.unwritten)
+              → Keeps q job its (record f { log = grown; routers = set f.routers (suc j) r; hosts = set f.hosts j new })
           kept_with_records next old r at same_router holds =
               let before = router_at (suc j) next old at in
               let handed = subst (λ (us : List Value). HoldsAllBut q job f.log.worker (with_applied f.log.log (Group j t k)) (map (name_of_record (suc j)) (records_at q (suc j) t k us)) old) (sym given_here) (hand_on.router next old before.0 before.1) in
               let after = holds f.log.worker (with_applied f.log.log (Group j t k)) handed in
-              still _ (rw (grows, same_log) (steps.apply j t k h new r host_at ready next new_host (same_router ∙ before.0, after)))
+              kept_as kept grown _ same_log (rw (grows, same_log) (steps.apply j t k h new r host_at ready next new_host (same_router ∙ before.0, after)))
 
           pub kept_with_rows : suc j ≡ job.shape.stages → (rows : Unwritten)
               → ((w : ℕ) (log : Log) → HoldsRowsBut q job w log (map name_of_row (outputs_at t k vs)) f.unsent.rows → HoldsRowsBut q job w log [] rows.rows)
-              → IsKept q job its f.number grown f.owners (parts_with grown f.seen f.routers (set f.hosts j new) rows f.unwritten)
+              → Keeps q job its (record f { log = grown; hosts = set f.hosts j new; unsent = rows })
           kept_with_rows ends rows holds =
               let handed = subst (λ (us : List Value). HoldsRowsBut q job f.log.worker (with_applied f.log.log (Group j t k)) (map name_of_row (outputs_at t k us)) f.unsent.rows) (sym given_here) (hand_on.rows ends f.unsent.rows kept.parts.unsent) in
               let after = holds f.log.worker (with_applied f.log.log (Group j t k)) handed in
-              still _ (rw (grows, same_log) (steps.apply_last j t k h new rows.rows host_at ready ends new_host after))
+              kept_as kept grown _ same_log (rw (grows, same_log) (steps.apply_last j t k h new rows.rows host_at ready ends new_host after))

@@ -7,15 +7,16 @@ use Rattle.std.proofs.Math.Seq.{get_or-append_seam}
 use Rattle.mp_names.specs.Logs.{empty_log}
 use Rattle.mp_names.specs.Outlines.{OutlineIsSound}
 use Rattle.mp_stamps.specs.declared.seen.Seen.{Seen}
-use Rattle.mp_bins.specs.Notes.{IsShape}
+use Rattle.mp_bins.specs.Notes.{IsShape, Notes}
 use Rattle.mp_model.specs.Facts.{JobFacts, QueryFacts}
 use Rattle.mp_board.specs.Boards.{ShowsFrontiers}
 use Rattle.mp_outline.specs.JobOutline.{outline_of}
 use Rattle.mp_rows.specs.WorkerLog.{WorkerLog}
 use Rattle.mp_route.specs.Routed.{Routed}
 use Rattle.mp_hosting.specs.Hosted.{Hosted}
+use Rattle.mp_handoff.specs.Moving.{Moving}
 use Rattle.mp_output.specs.Unwritten.{Unwritten}
-use Rattle.mp_parts.specs.Kept.{IsHostAt, IsRouterAt}
+use Rattle.mp_parts.specs.Kept.{AreMoversAt, IsHostAt, IsRouterAt}
 use Rattle.mp_parts.specs.Parts.{ArePartsOf, AtEach}
 use Rattle.mp_parts.proofs.Asked.{parts_begin}
 use Rattle.mp_states.proofs.Begins.{opening_is_told}
@@ -35,18 +36,23 @@ module _ {Cell : Type 0} (q : QueryFacts Cell) (job : JobFacts) (sound : Outline
   pub some_of_each : IsShape job.shape
   some_of_each = let bin = sound.bins_fit 0 in (sound.some_worker, omega arith, sound.some_stage)
 
-  module _ (w : ℕ) (seen : Seen) (inside : w < job.shape.workers) (none : job.controls ≡ []) (opening : ShowsFrontiers (outline_of q job) (replicate job.shape.workers empty_log) seen) where
+  module _ (w : ℕ) (seen : Seen) (inside : w < job.shape.workers) (opening : ShowsFrontiers (outline_of q job) (replicate job.shape.workers empty_log) seen) where
     pub parts_at_first :
-        (log : WorkerLog) (routers : List Routed) (hosts : List (Hosted Cell)) (unsent unwritten : Unwritten)
+        (log : WorkerLog) (notes : Notes) (routers : List Routed) (hosts : List (Hosted Cell)) (movers : List Moving) (unsent unwritten : Unwritten)
         → log.worker ≡ w
         → log.log ≡ empty_log
+        → notes.shape ≡ job.shape
+        → notes.noted ≡ []
         → length routers ≡ job.shape.stages
         → AtEach routers (IsRouterAt q job w empty_log)
         → length hosts ≡ job.shape.stages
         → AtEach hosts (IsHostAt q job w empty_log)
+        → length movers ≡ job.shape.stages
+        → AtEach movers (AreMoversAt q job w empty_log)
         → unsent.rows ≡ []
         → unwritten.rows ≡ []
-        → ArePartsOf q job (parts_with log seen routers hosts unsent unwritten)
-    parts_at_first log routers hosts unsent unwritten number empty all_routers at_routers all_hosts at_hosts no_unsent no_unwritten =
+        → ArePartsOf q job (parts_with log seen notes (0, 0) routers hosts movers unsent unwritten)
+    parts_at_first log notes routers hosts movers unsent unwritten number empty shape none all_routers at_routers all_hosts at_hosts all_movers at_movers no_unsent no_unwritten =
+        let done = opening_is_told (outline_of q job) w seen sound inside opening in
         rw (number, empty, no_unsent, no_unwritten)
-        (parts_begin q job w seen routers hosts inside none (opening_is_told (outline_of q job) w seen sound inside opening) all_routers at_routers all_hosts at_hosts)
+        (parts_begin q job w seen notes routers hosts movers inside done shape none all_routers at_routers all_hosts at_hosts all_movers at_movers)

@@ -34,7 +34,7 @@ use Rattle.mp_hosting.specs.Hosted.{Hosted, waits_at}
 use Rattle.mp_hosting.specs.Applying.{posts_here, woken_by}
 use Rattle.mp_parts.specs.Given.{outputs_given, records_made, values_given}
 use Rattle.mp_parts.proofs.Given.{made_once, outputs_are, outputs_come, outputs_in_order, outputs_stand, records_come, records_stand, same_row}
-use Rattle.mp_worker.proofs.InTurn.{outputs_from, records_from}
+use Rattle.mp_parts.proofs.OneByOne.{outputs_from, records_from}
 
 -- Numbers of names
 

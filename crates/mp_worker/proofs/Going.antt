@@ -9,7 +9,6 @@ use Rattle.mp_names.specs.Outlines.{OutlineIsSound}
 use Rattle.mp_names.specs.Logs.{Log, with_sent}
 use Rattle.mp_names.specs.Keeping.{IsHeld}
 use Rattle.mp_names.proofs.Orders.{least_unique}
-use Rattle.mp_bins.specs.Notes.{Notes}
 use Rattle.mp_model.specs.declared.record.Output.{Output}
 use Rattle.mp_model.specs.Facts.{JobFacts, QueryFacts}
 use Rattle.mp_outline.specs.JobOutline.{outline_of}
@@ -22,9 +21,10 @@ use Rattle.mp_parts.proofs.Kept.{steps_keep_parts}
 use Rattle.mp_states.specs.Ends.{AtEnds, FollowsLog, Standing}
 use Rattle.mp_states.specs.State.{CanMake, Makes, WorkerState}
 use Rattle.mp_worker.specs.Kept.{IsKept}
+use Rattle.mp_worker.proofs.Keeping.{kept_by, other_routers}
 
 -- another item at one place
-put_at : {X : Type 0} (P : ℕ → X → Type 0) (xs : List X) (i : ℕ) (x : X) → P i x → AtEach xs P → AtEach (set xs i x) P
+pub put_at : {X : Type 0} (P : ℕ → X → Type 0) (xs : List X) (i : ℕ) (x : X) → P i x → AtEach xs P → AtEach (set xs i x) P
 put_at P xs i x new h j d l =
     let inside : j < length xs = omega (arith, length-set xs i x) in
     ⊎_elim
@@ -36,7 +36,7 @@ put_at P xs i x new h j d l =
 
 -- A worker whose parts are of its log
 
-module _ {Cell : Type 0} {q : QueryFacts Cell} {job its : JobFacts} {number : ℕ} {log : WorkerLog} {owners : Notes} {p : Parts Cell} (kept : IsKept q job its number log owners p) (worker : p.number ≡ log.worker) where
+module _ {Cell : Type 0} {q : QueryFacts Cell} {job its : JobFacts} {number : ℕ} {log : WorkerLog} {p : Parts Cell} (kept : IsKept q job its number log p) (worker : p.number ≡ log.worker) where
   number_is : p.number ≡ number
   number_is = worker ∙ kept.number
 
@@ -91,57 +91,31 @@ module _ {Cell : Type 0} {q : QueryFacts Cell} {job its : JobFacts} {number : �
 
   -- What it keeps to
 
-  -- other parts, which hold what another log of the worker says
-  kept_with : (new : WorkerLog) (parts : Parts Cell) → new.worker ≡ p.number → ArePartsOf q job parts → IsKept q job its number new owners parts
-  kept_with new parts e are = record {
-    same = kept.same;
-    legal = kept.legal;
-    rows = kept.rows;
-    number = e ∙ number_is;
-    shape = kept.shape;
-    none_noted = kept.none_noted;
-    parts = are;
-  }
-
   module _ (new : WorkerLog) (e : new.worker ≡ p.number) where
     -- the log has these names
     of_log : (l : Log) → new.log ≡ l → (rs : List Routed) (rows : List Output)
-        → ArePartsOf q job (record p { log = l; routers = rs; unsent = rows }) → IsKept q job its number new owners (record p { number = new.worker; log = new.log; routers = rs; unsent = rows })
-    of_log l f rs rows are =
-        kept_with new (record p { number = new.worker; log = new.log; routers = rs; unsent = rows }) e
-        (subst (λ (m : Log). ArePartsOf q job (record p { number = new.worker; log = m; routers = rs; unsent = rows })) (sym f)
-        (subst (λ (w : ℕ). ArePartsOf q job (record p { number = w; log = l; routers = rs; unsent = rows })) (sym e) are))
+        → ArePartsOf q job (record p { log = l; routers = rs; unsent = rows }) → IsKept q job its number new (record p { number = new.worker; log = new.log; routers = rs; unsent = rows })
+    of_log l f rs rows = kept_by kept worker new e l f (record p { routers = rs; unsent = rows })
 
     -- a record was sent, and is gone from its router
     pub routed_kept : OutlineIsSound (outline_of q job) → (j : ℕ) (x : Name) (r : Routed)
         → new.log ≡ with_sent p.log x → MayGo q job p.number p.log j p.seen x → IsRouterAt q job p.number (with_sent p.log x) j r
-        → IsKept q job its number new owners (record p { number = new.worker; log = new.log; routers = set p.routers j r })
+        → IsKept q job its number new (record p { number = new.worker; log = new.log; routers = set p.routers j r })
     routed_kept sound j x r f may at = of_log (with_sent p.log x) f (set p.routers j r) p.unsent ((steps_keep_parts q job sound p kept.parts).route j x r may at)
 
     -- an answer row was
     pub row_sent_kept : OutlineIsSound (outline_of q job) → (x : Name) (rows : List Output)
         → new.log ≡ with_sent p.log x → IsLeast (IsHeld (outline_of q job) p.number p.log is_row) x → HoldsRowsBut q job p.number (with_sent p.log x) [] rows
-        → IsKept q job its number new owners (record p { number = new.worker; log = new.log; unsent = rows })
+        → IsKept q job its number new (record p { number = new.worker; log = new.log; unsent = rows })
     row_sent_kept sound x rows f least holds = of_log (with_sent p.log x) f p.routers rows ((steps_keep_parts q job sound p kept.parts).send_row x rows least holds)
 
     -- nothing was: a router that was taken in hand holds what it held
     pub router_still_kept : (j : ℕ) (r : Routed) → new.log ≡ p.log → IsRouterAt q job p.number p.log j r
-        → IsKept q job its number new owners (record p { number = new.worker; log = new.log; routers = set p.routers j r })
+        → IsKept q job its number new (record p { number = new.worker; log = new.log; routers = set p.routers j r })
     router_still_kept j r f at =
-        let are = kept.parts in
-        of_log p.log f (set p.routers j r) p.unsent (record {
-          worker = are.worker;
-          no_controls = are.no_controls;
-          legal = are.legal;
-          done = are.done;
-          all_routers = length-set p.routers j r ∙ are.all_routers;
-          routers = put_at (IsRouterAt q job p.number p.log) p.routers j r at are.routers;
-          all_hosts = are.all_hosts;
-          hosts = are.hosts;
-          unsent = are.unsent;
-          unwritten = are.unwritten;
-        })
+        of_log p.log f (set p.routers j r) p.unsent
+        (other_routers kept.parts (set p.routers j r) (length-set p.routers j r) (put_at (IsRouterAt q job p.number p.log) p.routers j r at kept.parts.routers))
 
     -- the rows that were taken in hand are what they were
-    pub rows_still_kept : (rows : List Output) → new.log ≡ p.log → rows ≡ p.unsent → IsKept q job its number new owners (record p { number = new.worker; log = new.log; unsent = rows })
+    pub rows_still_kept : (rows : List Output) → new.log ≡ p.log → rows ≡ p.unsent → IsKept q job its number new (record p { number = new.worker; log = new.log; unsent = rows })
     rows_still_kept rows f same = of_log p.log f p.routers rows (subst (λ (os : List Output). ArePartsOf q job (record p { unsent = os })) (sym same) kept.parts)

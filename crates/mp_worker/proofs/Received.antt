@@ -1,16 +1,20 @@
 -- What a worker keeps to once it has taken a message.
-use Rattle.std.proofs.Common.{◌≡◌, ◌++◌, ◌∷◌, ℕ, Bool, true, false, cond, List, [], Result, Ok, Err, OnOk, drop, length, take, set, refl, sym, ◌∙◌, subst}
+use Rattle.std.proofs.Common.{◌≡◌, ◌++◌, ◌∷◌, ℕ, Bool, true, false, cond, List, [], Result, Ok, Err, OnOk, drop, length, take, set, refl, sym, ap, ◌∙◌, subst}
 use Rattle.std.specs.Result.{IsOk}
 use Rattle.std.proofs.lemmas.Bool.{false≢true}
+use Rattle.mp_names.specs.declared.controls.Control.{Control}
 use Rattle.mp_names.specs.declared.locations.Loc.TheVariants.{Host, Mail}
 use Rattle.mp_names.specs.declared.names.Name.{Name}
-use Rattle.mp_names.specs.declared.names.Name.TheVariants.{Group, Rec as RecName, Row}
+use Rattle.mp_names.specs.declared.names.Name.TheVariants.{Ctrl, Group, Packet, Rec as RecName, Row}
 use Rattle.mp_names.specs.declared.names.Tag.{Tag}
+use Rattle.mp_names.specs.Controls.{control_of}
 use Rattle.mp_names.specs.Names.{has}
 use Rattle.mp_names.specs.Outlines.{IsOwed, IsOwedTo, OutlineIsSound, receiver}
 use Rattle.mp_names.specs.Logs.{Log, LogIsLegal, is_pending, with_took}
 use Rattle.mp_stamps.specs.declared.seen.Seen.{Seen}
-use Rattle.mp_bins.specs.Notes.{Notes}
+use Rattle.mp_bins.specs.declared.owners.Note.{Note}
+use Rattle.mp_bins.specs.Laws.{AreNotesOf}
+use Rattle.mp_bins.specs.Notes.{Notes, is_noted, with_note}
 use Rattle.mp_model.specs.declared.fields.Field.{Field}
 use Rattle.mp_model.specs.declared.record.Rec.{Rec}
 use Rattle.mp_model.specs.Facts.{JobFacts, QueryFacts}
@@ -19,37 +23,57 @@ use Rattle.mp_rows.specs.Entries.{AreChanges}
 use Rattle.mp_rows.specs.WorkerLog.{WorkerLog}
 use Rattle.mp_changes.specs.Changes.{one_less, one_more, record_taken_at}
 use Rattle.mp_changes.proofs.Took.{record_taken as taken_is_counted}
-use Rattle.mp_msg.specs.Contents.{IsRecordOf, IsRowOf}
-use Rattle.mp_msg.proofs.Owed.{records_are_owed, rows_are_owed}
+use Rattle.mp_msg.specs.Contents.{IsControlOf, IsPacketOf, IsRecordOf, IsRowOf}
+use Rattle.mp_msg.specs.States.{BinContent}
+use Rattle.mp_msg.proofs.Owed.{controls_are_owed, packets_are_owed, records_are_owed, rows_are_owed}
 use Rattle.mp_route.specs.Routed.{Routed}
 use Rattle.mp_hosting.specs.Hosted.{Hosted}
 use Rattle.mp_hosting.specs.HostOf.{IsHostOf}
 use Rattle.mp_hosting.specs.Applying.{IsReceived}
 use Rattle.mp_host.specs.Telling.{TakesRecord}
+use Rattle.mp_handoff.specs.Moving.{Moving}
 use Rattle.mp_output.specs.Holding.{HoldsUnwritten}
 use Rattle.mp_output.specs.Unwritten.{Unwritten}
-use Rattle.mp_parts.specs.Kept.{IsHostAt}
-use Rattle.mp_parts.specs.Parts.{Parts}
+use Rattle.mp_parts.specs.Kept.{AreMoversAt, IsHostAt}
+use Rattle.mp_parts.specs.Parts.{AreTaken, Parts}
 use Rattle.mp_parts.proofs.Kept.{steps_keep_parts}
 use Rattle.mp_worker.specs.Kept.{IsKept, parts_with}
-use Rattle.mp_worker.specs.Rooms.{SameButRoom}
-use Rattle.mp_worker.proofs.Rooms.{other_rooms, written_back}
+use Rattle.mp_worker.specs.Rooms.{SameHosts, SameMovers, roomless, without_room}
+use Rattle.mp_worker.proofs.Keeping.{kept_as, other_hosts, other_movers, other_notes}
+use Rattle.mp_worker.proofs.Roomy.{same_each, same_host, same_length, same_movers, written_back}
 
 -- what holds of a call that is never refused
 pub if_never_refused : {A E : Type 0} (r : Result A E) (P : Type 0) → IsOk r → OnOk r P → P
 if_never_refused (Ok a) P ok p = p
 if_never_refused (Err e) P ok p = absurd (false≢true ok)
 
+-- nor is it anything but an answer
+pub not_refused : {A E : Type 0} (r : Result A E) → IsOk r → ((a : A) → r ≡ Ok a → ⊥) → ⊥
+not_refused (Ok a) ok none = none a refl
+not_refused (Err e) ok none = false≢true ok
+
 -- What is owed
 
 module _ {Cell : Type 0} (q : QueryFacts Cell) (job : JobFacts) (w : ℕ) (x : Name) (comes : receiver (outline_of q job) x ≡ w) where
-  -- a record that comes here is owed to this worker
+  -- a control record that comes here is owed to this worker
+  pub control_owed : (i v : ℕ) (c : Control) → IsControlOf job i v c → Ctrl i v ≡ x → IsOwedTo (outline_of q job) w x
+  control_owed i v c content is = (subst (λ (y : Name). IsOwed (outline_of q job) y) is (controls_are_owed q job i v c content), comes)
+
+  -- so is a record
   pub record_owed : (j : ℕ) (r : Rec) → IsRecordOf q job j r → name_of_record j r ≡ x → IsOwedTo (outline_of q job) w x
   record_owed j r content is = (subst (λ (y : Name). IsOwed (outline_of q job) y) is (records_are_owed q job j r content), comes)
 
-  -- so is an answer row
+  -- and the state of a bin that moves
+  pub packet_owed : (j b t : ℕ) (s : BinContent Cell) → IsPacketOf q job j b t s → Packet j b t ≡ x → IsOwedTo (outline_of q job) w x
+  packet_owed j b t s content is = (subst (λ (y : Name). IsOwed (outline_of q job) y) is (packets_are_owed q job j b t s content), comes)
+
+  -- and an answer row
   pub row_owed : (t : ℕ) (g : Tag) (fields : List Field) → IsRowOf q job t g fields → Row t g ≡ x → IsOwedTo (outline_of q job) w x
   row_owed t g fields content is = (subst (λ (y : Name). IsOwed (outline_of q job) y) is (rows_are_owed q job t g fields content), comes)
+
+-- a control record that comes here is this worker's
+pub control_here : {Cell : Type 0} (q : QueryFacts Cell) (job : JobFacts) (i v w : ℕ) (x : Name) → Ctrl i v ≡ x → receiver (outline_of q job) x ≡ w → Ctrl i w ≡ x
+control_here q job i v w x is comes = ap (λ (u : ℕ). Ctrl i u) (sym (ap (λ (y : Name). receiver (outline_of q job) y) is ∙ comes)) ∙ is
 
 -- A record
 
@@ -88,58 +112,83 @@ module _ {Cell : Type 0} (q : QueryFacts Cell) (job : JobFacts) (w : ℕ) (log :
 
 -- A worker
 
-module _ {Cell : Type 0} (q : QueryFacts Cell) (job its : JobFacts) (number : ℕ) (owners : Notes) (seen : Seen) (routers : List Routed) (unsent : Unwritten) where
-  -- a worker with this log, these hosts and these rows to be written keeps to what it is to
-  abbrev Keeps : WorkerLog → List (Hosted Cell) → Unwritten → Type 0
-  Keeps log hosts rows = IsKept q job its number log owners (parts_with log seen routers hosts unsent rows)
+-- notes of which only the room is another
+same_taken : (job : JobFacts) (w : ℕ) (log : Log) (old new : Notes) → new.shape ≡ old.shape → new.noted ≡ old.noted → AreTaken job w log old → AreTaken job w log new
+same_taken job w log old new shape noted are = record {
+  shape = shape ∙ are.shape;
+  of_job = subst (λ (ns : List Note). AreNotesOf job.controls (record { shape = new.shape; noted = ns; room = new.room })) (sym noted) (record { in_order = are.of_job.in_order; each = are.of_job.each });
+  taken = λ i. ap (λ (ns : List Note). is_noted ns i) noted ∙ are.taken i;
+}
 
-  -- room is made, where the hosts are lent as a slice
-  pub rooms_made : (log new : WorkerLog) (hosts lent roomy : List (Hosted Cell)) (rows more : Unwritten) (n : ℕ)
-      → Keeps log hosts rows → (new.worker ≡ log.worker) × (new.log ≡ log.log) → lent ≡ hosts → length lent ≡ n → SameButRoom lent roomy → more.rows ≡ rows.rows
-      → Keeps new (take n (roomy ++ drop (length roomy) hosts)) more
-  rooms_made log new hosts lent roomy rows more n kept l is count same r =
-      let there = subst (λ (hs : List (Hosted Cell)). SameButRoom hs roomy) is same in record {
-        same = kept.same;
-        legal = kept.legal;
-        rows = kept.rows;
-        number = l.0 ∙ kept.number;
-        shape = kept.shape;
-        none_noted = kept.none_noted;
-        parts = rw (l.0, l.1, r, written_back hosts lent roomy n count same) (other_rooms q job (parts_with log seen routers hosts unsent rows) roomy there kept.parts);
-      }
+module _ {Cell : Type 0} (q : QueryFacts Cell) (job its : JobFacts) (number : ℕ) (seen : Seen) (next : ℕ × ℕ) (routers : List Routed) (unsent : Unwritten) where
+  -- a worker with this log, these notes, hosts and movers, and these rows to be written keeps to what it is to
+  abbrev Keeps : WorkerLog → Notes → List (Hosted Cell) → List Moving → Unwritten → Type 0
+  Keeps log notes hosts movers rows = IsKept q job its number log (parts_with log seen notes next routers hosts movers unsent rows)
 
-  module _ (sound : OutlineIsSound (outline_of q job)) (log new : WorkerLog) (hosts : List (Hosted Cell)) (rows : Unwritten) (kept : Keeps log hosts rows) (x : Name) (owed : IsOwedTo (outline_of q job) log.worker x) (fresh : has log.log.took x ≡ false) (l : (new.worker ≡ log.worker) × (new.log ≡ with_took log.log x)) where
+  -- room is made in the log, the notes and the rows
+  pub front_roomy : (log new : WorkerLog) (notes more : Notes) (hosts : List (Hosted Cell)) (movers : List Moving) (rows others : Unwritten)
+      → Keeps log notes hosts movers rows → (new.worker ≡ log.worker) × (new.log ≡ log.log) → (more.shape ≡ notes.shape) × (more.noted ≡ notes.noted) → others.rows ≡ rows.rows
+      → Keeps new more hosts movers others
+  front_roomy log new notes more hosts movers rows others kept l n r =
+      kept_as kept new (parts_with new seen more next routers hosts movers unsent others) l.0
+      (rw (l.0, l.1, r) (other_notes kept.parts more (same_taken job log.worker log.log notes more n.0 n.1 kept.parts.notes)))
+
+  -- room is made in the hosts, which are lent as a slice
+  pub hosts_roomy : (log : WorkerLog) (notes : Notes) (hosts lent roomy : List (Hosted Cell)) (movers : List Moving) (rows : Unwritten) (n : ℕ)
+      → Keeps log notes hosts movers rows → lent ≡ hosts → length lent ≡ n → SameHosts lent roomy
+      → Keeps log notes (take n (roomy ++ drop (length roomy) hosts)) movers rows
+  hosts_roomy log notes hosts lent roomy movers rows n kept is count same =
+      let there = subst (λ (hs : List (Hosted Cell)). SameHosts hs roomy) is same in
+      kept_as kept log (parts_with log seen notes next routers (take n (roomy ++ drop (length roomy) hosts)) movers unsent rows) refl
+      (rw (written_back without_room hosts lent roomy n count same)
+      (other_hosts kept.parts roomy (same_length without_room hosts roomy there) (same_each without_room (IsHostAt q job log.worker log.log) (same_host q job log.worker log.log) hosts roomy there kept.parts.hosts)))
+
+  -- and in the movers
+  pub movers_roomy : (log : WorkerLog) (notes : Notes) (hosts : List (Hosted Cell)) (movers lent roomy : List Moving) (rows : Unwritten) (n : ℕ)
+      → Keeps log notes hosts movers rows → lent ≡ movers → length lent ≡ n → SameMovers lent roomy
+      → Keeps log notes hosts (take n (roomy ++ drop (length roomy) movers)) rows
+  movers_roomy log notes hosts movers lent roomy rows n kept is count same =
+      let there = subst (λ (ms : List Moving). SameMovers ms roomy) is same in
+      kept_as kept log (parts_with log seen notes next routers hosts (take n (roomy ++ drop (length roomy) movers)) unsent rows) refl
+      (rw (written_back roomless movers lent roomy n count same)
+      (other_movers kept.parts roomy (same_length roomless movers roomy there) (same_each roomless (AreMoversAt q job log.worker log.log) (same_movers q job log.worker log.log) movers roomy there kept.parts.movers)))
+
+  module _ (sound : OutlineIsSound (outline_of q job)) (log new : WorkerLog) (notes : Notes) (hosts : List (Hosted Cell)) (movers : List Moving) (rows : Unwritten) (kept : Keeps log notes hosts movers rows) (x : Name) (owed : IsOwedTo (outline_of q job) log.worker x) (fresh : has log.log.took x ≡ false) (l : (new.worker ≡ log.worker) × (new.log ≡ with_took log.log x)) where
     abbrev p : Parts Cell
-    p = parts_with log seen routers hosts unsent rows
+    p = parts_with log seen notes next routers hosts movers unsent rows
+
+    owed_as : (y : Name) → x ≡ y → IsOwedTo (outline_of q job) log.worker y
+    owed_as y is = subst (λ (z : Name). IsOwedTo (outline_of q job) log.worker z) is owed
+
+    fresh_as : (y : Name) → x ≡ y → has log.log.took y ≡ false
+    fresh_as y is = subst (λ (z : Name). has log.log.took z ≡ false) is fresh
+
+    -- a control record is taken
+    pub control_taken : (i : ℕ) (c : Control) → x ≡ Ctrl i log.worker → c ≡ control_of job.controls i → (noted : Notes) → noted ≡ record notes { noted = with_note notes.noted (record { index = i; control = c }); room = noted.room }
+        → (m : Moving) → AreMoversAt q job log.worker (with_took log.log x) c.stage m → Keeps new noted hosts (set movers c.stage m) rows
+    control_taken i c is of_job noted with_it m at =
+        let taken = (steps_keep_parts q job sound p kept.parts).receive_control i noted m (owed_as (Ctrl i log.worker) is) (fresh_as (Ctrl i log.worker) is)
+        (subst (λ (d : Control). noted ≡ record notes { noted = with_note notes.noted (record { index = i; control = d }); room = noted.room }) of_job with_it)
+        (subst (λ (y : Name). AreMoversAt q job log.worker (with_took log.log y) (control_of job.controls i).stage m) is (subst (λ (d : Control). AreMoversAt q job log.worker (with_took log.log x) d.stage m) of_job at)) in
+        kept_as kept new (parts_with new seen noted next routers hosts (set movers c.stage m) unsent rows) l.0 (rw (l.0, l.1, is, of_job) taken)
 
     -- a record is taken
-    pub record_taken : (j t k : ℕ) (g : Tag) → x ≡ RecName j t k g → (h : Hosted Cell) → IsHostAt q job log.worker (with_took log.log x) j h → Keeps new (set hosts j h) rows
+    pub record_taken : (j t k : ℕ) (g : Tag) → x ≡ RecName j t k g → (h : Hosted Cell) → IsHostAt q job log.worker (with_took log.log x) j h → Keeps new notes (set hosts j h) movers rows
     record_taken j t k g is h holds =
-        let taken = (steps_keep_parts q job sound p kept.parts).receive j t k g h
-        (subst (λ (y : Name). IsOwedTo (outline_of q job) log.worker y) is owed)
-        (subst (λ (y : Name). has log.log.took y ≡ false) is fresh)
-        (subst (λ (y : Name). IsHostAt q job log.worker (with_took log.log y) j h) is holds) in record {
-          same = kept.same;
-          legal = kept.legal;
-          rows = kept.rows;
-          number = l.0 ∙ kept.number;
-          shape = kept.shape;
-          none_noted = kept.none_noted;
-          parts = rw (l.0, l.1, is) taken;
-        }
+        let taken = (steps_keep_parts q job sound p kept.parts).receive j t k g h (owed_as (RecName j t k g) is) (fresh_as (RecName j t k g) is)
+        (subst (λ (y : Name). IsHostAt q job log.worker (with_took log.log y) j h) is holds) in
+        kept_as kept new (parts_with new seen notes next routers (set hosts j h) movers unsent rows) l.0 (rw (l.0, l.1, is) taken)
+
+    -- the state of a bin is taken
+    pub packet_taken : (j b t : ℕ) → x ≡ Packet j b t → (h : Hosted Cell) → IsHostAt q job log.worker (with_took log.log x) j h → Keeps new notes (set hosts j h) movers rows
+    packet_taken j b t is h holds =
+        let taken = (steps_keep_parts q job sound p kept.parts).receive_packet j b t h (owed_as (Packet j b t) is) (fresh_as (Packet j b t) is)
+        (subst (λ (y : Name). IsHostAt q job log.worker (with_took log.log y) j h) is holds) in
+        kept_as kept new (parts_with new seen notes next routers (set hosts j h) movers unsent rows) l.0 (rw (l.0, l.1, is) taken)
 
     -- an answer row is taken
-    pub row_taken : (t : ℕ) (g : Tag) → x ≡ Row t g → (more : Unwritten) → HoldsUnwritten (with_took log.log x) more.rows → Keeps new hosts more
+    pub row_taken : (t : ℕ) (g : Tag) → x ≡ Row t g → (more : Unwritten) → HoldsUnwritten (with_took log.log x) more.rows → Keeps new notes hosts movers more
     row_taken t g is more holds =
-        let taken = (steps_keep_parts q job sound p kept.parts).receive_row t g more.rows
-        (subst (λ (y : Name). IsOwedTo (outline_of q job) log.worker y) is owed)
-        (subst (λ (y : Name). has log.log.took y ≡ false) is fresh)
-        (subst (λ (y : Name). HoldsUnwritten (with_took log.log y) more.rows) is holds) in record {
-          same = kept.same;
-          legal = kept.legal;
-          rows = kept.rows;
-          number = l.0 ∙ kept.number;
-          shape = kept.shape;
-          none_noted = kept.none_noted;
-          parts = rw (l.0, l.1, is) taken;
-        }
+        let taken = (steps_keep_parts q job sound p kept.parts).receive_row t g more.rows (owed_as (Row t g) is) (fresh_as (Row t g) is)
+        (subst (λ (y : Name). HoldsUnwritten (with_took log.log y) more.rows) is holds) in
+        kept_as kept new (parts_with new seen notes next routers hosts movers unsent more) l.0 (rw (l.0, l.1, is) taken)

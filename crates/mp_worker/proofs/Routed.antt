@@ -1,17 +1,18 @@
 -- The router of a stage while its first record is sent.
-use Rattle.std.proofs.Common.{◌≡◌, ℕ, ◌<◌, List, [], get_or, sym, ap, ◌∙◌, subst}
+use Rattle.std.proofs.Common.{◌≡◌, ℕ, ◌<◌, List, get_or, sym, ap, ◌∙◌, subst}
 use Rattle.mp_names.specs.declared.controls.Shape.{Shape}
 use Rattle.mp_names.specs.declared.names.Name.{Name}
-use Rattle.mp_names.specs.Outlines.{receiver}
+use Rattle.mp_names.specs.Outlines.{OutlineIsSound, receiver}
 use Rattle.mp_names.specs.Logs.{Log, with_sent}
 use Rattle.mp_stamps.specs.declared.seen.Seen.{Seen}
 use Rattle.mp_bins.specs.Bins.{bin_of_key}
-use Rattle.mp_bins.specs.Notes.{Notes, owner_at as noted_owner}
+use Rattle.mp_bins.specs.Notes.{owner_at as noted_owner}
 use Rattle.mp_model.specs.declared.record.Rec.{Rec as Record}
 use Rattle.mp_model.specs.Facts.{JobFacts, QueryFacts}
 use Rattle.mp_ordered.specs.InOrder.{put_in_order}
 use Rattle.mp_outline.specs.JobOutline.{name_of_record, outline_of}
 use Rattle.mp_rows.specs.WorkerLog.{WorkerLog}
+use Rattle.mp_msg.specs.declared.message.Body.{Body}
 use Rattle.mp_msg.specs.declared.message.Body.TheVariants.{Rec}
 use Rattle.mp_msg.specs.Contents.{IsRecordOf}
 use Rattle.mp_msg.proofs.Telling.{bodies_follow_names}
@@ -19,7 +20,7 @@ use Rattle.mp_route.specs.Routed.{GivesUp, Routed, tag_rank}
 use Rattle.mp_route.specs.Unsent.{HoldsUnsent, MayGo}
 use Rattle.mp_parts.specs.Kept.{IsRouterAt}
 use Rattle.mp_parts.specs.Parts.{ArePartsOf, Parts}
-use Rattle.mp_parts.proofs.Asked.{owners_are_known}
+use Rattle.mp_parts.proofs.Asked.{parts_are_asked}
 use Rattle.mp_worker.specs.Kept.{IsKept}
 
 -- it holds what is unsent, whatever its room
@@ -30,21 +31,18 @@ other_room q job w log old new e f h =
     subst (λ (j : ℕ). HoldsUnsent q job w log (record { stage = j; held = new.held; room = new.room })) (sym e)
     (subst (λ (rs : List Record). HoldsUnsent q job w log (record { stage = old.stage; held = rs; room = new.room })) (sym f) same)
 
-same_record : (i j : ℕ) (r s : Record) → Rec i r ≡ Rec j s → r ≡ s
+same_record : {Cell : Type 0} (i j : ℕ) (r s : Record) → ◌≡◌ {A = Body Cell} (Rec i r) (Rec j s) → r ≡ s
 same_record i j r s e = cc
 
--- where all is seen to be over every owner is known
-abbrev all_over : Seen
-all_over = record { version = 0; stages = 0; frontiers = [] }
-
 module _ {Cell : Type 0} {q : QueryFacts Cell} {job : JobFacts} where
-  -- the owner by the notes is the receiver of the record's name
-  pub owner_is : {its : JobFacts} {number : ℕ} {log : WorkerLog} {owners : Notes} {p : Parts Cell} → IsKept q job its number log owners p
-      → (j : ℕ) (r : Record) (shape : Shape) (bin n : ℕ) → shape ≡ its.shape → bin ≡ bin_of_key r.key shape.bins → n ≡ noted_owner owners j bin r.time → n ≡ receiver (outline_of q job) (name_of_record j r)
-  owner_is {owners = owners} kept j r shape bin n its_shape at owns =
+  -- where a record may go, the owner by the notes is the receiver of its name
+  pub owner_is : {its : JobFacts} {number : ℕ} {log : WorkerLog} {p : Parts Cell} → IsKept q job its number log p → OutlineIsSound (outline_of q job)
+      → (j : ℕ) (r : Record) → MayGo q job p.number p.log j p.seen (name_of_record j r)
+      → (shape : Shape) (bin n : ℕ) → shape ≡ its.shape → bin ≡ bin_of_key r.key shape.bins → n ≡ noted_owner p.notes j bin r.time → n ≡ receiver (outline_of q job) (name_of_record j r)
+  owner_is {p = p} kept sound j r may shape bin n its_shape at owns =
       let same : shape ≡ job.shape = its_shape ∙ ap (λ (f : JobFacts). f.shape) kept.same in
-      let known = owners_are_known q job kept.parts.no_controls owners kept.shape kept.none_noted all_over j in
-      owns ∙ ap (λ (b : ℕ). noted_owner owners j b r.time) (at ∙ ap (λ (s : Shape). bin_of_key r.key s.bins) same) ∙ known.owners r.time (bin_of_key r.key job.shape.bins) tt
+      let known = (parts_are_asked q job sound p kept.parts).moves j in
+      owns ∙ ap (λ (b : ℕ). noted_owner p.notes j b r.time) (at ∙ ap (λ (s : Shape). bin_of_key r.key s.bins) same) ∙ (known.owners (bin_of_key r.key job.shape.bins) r.time may.1).1
 
   -- the router of a stage
   pub router_at : {p : Parts Cell} → ArePartsOf q job p → (j : ℕ) (h : Routed) → j < job.shape.stages → h ≡ get_or p.routers j h → IsRouterAt q job p.number p.log j h

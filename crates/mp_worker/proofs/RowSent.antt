@@ -14,6 +14,7 @@ use Rattle.mp_model.specs.Facts.{JobFacts, QueryFacts}
 use Rattle.mp_model.specs.Stages.{answer_rows}
 use Rattle.mp_ordered.specs.InOrder.{IsInOrder, put_in_order}
 use Rattle.mp_outline.specs.JobOutline.{name_of_row, outline_of}
+use Rattle.mp_msg.specs.declared.message.Body.{Body}
 use Rattle.mp_msg.specs.declared.message.Body.TheVariants.{Row}
 use Rattle.mp_msg.specs.Contents.{IsRowOf}
 use Rattle.mp_msg.proofs.Telling.{bodies_follow_names}
@@ -31,7 +32,7 @@ is_some_row _ is none = is
 abbrev row_of : ℕ → Tag → List Field → Output
 row_of t g fields = record { time = t; tag = g; value = RowValue fields }
 
-same_row : (t u : ℕ) (g h : Tag) (a b : List Field) → Row t g a ≡ Row u h b → row_of t g a ≡ row_of u h b
+same_row : {Cell : Type 0} (t u : ℕ) (g h : Tag) (a b : List Field) → ◌≡◌ {A = Body Cell} (Row t g a) (Row u h b) → row_of t g a ≡ row_of u h b
 same_row t u g h a b e = cc
 
 module _ {Cell : Type 0} {q : QueryFacts Cell} {job : JobFacts} {w : ℕ} {log : Log} {rows : List Output} (holds : HoldsRowsBut q job w log [] rows) {row : Output} {rest : List Output} (first : rows ≡ row ∷ rest) where

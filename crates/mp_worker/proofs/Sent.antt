@@ -16,6 +16,7 @@ use Rattle.mp_names.proofs.Steps.{given_own}
 use Rattle.mp_mailbox.specs.Names.{Distinct as DistinctMail}
 use Rattle.mp_mailbox.specs.Standing.{AddsPushed, IsFresh, KeepsOthers}
 use Rattle.mp_states.specs.Ends.{AtEnds, FollowsLog, Standing, popped_by, pushed_by, sent_to}
+use Rattle.mp_worker.specs.Sending.{MaySend}
 
 -- names that stand once, as mailboxes say it
 
@@ -41,15 +42,19 @@ push_left {X} p xs x e = filter-append p xs (x ∷ []) ∙ ap (λ (l : List X). 
 not_equal : (a b : ℕ) → (a ≡ b → ⊥) → (a == b) ≡ false
 not_equal a b n = false_from_ne_true (a == b) (λ e. n (eqb-true a b e))
 
--- The worker has the name to send, and hasn't sent it; n and v are the ends of the name's edge
+-- a name that is held may be sent
+pub held_may : (o : Outline) (w : ℕ) (log : Log) → LogIsLegal o w log → (p : Name → Bool) (x : Name) → IsHeld o w log p x → MaySend o w log x
+held_may o w log legal p x held = record { owed = (held.1, given_own o w log legal x held.2); legal = held_keeps o w log legal p x held }
 
-module _ {o : Outline} (sound : OutlineIsSound o) {w : ℕ} (worker : w < o.workers) {log : Log} (legal : LogIsLegal o w log) (p : Name → Bool) {x : Name} (held : IsHeld o w log p x) {n v : ℕ} (from : n ≡ w) (to : v ≡ receiver o x) where
+-- The worker may send the name; n and v are the ends of the name's edge
+
+module _ {o : Outline} (sound : OutlineIsSound o) {w : ℕ} (worker : w < o.workers) {log : Log} {x : Name} (may : MaySend o w log x) {n v : ℕ} (from : n ≡ w) (to : v ≡ receiver o x) where
   -- it goes along this edge, from the worker that has to send it
   pub edge_is : (sender o x ≡ n) × (receiver o x ≡ v)
-  edge_is = (given_own o w log legal x held.2 ∙ sym from, sym to)
+  edge_is = (may.owed.1 ∙ sym from, sym to)
 
   to_worker : v < o.workers
-  to_worker = subst (λ (u : ℕ). u < o.workers) (sym to) (edges o sound x held.1).1
+  to_worker = subst (λ (u : ℕ). u < o.workers) (sym to) (edges o sound x may.owed.0).1
 
   pub edge_fits : (workers : ℕ) → workers ≡ o.workers → (n < workers) × (v < workers)
   edge_fits workers e = rw e (subst (λ (u : ℕ). u < o.workers) (sym from) worker, to_worker)
@@ -58,9 +63,7 @@ module _ {o : Outline} (sound : OutlineIsSound o) {w : ℕ} (worker : w < o.work
   sent_more = push_kept (λ y. receiver o y == v) log.sent x (eq-eqb (receiver o x) v (sym to))
 
   new_there : DistinctMail (sent_to o log v ++ x ∷ [])
-  new_there =
-      let good = held_keeps o w log legal p x held in
-      subst DistinctMail sent_more (once (sent_to o (with_sent log x) v) (Distinct_filter (λ y. receiver o y == v) (with_sent log x).sent good.sent_once))
+  new_there = subst DistinctMail sent_more (once (sent_to o (with_sent log x) v) (Distinct_filter (λ y. receiver o y == v) (with_sent log x).sent may.legal.sent_once))
 
   -- so it can be pushed
   pub may_push : (stands : Standing) → AtEnds stands o w log → IsFresh stands n v (x ∷ [])

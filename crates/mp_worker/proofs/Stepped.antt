@@ -1,19 +1,16 @@
--- What a step of any kind leaves of a worker's log, and the kinds of which there is no step.
-use Rattle.std.proofs.Common.{◌≡◌, ◌⊎◌, ◌↔◌, ℕ, Bool, IsTrue, Option, None, Some, Ok, ap, subst, sym, ◌∙◌, ⊎_elim}
+-- What a step of any kind leaves of a worker's log, and that the outline has what a kind names.
+use Rattle.std.proofs.Common.{◌≡◌, ◌↔◌, Bool, IsTrue, Option, None, Some, Ok, ap, subst, sym, ◌∙◌}
 use Rattle.mp_names.specs.declared.controls.Shape.{Shape}
 use Rattle.mp_names.specs.declared.kinds.Kind.{Kind}
-use Rattle.mp_names.specs.declared.kinds.Kind.TheVariants.{Extract, SendControl, Settle}
 use Rattle.mp_names.specs.declared.names.Name.{Name}
-use Rattle.mp_names.specs.Logs.{Log, LogGrows, empty_log}
+use Rattle.mp_names.specs.Logs.{Log, LogGrows}
 use Rattle.mp_names.specs.Outlines.{Outline}
 use Rattle.mp_names.proofs.Grows.{grows_trans}
 use Rattle.mp_machine.specs.Steps.{KindFits, logged}
 use Rattle.mp_machine.proofs.Keeps.{logged_grows}
 use Rattle.mp_model.specs.Facts.{JobFacts, QueryFacts}
 use Rattle.mp_outline.specs.JobOutline.{outline_of}
-use Rattle.mp_parts.specs.Parts.{ArePartsOf, Parts}
-use Rattle.mp_parts.proofs.Conditions.{no_control_steps}
-use Rattle.mp_states.specs.State.{CanMake, Makes, WorkerState}
+use Rattle.mp_states.specs.State.{Makes, WorkerState}
 use Rattle.mp_worker.specs.Turns.{IfMade, IfNoName}
 
 -- what a worker had posted is a beginning of its log after a step too
@@ -36,21 +33,3 @@ module _ {Cell : Type 0} (q : QueryFacts Cell) (job : JobFacts) where
   fits_outline its shape kind fits same is tells =
       let of_job = is ∙ ap (λ (j : JobFacts). j.shape) same in
       tells (outline_of q job) (sym (ap (λ (s : Shape). s.stages) of_job)) (sym (ap (λ (s : Shape). s.workers) of_job))
-
-  -- where the job has no control records there is no step that is of them
-  pub no_control : (p : Parts Cell) (w : ℕ) (kind : Kind) → ArePartsOf q job p → p.number ≡ w
-      → (kind ≡ SendControl) ⊎ (((j : ℕ) × (kind ≡ Extract j)) ⊎ ((j : ℕ) × (kind ≡ Settle j)))
-      → (x : Name)
-      → CanMake (outline_of q job) kind (record { number = w; log = p.log; seen = p.seen }) x
-      → ⊥
-  no_control p w kind parts number is x can =
-      let none = no_control_steps q job p empty_log parts.no_controls parts.legal in
-      let there = subst (λ (v : ℕ). CanMake (outline_of q job) kind (record { number = v; log = p.log; seen = p.seen }) x) (sym number) can in
-      ⊎_elim
-      (λ (e : kind ≡ SendControl). none.send_control x (rw e at there.next))
-      (λ (other : ((j : ℕ) × (kind ≡ Extract j)) ⊎ ((j : ℕ) × (kind ≡ Settle j))).
-      ⊎_elim
-      (λ (m : (j : ℕ) × (kind ≡ Extract j)). none.extract m.0 x (rw m.1 at there.next))
-      (λ (m : (j : ℕ) × (kind ≡ Settle j)). none.settle m.0 x (rw m.1 at there.next))
-      other)
-      is

@@ -1,5 +1,5 @@
 -- What a worker keeps to: its parts hold what its log says.
-use Rattle.std.specs.Prelude.{◌≡◌, ℕ, List, []}
+use Rattle.std.specs.Prelude.{◌≡◌, ℕ, List}
 use Rattle.mp_stamps.specs.declared.seen.Seen.{Seen}
 use Rattle.mp_bins.specs.Notes.{Notes}
 use Rattle.mp_model.specs.Facts.{JobFacts, QueryFacts}
@@ -7,29 +7,31 @@ use Rattle.mp_job.specs.Legal.{JobIsLegal}
 use Rattle.mp_rows.specs.WorkerLog.{WorkerLog}
 use Rattle.mp_route.specs.Routed.{Routed}
 use Rattle.mp_hosting.specs.Hosted.{Hosted}
+use Rattle.mp_handoff.specs.Moving.{Moving}
 use Rattle.mp_output.specs.Rows.{GivesRows}
 use Rattle.mp_output.specs.Unwritten.{Unwritten}
 use Rattle.mp_parts.specs.Parts.{ArePartsOf, Parts}
 
 -- the parts of a worker
-abbrev pub parts_with : {Cell : Type 0} → WorkerLog → Seen → List Routed → List (Hosted Cell) → Unwritten → Unwritten → Parts Cell
-parts_with log seen routers hosts unsent unwritten =
+abbrev pub parts_with : {Cell : Type 0} → WorkerLog → Seen → Notes → ℕ × ℕ → List Routed → List (Hosted Cell) → List Moving → Unwritten → Unwritten → Parts Cell
+parts_with log seen notes next routers hosts movers unsent unwritten =
     record {
       number = log.worker;
       log = log.log;
       seen = seen;
+      notes = notes;
+      next = next;
       routers = routers;
       hosts = hosts;
+      movers = movers;
       unsent = unsent.rows;
       unwritten = unwritten.rows;
     }
 
--- It is of the job that it was made for, which is legal and whose last stage gives rows; no control record is noted; and its parts hold what its log says
-pub record IsKept {Cell : Type 0} (q : QueryFacts Cell) (job its : JobFacts) (w : ℕ) (log : WorkerLog) (owners : Notes) (p : Parts Cell) : Type 0 where
+-- It is of the job that it was made for, which is legal and whose last stage gives rows; and its parts hold what its log says
+pub record IsKept {Cell : Type 0} (q : QueryFacts Cell) (job its : JobFacts) (w : ℕ) (log : WorkerLog) (p : Parts Cell) : Type 0 where
   pub same : its ≡ job
   pub legal : JobIsLegal q job
   pub rows : GivesRows q
   pub number : log.worker ≡ w
-  pub shape : owners.shape ≡ job.shape
-  pub none_noted : owners.noted ≡ []
   pub parts : ArePartsOf q job p

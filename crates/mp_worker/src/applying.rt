@@ -10,10 +10,10 @@ ghost use Rattle.mp_states.specs.State.{CanMake, Makes};
 ghost use Rattle.mp_worker.specs.Turns.{IfMade, IfNoName};
 
 use crate::Worker;
-use crate::onward::{hold_records, hold_rows, location_after, make_room};
 use mp_host::Applied;
 use mp_model::{Naming, Query, Time};
 use mp_names::{Loc, Name};
+use mp_parts::{hold_records, hold_rows, location_after, make_room_onward};
 use mp_rows::{Change, Log, LogList};
 use std::alloc::{AllocError, Global};
 
@@ -36,7 +36,7 @@ impl<'a, Q: Query, J: Naming> Worker<'a, Q, J> {
             return Ok(None);
         }
         let most = host.most(self.alloc, &self.seen, &self.owners);
-        make_room(stage + 1, most, &mut self.routers, &mut self.unsent)?;
+        make_room_onward(stage + 1, most, &mut self.routers, &mut self.unsent)?;
         let mut changes = room_in_log(self.alloc, most, &mut self.log)?;
         let Some(applied) = host.apply(self.alloc, &self.seen, &self.owners)? else {
             return Ok(None);
@@ -51,9 +51,17 @@ impl<'a, Q: Query, J: Naming> Worker<'a, Q, J> {
         self.log.push(LogList::Applied, name, changes.as_slice())?;
         if stage + 1 < stages {
             let router = &mut self.routers[stage as usize + 1];
-            hold_records(self.job.query(), stage + 1, applied, router)?;
+            let query = self.job.query();
+            hold_records(
+                query,
+                stage + 1,
+                applied.time,
+                applied.key,
+                applied.outputs,
+                router,
+            )?;
         } else {
-            hold_rows(applied, &mut self.unsent)?;
+            hold_rows(applied.time, applied.key, applied.outputs, &mut self.unsent)?;
         }
         Ok(Some(name))
     }

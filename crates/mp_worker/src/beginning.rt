@@ -4,11 +4,12 @@ ghost use Rattle.mp_names.specs.Logs.{empty_log};
 ghost use Rattle.mp_board.specs.Boards.{ShowsFrontiers};
 ghost use Rattle.mp_outline.specs.JobOutline.{outline_of};
 ghost use Rattle.mp_output.specs.Rows.{GivesRows};
-ghost use Rattle.mp_parts.specs.Kept.{IsHostAt, IsRouterAt};
+ghost use Rattle.mp_parts.specs.Kept.{AreMoversAt, IsHostAt, IsRouterAt};
 ghost use Rattle.mp_parts.specs.Parts.{AtEach};
 
 use crate::Worker;
 use mp_bins::Owners;
+use mp_handoff::Movers;
 use mp_host::Host;
 use mp_job::Job;
 use mp_model::{Naming, Query};
@@ -29,7 +30,6 @@ impl<'a, Q: Query, J: Naming> Worker<'a, Q, J> {
     ) -> Result<Worker<'a, Q, J>, AllocError>
         requires job { job.now ≡ J.job }
         requires number { number < J.job.shape.workers }
-        requires no_controls { J.job.controls ≡ [] }
         requires rows { GivesRows (Q.facts J.job.rules) }
         requires opening { ShowsFrontiers (outline_of (Q.facts J.job.rules) J.job) (replicate J.job.shape.workers empty_log) seen }
         ensures number { IfOk result (λ worker. worker.number ≡ number) }
@@ -41,6 +41,7 @@ impl<'a, Q: Query, J: Naming> Worker<'a, Q, J> {
         let owners = Owners::new(alloc, shape)?;
         let routers = new_routers(alloc, shape.stages)?;
         let hosts = new_hosts(alloc, job, number)?;
+        let movers = new_movers(alloc, shape.stages, number)?;
         Ok(Worker {
             alloc,
             job,
@@ -48,8 +49,10 @@ impl<'a, Q: Query, J: Naming> Worker<'a, Q, J> {
             log,
             seen,
             owners,
+            next: (0, 0),
             routers,
             hosts,
+            movers,
             unsent: Unsent::new(alloc),
             rows: Rows::new(alloc),
         })
@@ -85,7 +88,25 @@ fn new_hosts<'a, Q: Query, J: Naming>(
 {
     let mut hosts = Vec::new(alloc);
     for stage in 0..job.shape().stages {
-        hosts.push(Host::new(alloc, stage, worker, job))?;
+        hosts.push(Host::new(alloc, stage, worker, job)?)?;
     }
     Ok(hosts)
+}
+
+// The movers of all stages on a worker, which have noted and sent nothing.
+fn new_movers<Q: Query, J: Naming>(
+    alloc: Global,
+    stages: u32,
+    worker: u32,
+) -> Result<Vec<Movers<Q, J>>, AllocError>
+    requires stages { stages ≡ J.job.shape.stages }
+    requires worker { worker < J.job.shape.workers }
+    ensures all { IfOk result (λ v. length v.items ≡ J.job.shape.stages) }
+    ensures each { IfOk result (λ v. AtEach v.items (AreMoversAt (Q.facts J.job.rules) J.job worker empty_log)) }
+{
+    let mut movers = Vec::new(alloc);
+    for stage in 0..stages {
+        movers.push(Movers::new(alloc, stage, worker))?;
+    }
+    Ok(movers)
 }

@@ -3,13 +3,17 @@
 
 mod applying;
 mod beginning;
+mod coming;
+mod controlling;
 mod ending;
 mod exchanging;
 mod ingesting;
-mod onward;
+mod moving;
 mod receiving;
+mod rooms;
 mod sending;
 mod stepping;
+mod tally;
 mod turn;
 mod worker;
 mod writing;

@@ -1,5 +1,5 @@
 //! How a worker takes messages.
-ghost use Rattle.std.specs.Prelude.{◌≡◌, ◌<◌, ◌≤◌, ℕ, false, All, IsOk, OnErr, OnOk};
+ghost use Rattle.std.specs.Prelude.{◌≡◌, ◌<◌, ◌≤◌, ℕ, false, IsOk, OnErr};
 ghost use Rattle.mp_names.specs.declared.names.Name.{Name};
 ghost use Rattle.mp_names.specs.declared.names.Name.TheVariants.{Row as RowName, Written};
 ghost use Rattle.mp_names.specs.declared.kinds.Kind.TheVariants.{Receive};
@@ -14,10 +14,11 @@ ghost use Rattle.mp_parts.specs.Kept.{IsHostAt};
 ghost use Rattle.mp_states.specs.Ends.{AtEnds, FollowsLog};
 ghost use Rattle.mp_states.specs.Mail.{MailHinders, MailLets};
 ghost use Rattle.mp_states.specs.State.{CanMake, Makes};
-ghost use Rattle.mp_worker.specs.Rooms.{SameButRoom};
 ghost use Rattle.mp_worker.specs.Turns.{IfMade, IfNoName};
 
 use crate::Worker;
+use crate::coming::{Packet, take_control, take_packet};
+use crate::rooms::{lists_for, make_room_in_hosts, make_room_in_movers, make_room_to_take};
 use mp_host::Host;
 use mp_mailbox::Post;
 use mp_model::{Fields, Naming, Query, Rec, Time};
@@ -28,9 +29,9 @@ use mp_rows::{Log, LogList};
 use std::alloc::AllocError;
 
 impl<'a, Q: Query, J: Naming> Worker<'a, Q, J> {
-    /// The message that waits longest in the mailbox from a worker is taken, a record to the host of its stage, an answer
-    /// row to those to be written: its name, or `None` exactly where the mailbox was empty. `AllocError`: no memory, and
-    /// nothing changes.
+    /// The message that waits longest in the mailbox from a worker is taken: a control record is noted, a record goes to the
+    /// host of its stage, and so does the state of a bin that moves; an answer row goes to those to be written. Its name, or
+    /// `None` exactly where the mailbox was empty. `AllocError`: no memory, and nothing changes.
     pub(crate) fn receive<P: Post<Msg<Q, J>>>(
         &mut self,
         from: u32,
@@ -57,15 +58,38 @@ impl<'a, Q: Query, J: Naming> Worker<'a, Q, J> {
         ensures same_depth { P.depth post.new ≡ P.depth post.old }
         ensures same_ends { (worker : ℕ) → P.serves post.old worker → P.serves post.new worker }
     {
-        make_room_to_take(&mut self.log, &mut self.rows, &mut self.hosts)?;
+        let times = self.job.times().len();
+        let mut lists = lists_for(self.alloc, times)?;
+        make_room_to_take(times, &mut self.log, &mut self.rows, &mut self.owners)?;
+        make_room_in_hosts(&mut self.hosts)?;
+        make_room_in_movers(&mut self.movers)?;
         let Some(message) = post.pop(from, self.number) else {
             return Ok(None);
         };
         let name = message.name();
         match message.into_body() {
+            Body::Ctrl { index, control, .. } => {
+                let movers = &mut self.movers[control.stage as usize];
+                take_control(&mut self.log, &mut self.owners, movers, index, control)?;
+            }
             Body::Rec { stage, rec } => {
                 let host = &mut self.hosts[stage as usize];
                 take_record(&mut self.log, host, name, stage, rec)?;
+            }
+            Body::Packet {
+                stage,
+                bin,
+                time,
+                state,
+            } => {
+                let host = &mut self.hosts[stage as usize];
+                let packet = Packet {
+                    stage,
+                    bin,
+                    time,
+                    state,
+                };
+                take_packet(&mut self.log, host, packet, &mut lists)?;
             }
             Body::Row { time, tag, fields } => {
                 take_row(&mut self.log, &mut self.rows, name, time, tag, fields)?;
@@ -73,27 +97,6 @@ impl<'a, Q: Query, J: Naming> Worker<'a, Q, J> {
         }
         Ok(Some(name))
     }
-}
-
-// Makes room for one message, whatever it holds.
-fn make_room_to_take<'a, Q: Query, J: Naming>(
-    log: &mut Log<Q, J>,
-    rows: &mut Rows<Q, J>,
-    hosts: &mut [Host<'a, Q, J>],
-) -> Result<(), AllocError>
-    ensures same_log { (log.new.worker ≡ log.old.worker) × (log.new.log ≡ log.old.log) }
-    ensures same_rows { rows.new.rows ≡ rows.old.rows }
-    ensures same_hosts { SameButRoom hosts.old hosts.new }
-    ensures log { OnOk result ((1 ≤ log.new.room_for_names) × (2 ≤ log.new.room_for_changes)) }
-    ensures rows { OnOk result (1 ≤ rows.new.room) }
-    ensures hosts { OnOk result (All (λ h. 1 ≤ h.room) hosts.new) }
-{
-    log.make_room(2)?;
-    rows.make_room(1)?;
-    for host in hosts {
-        host.make_room(1)?;
-    }
-    Ok(())
 }
 
 // Takes a record that is owed to this worker to its host. There is room for it.

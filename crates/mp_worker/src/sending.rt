@@ -1,9 +1,8 @@
 //! How a worker sends records and answer rows.
-ghost use Rattle.std.specs.Prelude.{◌≡◌, ◌<◌, ◌≤◌, ℕ, Bool, IfErr, IfOk, OnErr, OnOk, length};
+ghost use Rattle.std.specs.Prelude.{◌≡◌, ◌<◌, ◌≤◌, ℕ, IfErr, IfOk, OnErr, OnOk, length};
 ghost use Rattle.mp_names.specs.declared.names.Name.{Name};
 ghost use Rattle.mp_names.specs.declared.kinds.Kind.TheVariants.{Route, SendRow};
-ghost use Rattle.mp_names.specs.Keeping.{IsHeld};
-ghost use Rattle.mp_names.specs.Logs.{LogIsLegal, with_sent};
+ghost use Rattle.mp_names.specs.Logs.{with_sent};
 ghost use Rattle.mp_names.specs.Outlines.{receiver};
 ghost use Rattle.mp_job.specs.Legal.{JobIsLegal};
 ghost use Rattle.mp_outline.specs.JobOutline.{outline_of};
@@ -11,6 +10,7 @@ ghost use Rattle.mp_rows.specs.Entries.{AreChanges};
 ghost use Rattle.mp_states.specs.Ends.{AtEnds, FollowsLog};
 ghost use Rattle.mp_states.specs.Mail.{MailHinders, MailLets};
 ghost use Rattle.mp_states.specs.State.{CanMake, Makes};
+ghost use Rattle.mp_worker.specs.Sending.{MaySend};
 ghost use Rattle.mp_worker.specs.Turns.{IfMade, IfNoName};
 
 use crate::Worker;
@@ -119,9 +119,9 @@ impl<'a, Q: Query, J: Naming> Worker<'a, Q, J> {
     }
 }
 
-// Pushes a message that the log's worker has to send and hasn't sent, and puts its name into the log, with what that
+// Pushes a message that the log's worker may send, and puts its name into the log, with what that
 // changes at the counts. `Err`: the mailbox was full; the message comes back, and the log is as it was.
-fn send<Q: Query, J: Naming, P: Post<Msg<Q, J>>>(
+pub(crate) fn send<Q: Query, J: Naming, P: Post<Msg<Q, J>>>(
     log: &mut Log<Q, J>,
     post: &mut P,
     to: u32,
@@ -130,8 +130,7 @@ fn send<Q: Query, J: Naming, P: Post<Msg<Q, J>>>(
 ) -> Result<Name, Msg<Q, J>>
     requires job { JobIsLegal (Q.facts J.job.rules) J.job }
     requires worker { log.old.worker < J.job.shape.workers }
-    requires log { LogIsLegal (outline_of (Q.facts J.job.rules) J.job) log.old.worker log.old.log }
-    requires held { (kind : Name → Bool) × IsHeld (outline_of (Q.facts J.job.rules) J.job) log.old.worker log.old.log kind message }
+    requires may { MaySend (outline_of (Q.facts J.job.rules) J.job) log.old.worker log.old.log message }
     requires to { to ≡ receiver (outline_of (Q.facts J.job.rules) J.job) message }
     requires changes { let o = outline_of (Q.facts J.job.rules) J.job in
         AreChanges o log.old.worker log.old.log (with_sent log.old.log message) changes.now }

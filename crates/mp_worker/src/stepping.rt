@@ -134,12 +134,13 @@ impl<'a, Q: Query, J: Naming> Worker<'a, Q, J> {
         }
         match kind {
             Kind::Ingest => self.ingest(),
+            Kind::SendControl => self.send_control(post),
             Kind::Route(stage) => self.route(stage, post),
             Kind::Receive(from) => self.receive(from, post),
+            Kind::Extract(stage) => self.extract(stage, post),
+            Kind::Settle(stage) => self.settle(stage),
             Kind::Apply(stage) => self.apply(stage),
             Kind::SendRow => self.send_row(post),
-            // The job has no control records.
-            Kind::SendControl | Kind::Extract(_) | Kind::Settle(_) => Ok(None),
             Kind::Write | Kind::Exchange => unreachable!(),
         }
     }

@@ -1,12 +1,6 @@
 //! A worker and its parts.
-ghost use Rattle.std.specs.Prelude.{◌≡◌, ◌<◌, ◌↔◌, IfOk, IsTrue, replicate};
-ghost use Rattle.mp_names.specs.Logs.{empty_log};
-ghost use Rattle.mp_board.specs.Boards.{ShowsFrontiers};
-ghost use Rattle.mp_outline.specs.JobOutline.{outline_of};
-ghost use Rattle.mp_output.specs.Rows.{GivesRows};
-ghost use Rattle.mp_states.specs.Together.{KnowsTheEnd};
-
 use mp_bins::Owners;
+use mp_handoff::Movers;
 use mp_host::Host;
 use mp_job::Job;
 use mp_model::{Naming, Query};
@@ -14,11 +8,11 @@ use mp_output::{Rows, Unsent};
 use mp_route::Router;
 use mp_rows::Log;
 use mp_stamps::Seen;
-use std::alloc::{AllocError, Global};
+use std::alloc::Global;
 use std::marker::Model;
 
 /// One worker of the job J of the query Q. Contracts see a `WorkerState`: its number, its log, and what it saw at its last
-/// exchange. The query's last stage gives rows alone, and the job has no control records yet.
+/// exchange. The query's last stage gives rows alone.
 #[derive(Drop)]
 pub struct Worker<'a, Q: Query, J: Naming> {
     pub(crate) alloc: Global,
@@ -26,10 +20,14 @@ pub struct Worker<'a, Q: Query, J: Naming> {
     pub(crate) number: u32,
     pub(crate) log: Log<Q, J>,
     pub(crate) seen: Seen,
+    // The control records that it took.
     pub(crate) owners: Owners,
+    // On worker 0 the index and the receiver of the first control record that isn't sent.
+    pub(crate) next: (u32, u32),
     // By the stages' numbers.
     pub(crate) routers: Vec<Router<Q, J>>,
     pub(crate) hosts: Vec<Host<'a, Q, J>>,
+    pub(crate) movers: Vec<Movers<Q, J>>,
     // The answer rows of its own groups.
     pub(crate) unsent: Unsent<Q, J>,
     // The answer rows that it took, on worker 0.
@@ -45,6 +43,6 @@ impl<'a, Q: Query, J: Naming> Model for Worker<'a, Q, J> {
     ghost view = { λ w. record { number = w.number; log = w.log.log; seen = w.seen } };
 
     ghost invariant = { λ w.
-        IsKept (Q.facts J.job.rules) J.job w.job.now w.number w.log w.owners
-        (parts_with w.log w.seen w.routers.items w.hosts.items w.unsent w.rows) };
+        IsKept (Q.facts J.job.rules) J.job w.job.now w.number w.log
+        (parts_with w.log w.seen w.owners (w.next.0, w.next.1) w.routers.items w.hosts.items w.movers.items w.unsent w.rows) };
 }

@@ -10,8 +10,9 @@ loop-stage-preserved g c =
     let job = g.J.Naming.job in
     let all = c.loop-stage.invariant.all in
     let old = c.loop-stage.hosts.items in
+    let made = c.in_ok-new in
     rw c.in_ok-push.ensures.items
     (record {
-      all = omega (arith, all, length-append old (c.new.result ∷ []));
-      each = one_more_at (IsHostAt q job c.args.worker empty_log) old c.new.result c.loop-stage.invariant.each (rw all (c.new.ensures.stage, c.new.ensures.worker, c.new.ensures.held));
+      all = omega (arith, all, length-append old (made.field-0 ∷ []));
+      each = one_more_at (IsHostAt q job c.args.worker empty_log) old made.field-0 c.loop-stage.invariant.each (rw all (made.ensures.stage, made.ensures.worker, made.ensures.held));
     })

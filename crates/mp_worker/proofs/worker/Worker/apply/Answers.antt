@@ -10,7 +10,7 @@ use Rattle.mp_outline.specs.JobOutline.{name_of_record}
 use Rattle.mp_msg.specs.Contents.{IsRecordOf}
 use Rattle.mp_route.specs.Routed.{Routed}
 use Rattle.mp_route.specs.Unsent.{HoldsAllBut, HoldsUnsent}
-use Rattle.mp_worker.specs.Onward.{content, records_at}
+use Rattle.mp_parts.specs.Onward.{content, records_at}
 use Rattle.mp_worker.proofs.Applied.{AppliesBy, Fields, all_written, can_apply, changes_are, changes_length, in_time, informed, kept_so_far, kept_with_records, kept_with_room, kept_with_rows, keyed, knows, none_to_apply, records_are, router_at, rows_are, same_length}
 use Rattle.mp_worker.proofs.Counted.{woken_once}
 use Rattle.mp_worker.proofs.worker.Worker.apply.Goals as goal
@@ -24,7 +24,7 @@ returns-then-is_none-clause-none g c =
     let q = g.Q.Query.facts rules in
     let keeps : AppliesBy q = record { stages = laws.has_stages rules; later = laws.posts_are_later rules; nothing = laws.later_stages_post_nothing rules; keys = laws.outputs_have_keys rules } in
     let i = c.self.inside in
-    let f : Fields g.row.Q-Cell.Denot = record { number = i.number; log = i.log; owners = i.owners; seen = i.seen; routers = i.routers.items; hosts = i.hosts.items; unsent = i.unsent; unwritten = i.rows } in
+    let f : Fields g.row.Q-Cell.Denot = record { number = i.number; log = i.log; seen = i.seen; notes = i.owners; next = i.next; routers = i.routers.items; hosts = i.hosts.items; movers = i.movers.items; unsent = i.unsent; unwritten = i.rows } in
     let h = c.index_mut-host.result.now in
     let is : h ≡ get_or i.hosts.items c.args.stage h = c.index_mut-host.ensures.value in
     rw (← c.self.view_is) (none_to_apply q keeps job i.job.now f c.self.invariant c.args.stage c.requires.stage h is (λ t k ready.
@@ -41,26 +41,26 @@ most-most-requires-clause-informed g c = λ κs within.
     let q = g.Q.Query.facts rules in
     let keeps : AppliesBy q = record { stages = laws.has_stages rules; later = laws.posts_are_later rules; nothing = laws.later_stages_post_nothing rules; keys = laws.outputs_have_keys rules } in
     let i = c.self.inside in
-    let f : Fields g.row.Q-Cell.Denot = record { number = i.number; log = i.log; owners = i.owners; seen = i.seen; routers = i.routers.items; hosts = i.hosts.items; unsent = i.unsent; unwritten = i.rows } in
+    let f : Fields g.row.Q-Cell.Denot = record { number = i.number; log = i.log; seen = i.seen; notes = i.owners; next = i.next; routers = i.routers.items; hosts = i.hosts.items; movers = i.movers.items; unsent = i.unsent; unwritten = i.rows } in
     let h = c.index_mut-host.result.now in
     let is : h ≡ get_or i.hosts.items c.args.stage h = c.index_mut-host.ensures.value in
     (i.log.log, informed q keeps job i.job.now f c.self.invariant c.args.stage c.requires.stage h is, knows q keeps job i.job.now f c.self.invariant c.args.stage c.requires.stage h is)
 
-pub invariant_of-self-in_err-make_room : goal.invariant_of-self-in_err-make_room
-invariant_of-self-in_err-make_room g c =
+pub invariant_of-self-in_err-make_room_onward : goal.invariant_of-self-in_err-make_room_onward
+invariant_of-self-in_err-make_room_onward g c =
     let laws = g.met.Q.Query g.world.𝓛 g.world.𝓜 g.world.𝓡 ((λ s x. x), (λ x. x), (λ x. x), λ x. x) in
     let job = g.J.Naming.job in
     let rules = job.rules in
     let q = g.Q.Query.facts rules in
     let keeps : AppliesBy q = record { stages = laws.has_stages rules; later = laws.posts_are_later rules; nothing = laws.later_stages_post_nothing rules; keys = laws.outputs_have_keys rules } in
     let i = c.self.inside in
-    let f : Fields g.row.Q-Cell.Denot = record { number = i.number; log = i.log; owners = i.owners; seen = i.seen; routers = i.routers.items; hosts = i.hosts.items; unsent = i.unsent; unwritten = i.rows } in
+    let f : Fields g.row.Q-Cell.Denot = record { number = i.number; log = i.log; seen = i.seen; notes = i.owners; next = i.next; routers = i.routers.items; hosts = i.hosts.items; movers = i.movers.items; unsent = i.unsent; unwritten = i.rows } in
     let h = c.index_mut-host.result.now in
     let is : h ≡ get_or i.hosts.items c.args.stage h = c.index_mut-host.ensures.value in
-    let routers = c.make_room.new.routers in
-    let same : map content routers ≡ map content i.routers.items = c.make_room.ensures.held ∙ ap (map content) c.deref_mut.ensures.value in
+    let routers = c.make_room_onward.new.routers in
+    let same : map content routers ≡ map content i.routers.items = c.make_room_onward.ensures.held ∙ ap (map content) c.deref_mut.ensures.value in
     let length_is : i.routers.len ≡ length i.routers.items = i.routers.ok.0 in
-    kept_so_far q keeps job i.job.now f c.self.invariant c.args.stage c.requires.stage h is i.routers.len length_is i.log routers h c.make_room.new.unsent refl refl same refl c.make_room.ensures.rows
+    kept_so_far q keeps job i.job.now f c.self.invariant c.args.stage c.requires.stage h is i.routers.len length_is i.log routers h c.make_room_onward.new.unsent refl refl same refl c.make_room_onward.ensures.rows
 
 pub invariant_of-self-in_err-changes : goal.invariant_of-self-in_err-changes
 invariant_of-self-in_err-changes g c =
@@ -70,13 +70,13 @@ invariant_of-self-in_err-changes g c =
     let q = g.Q.Query.facts rules in
     let keeps : AppliesBy q = record { stages = laws.has_stages rules; later = laws.posts_are_later rules; nothing = laws.later_stages_post_nothing rules; keys = laws.outputs_have_keys rules } in
     let i = c.self.inside in
-    let f : Fields g.row.Q-Cell.Denot = record { number = i.number; log = i.log; owners = i.owners; seen = i.seen; routers = i.routers.items; hosts = i.hosts.items; unsent = i.unsent; unwritten = i.rows } in
+    let f : Fields g.row.Q-Cell.Denot = record { number = i.number; log = i.log; seen = i.seen; notes = i.owners; next = i.next; routers = i.routers.items; hosts = i.hosts.items; movers = i.movers.items; unsent = i.unsent; unwritten = i.rows } in
     let h = c.index_mut-host.result.now in
     let is : h ≡ get_or i.hosts.items c.args.stage h = c.index_mut-host.ensures.value in
-    let routers = c.make_room.new.routers in
-    let same : map content routers ≡ map content i.routers.items = c.make_room.ensures.held ∙ ap (map content) c.deref_mut.ensures.value in
+    let routers = c.make_room_onward.new.routers in
+    let same : map content routers ≡ map content i.routers.items = c.make_room_onward.ensures.held ∙ ap (map content) c.deref_mut.ensures.value in
     let length_is : i.routers.len ≡ length i.routers.items = i.routers.ok.0 in
-    kept_so_far q keeps job i.job.now f c.self.invariant c.args.stage c.requires.stage h is i.routers.len length_is c.room_in_log.new.log routers h c.make_room.new.unsent c.room_in_log.ensures.log c.room_in_log.ensures.worker same refl c.make_room.ensures.rows
+    kept_so_far q keeps job i.job.now f c.self.invariant c.args.stage c.requires.stage h is i.routers.len length_is c.room_in_log.new.log routers h c.make_room_onward.new.unsent c.room_in_log.ensures.log c.room_in_log.ensures.worker same refl c.make_room_onward.ensures.rows
 
 pub apply-requires-clause-informed : goal.apply-requires-clause-informed
 apply-requires-clause-informed g c = λ κs within.
@@ -86,7 +86,7 @@ apply-requires-clause-informed g c = λ κs within.
     let q = g.Q.Query.facts rules in
     let keeps : AppliesBy q = record { stages = laws.has_stages rules; later = laws.posts_are_later rules; nothing = laws.later_stages_post_nothing rules; keys = laws.outputs_have_keys rules } in
     let i = c.self.inside in
-    let f : Fields g.row.Q-Cell.Denot = record { number = i.number; log = i.log; owners = i.owners; seen = i.seen; routers = i.routers.items; hosts = i.hosts.items; unsent = i.unsent; unwritten = i.rows } in
+    let f : Fields g.row.Q-Cell.Denot = record { number = i.number; log = i.log; seen = i.seen; notes = i.owners; next = i.next; routers = i.routers.items; hosts = i.hosts.items; movers = i.movers.items; unsent = i.unsent; unwritten = i.rows } in
     let h = c.index_mut-host.result.now in
     let is : h ≡ get_or i.hosts.items c.args.stage h = c.index_mut-host.ensures.value in
     (i.log.log, informed q keeps job i.job.now f c.self.invariant c.args.stage c.requires.stage h is, knows q keeps job i.job.now f c.self.invariant c.args.stage c.requires.stage h is)
@@ -99,13 +99,13 @@ invariant_of-self-in_err-applied g c =
     let q = g.Q.Query.facts rules in
     let keeps : AppliesBy q = record { stages = laws.has_stages rules; later = laws.posts_are_later rules; nothing = laws.later_stages_post_nothing rules; keys = laws.outputs_have_keys rules } in
     let i = c.self.inside in
-    let f : Fields g.row.Q-Cell.Denot = record { number = i.number; log = i.log; owners = i.owners; seen = i.seen; routers = i.routers.items; hosts = i.hosts.items; unsent = i.unsent; unwritten = i.rows } in
+    let f : Fields g.row.Q-Cell.Denot = record { number = i.number; log = i.log; seen = i.seen; notes = i.owners; next = i.next; routers = i.routers.items; hosts = i.hosts.items; movers = i.movers.items; unsent = i.unsent; unwritten = i.rows } in
     let h = c.index_mut-host.result.now in
     let is : h ≡ get_or i.hosts.items c.args.stage h = c.index_mut-host.ensures.value in
-    let routers = c.make_room.new.routers in
-    let same : map content routers ≡ map content i.routers.items = c.make_room.ensures.held ∙ ap (map content) c.deref_mut.ensures.value in
+    let routers = c.make_room_onward.new.routers in
+    let same : map content routers ≡ map content i.routers.items = c.make_room_onward.ensures.held ∙ ap (map content) c.deref_mut.ensures.value in
     let length_is : i.routers.len ≡ length i.routers.items = i.routers.ok.0 in
-    kept_so_far q keeps job i.job.now f c.self.invariant c.args.stage c.requires.stage h is i.routers.len length_is c.room_in_log.new.log routers c.apply.new.self c.make_room.new.unsent c.room_in_log.ensures.log c.room_in_log.ensures.worker same c.in_err-applied.ensures.refused c.make_room.ensures.rows
+    kept_so_far q keeps job i.job.now f c.self.invariant c.args.stage c.requires.stage h is i.routers.len length_is c.room_in_log.new.log routers c.apply.new.self c.make_room_onward.new.unsent c.room_in_log.ensures.log c.room_in_log.ensures.worker same c.in_err-applied.ensures.refused c.make_room_onward.ensures.rows
 
 pub invariant_of-self-in_default : goal.invariant_of-self-in_default
 invariant_of-self-in_default g c =
@@ -115,13 +115,13 @@ invariant_of-self-in_default g c =
     let q = g.Q.Query.facts rules in
     let keeps : AppliesBy q = record { stages = laws.has_stages rules; later = laws.posts_are_later rules; nothing = laws.later_stages_post_nothing rules; keys = laws.outputs_have_keys rules } in
     let i = c.self.inside in
-    let f : Fields g.row.Q-Cell.Denot = record { number = i.number; log = i.log; owners = i.owners; seen = i.seen; routers = i.routers.items; hosts = i.hosts.items; unsent = i.unsent; unwritten = i.rows } in
+    let f : Fields g.row.Q-Cell.Denot = record { number = i.number; log = i.log; seen = i.seen; notes = i.owners; next = i.next; routers = i.routers.items; hosts = i.hosts.items; movers = i.movers.items; unsent = i.unsent; unwritten = i.rows } in
     let h = c.index_mut-host.result.now in
     let is : h ≡ get_or i.hosts.items c.args.stage h = c.index_mut-host.ensures.value in
-    let routers = c.make_room.new.routers in
-    let same : map content routers ≡ map content i.routers.items = c.make_room.ensures.held ∙ ap (map content) c.deref_mut.ensures.value in
+    let routers = c.make_room_onward.new.routers in
+    let same : map content routers ≡ map content i.routers.items = c.make_room_onward.ensures.held ∙ ap (map content) c.deref_mut.ensures.value in
     let length_is : i.routers.len ≡ length i.routers.items = i.routers.ok.0 in
-    kept_so_far q keeps job i.job.now f c.self.invariant c.args.stage c.requires.stage h is i.routers.len length_is c.room_in_log.new.log routers c.apply.new.self c.make_room.new.unsent c.room_in_log.ensures.log c.room_in_log.ensures.worker same (rw c.in_default.is at c.in_ok-applied.ensures.unchanged) c.make_room.ensures.rows
+    kept_so_far q keeps job i.job.now f c.self.invariant c.args.stage c.requires.stage h is i.routers.len length_is c.room_in_log.new.log routers c.apply.new.self c.make_room_onward.new.unsent c.room_in_log.ensures.log c.room_in_log.ensures.worker same (rw c.in_default.is at c.in_ok-applied.ensures.unchanged) c.make_room_onward.ensures.rows
 
 pub push-requires-clause-changes : goal.push-requires-clause-changes
 push-requires-clause-changes g c = λ κs within.
@@ -131,15 +131,15 @@ push-requires-clause-changes g c = λ κs within.
     let q = g.Q.Query.facts rules in
     let keeps : AppliesBy q = record { stages = laws.has_stages rules; later = laws.posts_are_later rules; nothing = laws.later_stages_post_nothing rules; keys = laws.outputs_have_keys rules } in
     let i = c.self.inside in
-    let f : Fields g.row.Q-Cell.Denot = record { number = i.number; log = i.log; owners = i.owners; seen = i.seen; routers = i.routers.items; hosts = i.hosts.items; unsent = i.unsent; unwritten = i.rows } in
+    let f : Fields g.row.Q-Cell.Denot = record { number = i.number; log = i.log; seen = i.seen; notes = i.owners; next = i.next; routers = i.routers.items; hosts = i.hosts.items; movers = i.movers.items; unsent = i.unsent; unwritten = i.rows } in
     let h = c.index_mut-host.result.now in
     let is : h ≡ get_or i.hosts.items c.args.stage h = c.index_mut-host.ensures.value in
-    let routers = c.make_room.new.routers in
-    let same : map content routers ≡ map content i.routers.items = c.make_room.ensures.held ∙ ap (map content) c.deref_mut.ensures.value in
+    let routers = c.make_room_onward.new.routers in
+    let same : map content routers ≡ map content i.routers.items = c.make_room_onward.ensures.held ∙ ap (map content) c.deref_mut.ensures.value in
     let log = c.room_in_log.new.log in
-    let unsent = c.make_room.new.unsent in
+    let unsent = c.make_room_onward.new.unsent in
     let m : Fields g.row.Q-Cell.Denot = record f { log = log; routers = routers; unsent = unsent } in
-    let kept = kept_with_room q keeps job i.job.now f c.self.invariant log routers unsent c.room_in_log.ensures.log c.room_in_log.ensures.worker same c.make_room.ensures.rows in
+    let kept = kept_with_room q keeps job i.job.now f c.self.invariant log routers unsent c.room_in_log.ensures.log c.room_in_log.ensures.worker same c.make_room_onward.ensures.rows in
     let applied = c.in-Some.applied in
     let does = (rw c.in-Some.is at c.in_ok-applied.ensures.held) log.log (informed q keeps job i.job.now m kept c.args.stage c.requires.stage h is) in
     let stages_are : c.shape-stages.result.stages ≡ job.shape.stages = ap (λ (s : Shape). s.stages) c.shape-stages.ensures.shape ∙ ap (λ (facts : JobFacts). facts.shape.stages) c.self.invariant.same in
@@ -169,15 +169,15 @@ hold_records-requires-clause-time g c = λ κs within.
     let q = g.Q.Query.facts rules in
     let keeps : AppliesBy q = record { stages = laws.has_stages rules; later = laws.posts_are_later rules; nothing = laws.later_stages_post_nothing rules; keys = laws.outputs_have_keys rules } in
     let i = c.self.inside in
-    let f : Fields g.row.Q-Cell.Denot = record { number = i.number; log = i.log; owners = i.owners; seen = i.seen; routers = i.routers.items; hosts = i.hosts.items; unsent = i.unsent; unwritten = i.rows } in
+    let f : Fields g.row.Q-Cell.Denot = record { number = i.number; log = i.log; seen = i.seen; notes = i.owners; next = i.next; routers = i.routers.items; hosts = i.hosts.items; movers = i.movers.items; unsent = i.unsent; unwritten = i.rows } in
     let h = c.index_mut-host.result.now in
     let is : h ≡ get_or i.hosts.items c.args.stage h = c.index_mut-host.ensures.value in
-    let routers = c.make_room.new.routers in
-    let same : map content routers ≡ map content i.routers.items = c.make_room.ensures.held ∙ ap (map content) c.deref_mut.ensures.value in
+    let routers = c.make_room_onward.new.routers in
+    let same : map content routers ≡ map content i.routers.items = c.make_room_onward.ensures.held ∙ ap (map content) c.deref_mut.ensures.value in
     let log = c.room_in_log.new.log in
-    let unsent = c.make_room.new.unsent in
+    let unsent = c.make_room_onward.new.unsent in
     let m : Fields g.row.Q-Cell.Denot = record f { log = log; routers = routers; unsent = unsent } in
-    let kept = kept_with_room q keeps job i.job.now f c.self.invariant log routers unsent c.room_in_log.ensures.log c.room_in_log.ensures.worker same c.make_room.ensures.rows in
+    let kept = kept_with_room q keeps job i.job.now f c.self.invariant log routers unsent c.room_in_log.ensures.log c.room_in_log.ensures.worker same c.make_room_onward.ensures.rows in
     let applied = c.in-Some.applied in
     let does = (rw c.in-Some.is at c.in_ok-applied.ensures.held) log.log (informed q keeps job i.job.now m kept c.args.stage c.requires.stage h is) in
     in_time q keeps job i.job.now m kept c.args.stage c.requires.stage h is applied.time applied.key does.ready
@@ -190,15 +190,15 @@ hold_records-requires-clause-keys g c = λ κs within.
     let q = g.Q.Query.facts rules in
     let keeps : AppliesBy q = record { stages = laws.has_stages rules; later = laws.posts_are_later rules; nothing = laws.later_stages_post_nothing rules; keys = laws.outputs_have_keys rules } in
     let i = c.self.inside in
-    let f : Fields g.row.Q-Cell.Denot = record { number = i.number; log = i.log; owners = i.owners; seen = i.seen; routers = i.routers.items; hosts = i.hosts.items; unsent = i.unsent; unwritten = i.rows } in
+    let f : Fields g.row.Q-Cell.Denot = record { number = i.number; log = i.log; seen = i.seen; notes = i.owners; next = i.next; routers = i.routers.items; hosts = i.hosts.items; movers = i.movers.items; unsent = i.unsent; unwritten = i.rows } in
     let h = c.index_mut-host.result.now in
     let is : h ≡ get_or i.hosts.items c.args.stage h = c.index_mut-host.ensures.value in
-    let routers = c.make_room.new.routers in
-    let same : map content routers ≡ map content i.routers.items = c.make_room.ensures.held ∙ ap (map content) c.deref_mut.ensures.value in
+    let routers = c.make_room_onward.new.routers in
+    let same : map content routers ≡ map content i.routers.items = c.make_room_onward.ensures.held ∙ ap (map content) c.deref_mut.ensures.value in
     let log = c.room_in_log.new.log in
-    let unsent = c.make_room.new.unsent in
+    let unsent = c.make_room_onward.new.unsent in
     let m : Fields g.row.Q-Cell.Denot = record f { log = log; routers = routers; unsent = unsent } in
-    let kept = kept_with_room q keeps job i.job.now f c.self.invariant log routers unsent c.room_in_log.ensures.log c.room_in_log.ensures.worker same c.make_room.ensures.rows in
+    let kept = kept_with_room q keeps job i.job.now f c.self.invariant log routers unsent c.room_in_log.ensures.log c.room_in_log.ensures.worker same c.make_room_onward.ensures.rows in
     let applied = c.in-Some.applied in
     let does = (rw c.in-Some.is at c.in_ok-applied.ensures.held) log.log (informed q keeps job i.job.now m kept c.args.stage c.requires.stage h is) in
     let stages_are : c.shape-stages.result.stages ≡ job.shape.stages = ap (λ (s : Shape). s.stages) c.shape-stages.ensures.shape ∙ ap (λ (facts : JobFacts). facts.shape.stages) c.self.invariant.same in
@@ -214,14 +214,14 @@ hold_records-requires-clause-stage g c = λ κs within.
     let q = g.Q.Query.facts rules in
     let keeps : AppliesBy q = record { stages = laws.has_stages rules; later = laws.posts_are_later rules; nothing = laws.later_stages_post_nothing rules; keys = laws.outputs_have_keys rules } in
     let i = c.self.inside in
-    let f : Fields g.row.Q-Cell.Denot = record { number = i.number; log = i.log; owners = i.owners; seen = i.seen; routers = i.routers.items; hosts = i.hosts.items; unsent = i.unsent; unwritten = i.rows } in
-    let routers = c.make_room.new.routers in
-    let same : map content routers ≡ map content i.routers.items = c.make_room.ensures.held ∙ ap (map content) c.deref_mut.ensures.value in
+    let f : Fields g.row.Q-Cell.Denot = record { number = i.number; log = i.log; seen = i.seen; notes = i.owners; next = i.next; routers = i.routers.items; hosts = i.hosts.items; movers = i.movers.items; unsent = i.unsent; unwritten = i.rows } in
+    let routers = c.make_room_onward.new.routers in
+    let same : map content routers ≡ map content i.routers.items = c.make_room_onward.ensures.held ∙ ap (map content) c.deref_mut.ensures.value in
     let length_is : i.routers.len ≡ length i.routers.items = i.routers.ok.0 in
     let log = c.room_in_log.new.log in
-    let unsent = c.make_room.new.unsent in
+    let unsent = c.make_room_onward.new.unsent in
     let m : Fields g.row.Q-Cell.Denot = record f { log = log; routers = routers; unsent = unsent } in
-    let kept = kept_with_room q keeps job i.job.now f c.self.invariant log routers unsent c.room_in_log.ensures.log c.room_in_log.ensures.worker same c.make_room.ensures.rows in
+    let kept = kept_with_room q keeps job i.job.now f c.self.invariant log routers unsent c.room_in_log.ensures.log c.room_in_log.ensures.worker same c.make_room_onward.ensures.rows in
     let stages_are : c.shape-stages.result.stages ≡ job.shape.stages = ap (λ (s : Shape). s.stages) c.shape-stages.ensures.shape ∙ ap (λ (facts : JobFacts). facts.shape.stages) c.self.invariant.same in
     let next : suc c.args.stage < job.shape.stages = let test = c.if-stage-stages.true in omega arith in
     let written = all_written i.routers.len i.routers.items routers length_is (same_length routers i.routers.items same) in
@@ -237,15 +237,15 @@ hold_records-requires-clause-records g c = λ κs within.
     let q = g.Q.Query.facts rules in
     let keeps : AppliesBy q = record { stages = laws.has_stages rules; later = laws.posts_are_later rules; nothing = laws.later_stages_post_nothing rules; keys = laws.outputs_have_keys rules } in
     let i = c.self.inside in
-    let f : Fields g.row.Q-Cell.Denot = record { number = i.number; log = i.log; owners = i.owners; seen = i.seen; routers = i.routers.items; hosts = i.hosts.items; unsent = i.unsent; unwritten = i.rows } in
+    let f : Fields g.row.Q-Cell.Denot = record { number = i.number; log = i.log; seen = i.seen; notes = i.owners; next = i.next; routers = i.routers.items; hosts = i.hosts.items; movers = i.movers.items; unsent = i.unsent; unwritten = i.rows } in
     let h = c.index_mut-host.result.now in
     let is : h ≡ get_or i.hosts.items c.args.stage h = c.index_mut-host.ensures.value in
-    let routers = c.make_room.new.routers in
-    let same : map content routers ≡ map content i.routers.items = c.make_room.ensures.held ∙ ap (map content) c.deref_mut.ensures.value in
+    let routers = c.make_room_onward.new.routers in
+    let same : map content routers ≡ map content i.routers.items = c.make_room_onward.ensures.held ∙ ap (map content) c.deref_mut.ensures.value in
     let log = c.room_in_log.new.log in
-    let unsent = c.make_room.new.unsent in
+    let unsent = c.make_room_onward.new.unsent in
     let m : Fields g.row.Q-Cell.Denot = record f { log = log; routers = routers; unsent = unsent } in
-    let kept = kept_with_room q keeps job i.job.now f c.self.invariant log routers unsent c.room_in_log.ensures.log c.room_in_log.ensures.worker same c.make_room.ensures.rows in
+    let kept = kept_with_room q keeps job i.job.now f c.self.invariant log routers unsent c.room_in_log.ensures.log c.room_in_log.ensures.worker same c.make_room_onward.ensures.rows in
     let applied = c.in-Some.applied in
     let does = (rw c.in-Some.is at c.in_ok-applied.ensures.held) log.log (informed q keeps job i.job.now m kept c.args.stage c.requires.stage h is) in
     let stages_are : c.shape-stages.result.stages ≡ job.shape.stages = ap (λ (s : Shape). s.stages) c.shape-stages.ensures.shape ∙ ap (λ (facts : JobFacts). facts.shape.stages) c.self.invariant.same in
@@ -257,8 +257,8 @@ pub hold_records-requires-clause-room : goal.hold_records-requires-clause-room
 hold_records-requires-clause-room g c = λ κs within.
     let job = g.J.Naming.job in
     let i = c.self.inside in
-    let routers = c.make_room.new.routers in
-    let same : map content routers ≡ map content i.routers.items = c.make_room.ensures.held ∙ ap (map content) c.deref_mut.ensures.value in
+    let routers = c.make_room_onward.new.routers in
+    let same : map content routers ≡ map content i.routers.items = c.make_room_onward.ensures.held ∙ ap (map content) c.deref_mut.ensures.value in
     let length_is : i.routers.len ≡ length i.routers.items = i.routers.ok.0 in
     let applied = c.in-Some.applied in
     let whole = c.in_ok-changes.ensures.whole in
@@ -274,7 +274,7 @@ hold_records-requires-clause-room g c = λ κs within.
     let all = c.self.invariant.parts.all_routers in
     let there = same_length routers i.routers.items same in
     let found = slice_get-get_or routers (c.args.stage + 1) r (omega arith) ∙ ap (λ (x : Routed). Some x) (sym at) in
-    let roomy = c.in_ok-make_room.ensures.router r found in
+    let roomy = c.in_ok-make_room_onward.ensures.router r found in
     omega arith
 
 pub invariant_of-self-in-Continue-branch-7 : goal.invariant_of-self-in-Continue-branch-7
@@ -285,16 +285,16 @@ invariant_of-self-in-Continue-branch-7 g c =
     let q = g.Q.Query.facts rules in
     let keeps : AppliesBy q = record { stages = laws.has_stages rules; later = laws.posts_are_later rules; nothing = laws.later_stages_post_nothing rules; keys = laws.outputs_have_keys rules } in
     let i = c.self.inside in
-    let f : Fields g.row.Q-Cell.Denot = record { number = i.number; log = i.log; owners = i.owners; seen = i.seen; routers = i.routers.items; hosts = i.hosts.items; unsent = i.unsent; unwritten = i.rows } in
+    let f : Fields g.row.Q-Cell.Denot = record { number = i.number; log = i.log; seen = i.seen; notes = i.owners; next = i.next; routers = i.routers.items; hosts = i.hosts.items; movers = i.movers.items; unsent = i.unsent; unwritten = i.rows } in
     let h = c.index_mut-host.result.now in
     let is : h ≡ get_or i.hosts.items c.args.stage h = c.index_mut-host.ensures.value in
-    let routers = c.make_room.new.routers in
-    let same : map content routers ≡ map content i.routers.items = c.make_room.ensures.held ∙ ap (map content) c.deref_mut.ensures.value in
+    let routers = c.make_room_onward.new.routers in
+    let same : map content routers ≡ map content i.routers.items = c.make_room_onward.ensures.held ∙ ap (map content) c.deref_mut.ensures.value in
     let length_is : i.routers.len ≡ length i.routers.items = i.routers.ok.0 in
     let log = c.room_in_log.new.log in
-    let unsent = c.make_room.new.unsent in
+    let unsent = c.make_room_onward.new.unsent in
     let m : Fields g.row.Q-Cell.Denot = record f { log = log; routers = routers; unsent = unsent } in
-    let kept = kept_with_room q keeps job i.job.now f c.self.invariant log routers unsent c.room_in_log.ensures.log c.room_in_log.ensures.worker same c.make_room.ensures.rows in
+    let kept = kept_with_room q keeps job i.job.now f c.self.invariant log routers unsent c.room_in_log.ensures.log c.room_in_log.ensures.worker same c.make_room_onward.ensures.rows in
     let applied = c.in-Some.applied in
     let does = (rw c.in-Some.is at c.in_ok-applied.ensures.held) log.log (informed q keeps job i.job.now m kept c.args.stage c.requires.stage h is) in
     let stages_are : c.shape-stages.result.stages ≡ job.shape.stages = ap (λ (s : Shape). s.stages) c.shape-stages.ensures.shape ∙ ap (λ (facts : JobFacts). facts.shape.stages) c.self.invariant.same in
@@ -316,15 +316,15 @@ hold_rows-requires-clause-rows g c = λ κs within.
     let q = g.Q.Query.facts rules in
     let keeps : AppliesBy q = record { stages = laws.has_stages rules; later = laws.posts_are_later rules; nothing = laws.later_stages_post_nothing rules; keys = laws.outputs_have_keys rules } in
     let i = c.self.inside in
-    let f : Fields g.row.Q-Cell.Denot = record { number = i.number; log = i.log; owners = i.owners; seen = i.seen; routers = i.routers.items; hosts = i.hosts.items; unsent = i.unsent; unwritten = i.rows } in
+    let f : Fields g.row.Q-Cell.Denot = record { number = i.number; log = i.log; seen = i.seen; notes = i.owners; next = i.next; routers = i.routers.items; hosts = i.hosts.items; movers = i.movers.items; unsent = i.unsent; unwritten = i.rows } in
     let h = c.index_mut-host.result.now in
     let is : h ≡ get_or i.hosts.items c.args.stage h = c.index_mut-host.ensures.value in
-    let routers = c.make_room.new.routers in
-    let same : map content routers ≡ map content i.routers.items = c.make_room.ensures.held ∙ ap (map content) c.deref_mut.ensures.value in
+    let routers = c.make_room_onward.new.routers in
+    let same : map content routers ≡ map content i.routers.items = c.make_room_onward.ensures.held ∙ ap (map content) c.deref_mut.ensures.value in
     let log = c.room_in_log.new.log in
-    let unsent = c.make_room.new.unsent in
+    let unsent = c.make_room_onward.new.unsent in
     let m : Fields g.row.Q-Cell.Denot = record f { log = log; routers = routers; unsent = unsent } in
-    let kept = kept_with_room q keeps job i.job.now f c.self.invariant log routers unsent c.room_in_log.ensures.log c.room_in_log.ensures.worker same c.make_room.ensures.rows in
+    let kept = kept_with_room q keeps job i.job.now f c.self.invariant log routers unsent c.room_in_log.ensures.log c.room_in_log.ensures.worker same c.make_room_onward.ensures.rows in
     let applied = c.in-Some.applied in
     let does = (rw c.in-Some.is at c.in_ok-applied.ensures.held) log.log (informed q keeps job i.job.now m kept c.args.stage c.requires.stage h is) in
     let stages_are : c.shape-stages.result.stages ≡ job.shape.stages = ap (λ (s : Shape). s.stages) c.shape-stages.ensures.shape ∙ ap (λ (facts : JobFacts). facts.shape.stages) c.self.invariant.same in
@@ -335,8 +335,8 @@ pub hold_rows-requires-clause-room : goal.hold_rows-requires-clause-room
 hold_rows-requires-clause-room g c = λ κs within.
     let job = g.J.Naming.job in
     let i = c.self.inside in
-    let routers = c.make_room.new.routers in
-    let same : map content routers ≡ map content i.routers.items = c.make_room.ensures.held ∙ ap (map content) c.deref_mut.ensures.value in
+    let routers = c.make_room_onward.new.routers in
+    let same : map content routers ≡ map content i.routers.items = c.make_room_onward.ensures.held ∙ ap (map content) c.deref_mut.ensures.value in
     let applied = c.in-Some.applied in
     let whole = c.in_ok-changes.ensures.whole in
     let ready = rw c.in-Some.is at c.in_ok-applied.ensures.ready in
@@ -347,7 +347,7 @@ hold_rows-requires-clause-room g c = λ κs within.
     let ends : suc c.args.stage ≡ job.shape.stages = let test = c.if-stage-stages.false in let below = c.requires.stage in omega arith in
     let all = c.self.invariant.parts.all_routers in
     let there = same_length routers i.routers.items same in
-    let roomy = c.in_ok-make_room.ensures.unsent (slice_get_past routers (c.args.stage + 1) (omega arith)) in
+    let roomy = c.in_ok-make_room_onward.ensures.unsent (slice_get_past routers (c.args.stage + 1) (omega arith)) in
     omega arith
 
 pub invariant_of-self-in-Continue-branch-8 : goal.invariant_of-self-in-Continue-branch-8
@@ -358,16 +358,16 @@ invariant_of-self-in-Continue-branch-8 g c =
     let q = g.Q.Query.facts rules in
     let keeps : AppliesBy q = record { stages = laws.has_stages rules; later = laws.posts_are_later rules; nothing = laws.later_stages_post_nothing rules; keys = laws.outputs_have_keys rules } in
     let i = c.self.inside in
-    let f : Fields g.row.Q-Cell.Denot = record { number = i.number; log = i.log; owners = i.owners; seen = i.seen; routers = i.routers.items; hosts = i.hosts.items; unsent = i.unsent; unwritten = i.rows } in
+    let f : Fields g.row.Q-Cell.Denot = record { number = i.number; log = i.log; seen = i.seen; notes = i.owners; next = i.next; routers = i.routers.items; hosts = i.hosts.items; movers = i.movers.items; unsent = i.unsent; unwritten = i.rows } in
     let h = c.index_mut-host.result.now in
     let is : h ≡ get_or i.hosts.items c.args.stage h = c.index_mut-host.ensures.value in
-    let routers = c.make_room.new.routers in
-    let same : map content routers ≡ map content i.routers.items = c.make_room.ensures.held ∙ ap (map content) c.deref_mut.ensures.value in
+    let routers = c.make_room_onward.new.routers in
+    let same : map content routers ≡ map content i.routers.items = c.make_room_onward.ensures.held ∙ ap (map content) c.deref_mut.ensures.value in
     let length_is : i.routers.len ≡ length i.routers.items = i.routers.ok.0 in
     let log = c.room_in_log.new.log in
-    let unsent = c.make_room.new.unsent in
+    let unsent = c.make_room_onward.new.unsent in
     let m : Fields g.row.Q-Cell.Denot = record f { log = log; routers = routers; unsent = unsent } in
-    let kept = kept_with_room q keeps job i.job.now f c.self.invariant log routers unsent c.room_in_log.ensures.log c.room_in_log.ensures.worker same c.make_room.ensures.rows in
+    let kept = kept_with_room q keeps job i.job.now f c.self.invariant log routers unsent c.room_in_log.ensures.log c.room_in_log.ensures.worker same c.make_room_onward.ensures.rows in
     let applied = c.in-Some.applied in
     let does = (rw c.in-Some.is at c.in_ok-applied.ensures.held) log.log (informed q keeps job i.job.now m kept c.args.stage c.requires.stage h is) in
     let stages_are : c.shape-stages.result.stages ≡ job.shape.stages = ap (λ (s : Shape). s.stages) c.shape-stages.ensures.shape ∙ ap (λ (facts : JobFacts). facts.shape.stages) c.self.invariant.same in
@@ -385,7 +385,7 @@ returns-clause-did g c =
     let q = g.Q.Query.facts rules in
     let keeps : AppliesBy q = record { stages = laws.has_stages rules; later = laws.posts_are_later rules; nothing = laws.later_stages_post_nothing rules; keys = laws.outputs_have_keys rules } in
     let i = c.self.inside in
-    let f : Fields g.row.Q-Cell.Denot = record { number = i.number; log = i.log; owners = i.owners; seen = i.seen; routers = i.routers.items; hosts = i.hosts.items; unsent = i.unsent; unwritten = i.rows } in
+    let f : Fields g.row.Q-Cell.Denot = record { number = i.number; log = i.log; seen = i.seen; notes = i.owners; next = i.next; routers = i.routers.items; hosts = i.hosts.items; movers = i.movers.items; unsent = i.unsent; unwritten = i.rows } in
     let h = c.index_mut-host.result.now in
     let is : h ≡ get_or i.hosts.items c.args.stage h = c.index_mut-host.ensures.value in
     let applied = c.in-Some.applied in

@@ -22,7 +22,7 @@ invariant_of-self g c =
     let kept = c.self.invariant in
     let sound = outline_is_sound q (laws.has_stages job.rules) (laws.posts_are_later job.rules) (laws.later_stages_post_nothing job.rules) job kept.legal in
     let told = rw (c.in-Got.is, c.in_ok-posted.ensures.log, ← kept.number) at c.in_ok-seen.ensures.told in
-    record { same = kept.same; legal = kept.legal; rows = kept.rows; number = kept.number; shape = kept.shape; none_noted = kept.none_noted; parts = (steps_keep_parts q job sound _ kept.parts).see c.in-Got.seen told }
+    record { same = kept.same; legal = kept.legal; rows = kept.rows; number = kept.number; parts = (steps_keep_parts q job sound _ kept.parts).see c.in-Got.seen told }
 
 pub returns-clause-posted : goal.returns-clause-posted
 returns-clause-posted g c =

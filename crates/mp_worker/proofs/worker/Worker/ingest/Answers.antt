@@ -77,7 +77,7 @@ invariant_of-self-2 g c =
     let router = roomy_router q job sound _ kept.parts _ _ _ c.index_mut.ensures.value room.held room.stage c.index_mut-2.ensures.value in
     let parts = record_ingested q job sound _ kept.parts _ _ c.hold.new.self next router c.in_ok-hold.ensures.stage c.in_ok-hold.ensures.unsent in
     rw (c.in_ok-push.ensures.pushed, c.in_ok-make_room.ensures.made, set-set)
-    (record { same = kept.same; legal = kept.legal; rows = kept.rows; number = kept.number; shape = kept.shape; none_noted = kept.none_noted; parts = parts })
+    (record { same = kept.same; legal = kept.legal; rows = kept.rows; number = kept.number; parts = parts })
 
 pub returns-clause-did : goal.returns-clause-did
 returns-clause-did g c =

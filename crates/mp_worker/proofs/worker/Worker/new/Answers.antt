@@ -23,16 +23,16 @@ invariant_of-result g c =
     let sound = outline_is_sound q (laws.has_stages job.rules) (laws.posts_are_later job.rules) (laws.later_stages_post_nothing job.rules) job legal in
     let shape = c.shape-shape.ensures.shape ∙ ap (λ (j : JobFacts). j.shape) c.requires.job in
     let log = c.in_ok-log.ensures in
+    let owners = c.in_ok-owners.ensures in
     let routers = c.in_ok-routers.ensures in
     let hosts = c.in_ok-hosts.ensures in
-    let parts = parts_at_first q job sound c.args.number c.args.seen c.requires.number c.requires.no_controls c.requires.opening c.in_ok-log.log _ _ c.new-2.result c.new-3.result log.worker log.log
-    (routers.all ∙ ap (λ (s : Shape). s.stages) shape) (routers.each c.args.number) hosts.all hosts.each c.new-2.ensures c.new-3.ensures.rows in
+    let movers = c.in_ok-movers.ensures in
+    let parts = parts_at_first q job sound c.args.number c.args.seen c.requires.number c.requires.opening c.in_ok-log.log c.in_ok-owners.owners _ _ _ c.new-2.result c.new-3.result log.worker log.log
+    (owners.shape ∙ shape) owners.none_noted (routers.all ∙ ap (λ (s : Shape). s.stages) shape) (routers.each c.args.number) hosts.all hosts.each movers.all movers.each c.new-2.ensures c.new-3.ensures.rows in
     record {
       same = c.requires.job;
       legal = legal;
       rows = c.requires.rows;
       number = log.worker;
-      shape = c.in_ok-owners.ensures.shape ∙ shape;
-      none_noted = c.in_ok-owners.ensures.none_noted;
       parts = parts;
     }

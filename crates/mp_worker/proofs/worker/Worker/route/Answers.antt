@@ -5,6 +5,7 @@ use Rattle.mp_outline.specs.JobOutline.{name_of_record, outline_of}
 use Rattle.mp_outline.proofs.Soundness.{outline_is_sound}
 use Rattle.mp_worker.proofs.Going.{ends_asked, edge_told, ends_told, makes_route, may_route, one_route, routed_kept, router_still_kept}
 use Rattle.mp_worker.proofs.Routed.{back, goes, gone, none_goes, owner_is, router_at}
+use Rattle.mp_worker.proofs.Sent.{held_may}
 use Rattle.mp_worker.proofs.worker.Worker.route.Goals as goal
 
 pub returns-in_default-clause-none : goal.returns-in_default-clause-none
@@ -12,18 +13,22 @@ returns-in_default-clause-none g c =
     let here = router_at c.self.invariant.parts c.args.stage c.index_mut-router.result.now c.requires.stage c.index_mut-router.ensures.value in
     rw (← c.self.view_is) (λ x can. absurd (none_goes here c.self.inside.seen c.in_default.ensures.none_may x (may_route c.self.invariant refl c.args.stage x can)))
 
-pub send-requires-clause-log : goal.send-requires-clause-log
-send-requires-clause-log g c = λ κs b. rw c.in_ok-make_room.ensures.made c.self.invariant.parts.legal
-
-pub send-requires-clause-held : goal.send-requires-clause-held
-send-requires-clause-held g c = λ κs b.
+pub send-requires-clause-may : goal.send-requires-clause-may
+send-requires-clause-may g c = λ κs b.
+    let job = g.J.Naming.job in
     let here = router_at c.self.invariant.parts c.args.stage c.index_mut-router.result.now c.requires.stage c.index_mut-router.ensures.value in
     let may = goes here c.in-Some.rec c.self.inside.seen c.in-Some.ensures.may_go in
-    rw (c.in_ok-make_room.ensures.made, c.rec.ensures) (is_rec c.args.stage, may.0.0)
+    let i = c.self.inside in
+    rw (c.in_ok-make_room.ensures.made, c.rec.ensures) (held_may (outline_of (g.Q.Query.facts job.rules) job) i.log.worker i.log.log c.self.invariant.parts.legal (is_rec c.args.stage) (name_of_record c.args.stage c.in-Some.rec) may.0.0)
 
 pub send-requires-clause-to : goal.send-requires-clause-to
 send-requires-clause-to g c = λ κs b.
-    let owner = owner_is c.self.invariant c.args.stage c.in-Some.rec c.shape.result c.bin_of-bin.result c.owner-owner.result c.shape.ensures.shape c.bin_of-bin.ensures.value c.owner-owner.ensures.owner in
+    let laws = g.met.Q.Query g.world.𝓛 g.world.𝓜 g.world.𝓡 ((λ s x. x), (λ x. x), (λ x. x), λ x. x) in
+    let job = g.J.Naming.job in
+    let sound = outline_is_sound (g.Q.Query.facts job.rules) (laws.has_stages job.rules) (laws.posts_are_later job.rules) (laws.later_stages_post_nothing job.rules) job c.self.invariant.legal in
+    let here = router_at c.self.invariant.parts c.args.stage c.index_mut-router.result.now c.requires.stage c.index_mut-router.ensures.value in
+    let may = goes here c.in-Some.rec c.self.inside.seen c.in-Some.ensures.may_go in
+    let owner = owner_is c.self.invariant sound c.args.stage c.in-Some.rec may c.shape.result c.bin_of-bin.result c.owner-owner.result c.shape.ensures.shape c.bin_of-bin.ensures.value c.owner-owner.ensures.owner in
     rw c.rec.ensures owner
 
 pub send-requires-clause-changes : goal.send-requires-clause-changes
@@ -62,7 +67,12 @@ returns-in-Ok-clause-did g c =
 
 pub returns-in-Ok-clause-mail : goal.returns-in-Ok-clause-mail
 returns-in-Ok-clause-mail g c =
-    let owner = owner_is c.self.invariant c.args.stage c.in-Some.rec c.shape.result c.bin_of-bin.result c.owner-owner.result c.shape.ensures.shape c.bin_of-bin.ensures.value c.owner-owner.ensures.owner in
+    let laws = g.met.Q.Query g.world.𝓛 g.world.𝓜 g.world.𝓡 ((λ s x. x), (λ x. x), (λ x. x), λ x. x) in
+    let job = g.J.Naming.job in
+    let sound = outline_is_sound (g.Q.Query.facts job.rules) (laws.has_stages job.rules) (laws.posts_are_later job.rules) (laws.later_stages_post_nothing job.rules) job c.self.invariant.legal in
+    let here = router_at c.self.invariant.parts c.args.stage c.index_mut-router.result.now c.requires.stage c.index_mut-router.ensures.value in
+    let may = goes here c.in-Some.rec c.self.inside.seen c.in-Some.ensures.may_go in
+    let owner = owner_is c.self.invariant sound c.args.stage c.in-Some.rec may c.shape.result c.bin_of-bin.result c.owner-owner.result c.shape.ensures.shape c.bin_of-bin.ensures.value c.owner-owner.ensures.owner in
     let room = rw c.in_ok-make_room.ensures.made at c.in-Ok.ensures.room in
     rw (c.in-Ok.ensures.name, c.rec.ensures) (edge_told c.self.invariant refl c.args.self.now c.self.view_is (g.P.Post.had_room c.args.post.now) _ _ owner room)
 
@@ -82,9 +92,12 @@ invariant_of-self-2 g c =
 
 pub returns-clause-none : goal.returns-clause-none
 returns-clause-none g c =
+    let laws = g.met.Q.Query g.world.𝓛 g.world.𝓜 g.world.𝓡 ((λ s x. x), (λ x. x), (λ x. x), λ x. x) in
+    let job = g.J.Naming.job in
+    let sound = outline_is_sound (g.Q.Query.facts job.rules) (laws.has_stages job.rules) (laws.posts_are_later job.rules) (laws.later_stages_post_nothing job.rules) job c.self.invariant.legal in
     let here = router_at c.self.invariant.parts c.args.stage c.index_mut-router.result.now c.requires.stage c.index_mut-router.ensures.value in
     let may = goes here c.in-Some.rec c.self.inside.seen c.in-Some.ensures.may_go in
-    let owner = owner_is c.self.invariant c.args.stage c.in-Some.rec c.shape.result c.bin_of-bin.result c.owner-owner.result c.shape.ensures.shape c.bin_of-bin.ensures.value c.owner-owner.ensures.owner in
+    let owner = owner_is c.self.invariant sound c.args.stage c.in-Some.rec may c.shape.result c.bin_of-bin.result c.owner-owner.result c.shape.ensures.shape c.bin_of-bin.ensures.value c.owner-owner.ensures.owner in
     let full = rw c.in_ok-make_room.ensures.made at c.in-Err.ensures.full in
     rw (← c.self.view_is)
     (λ x can. rw (← one_route c.self.invariant refl c.args.stage _ x may can) (edge_told c.self.invariant refl _ refl (g.P.Post.was_full c.args.post.now) _ _ owner full))

@@ -5,6 +5,7 @@ use Rattle.mp_outline.specs.JobOutline.{name_of_row, outline_of}
 use Rattle.mp_outline.proofs.Soundness.{outline_is_sound}
 use Rattle.mp_worker.proofs.Going.{ends_asked, ends_told, makes_send_row, row_sent_kept, rows_still_kept}
 use Rattle.mp_worker.proofs.RowSent.{holds_row, least_row, rows_back, rows_left}
+use Rattle.mp_worker.proofs.Sent.{held_may}
 use Rattle.mp_worker.proofs.worker.Worker.send_row.Goals as goal
 
 pub unreachable-requires : goal.unreachable-requires
@@ -12,13 +13,12 @@ unreachable-requires g c =
     let job = g.J.Naming.job in
     holds_row (g.Q.Query.facts job.rules) job c.in-Some.field-0 c.in-Some.ensures.content c.self.invariant.rows c.in_default-value.not-Row
 
-pub send-requires-clause-log : goal.send-requires-clause-log
-send-requires-clause-log g c = λ κs b. rw c.in_ok-make_room.ensures.made c.self.invariant.parts.legal
-
-pub send-requires-clause-held : goal.send-requires-clause-held
-send-requires-clause-held g c = λ κs b.
+pub send-requires-clause-may : goal.send-requires-clause-may
+send-requires-clause-may g c = λ κs b.
+    let job = g.J.Naming.job in
     let least = least_row c.self.invariant.parts.unsent c.in-Some.ensures.some c.in-Some.ensures.in_order in
-    rw (c.in_ok-make_room.ensures.made, c.row-row.ensures) (is_row, least.0)
+    let i = c.self.inside in
+    rw (c.in_ok-make_room.ensures.made, c.row-row.ensures) (held_may (outline_of (g.Q.Query.facts job.rules) job) i.log.worker i.log.log c.self.invariant.parts.legal is_row (name_of_row c.in-Some.field-0) least.0)
 
 pub send-requires-clause-changes : goal.send-requires-clause-changes
 send-requires-clause-changes g c = λ κs b.

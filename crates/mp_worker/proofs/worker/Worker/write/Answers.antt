@@ -32,7 +32,7 @@ invariant_of-self-in-Time g c =
     let next = rw c.in-Time.is at c.in_ok-time.ensures.next in
     let parts = time_written q job _ kept.parts _ kept.number c.if-self-ne0.false _ due sound _ (next _ kept.parts.unwritten) in
     rw (c.in_ok-push-in-Time.ensures.pushed, c.in_ok-make_room.ensures.made)
-    (record { same = kept.same; legal = kept.legal; rows = kept.rows; number = kept.number; shape = kept.shape; none_noted = kept.none_noted; parts = parts })
+    (record { same = kept.same; legal = kept.legal; rows = kept.rows; number = kept.number; parts = parts })
 
 pub returns-in_ok-push-in-Time-clause-lines : goal.returns-in_ok-push-in-Time-clause-lines
 returns-in_ok-push-in-Time-clause-lines g c =

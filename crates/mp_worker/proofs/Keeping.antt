@@ -1,0 +1,116 @@
+-- What a worker keeps to where some of its parts are others.
+use Rattle.std.proofs.Common.{◌≡◌, ◌∙◌, ℕ, List, length, subst, sym}
+use Rattle.mp_names.specs.Logs.{Log}
+use Rattle.mp_bins.specs.Notes.{Notes}
+use Rattle.mp_model.specs.Facts.{JobFacts, QueryFacts}
+use Rattle.mp_rows.specs.WorkerLog.{WorkerLog}
+use Rattle.mp_route.specs.Routed.{Routed}
+use Rattle.mp_hosting.specs.Hosted.{Hosted}
+use Rattle.mp_handoff.specs.Moving.{Moving}
+use Rattle.mp_parts.specs.Kept.{AreMoversAt, IsHostAt, IsRouterAt}
+use Rattle.mp_parts.specs.Parts.{ArePartsOf, AreTaken, AtEach, Parts}
+use Rattle.mp_worker.specs.Kept.{IsKept}
+
+-- a worker with another log, and with parts that hold what that says
+pub kept_as :
+    {Cell : Type 0} {q : QueryFacts Cell} {job its : JobFacts} {w : ℕ} {log : WorkerLog} {p : Parts Cell}
+    → IsKept q job its w log p
+    → (new : WorkerLog) (parts : Parts Cell)
+    → new.worker ≡ log.worker
+    → ArePartsOf q job parts
+    → IsKept q job its w new parts
+kept_as kept new parts same are = record {
+  same = kept.same;
+  legal = kept.legal;
+  rows = kept.rows;
+  number = same ∙ kept.number;
+  parts = are;
+}
+
+-- where the parts hold what these names say, a worker whose log has them keeps to what it is to
+pub kept_by :
+    {Cell : Type 0} {q : QueryFacts Cell} {job its : JobFacts} {w : ℕ} {log : WorkerLog} {p : Parts Cell}
+    → IsKept q job its w log p
+    → p.number ≡ log.worker
+    → (new : WorkerLog)
+    → new.worker ≡ p.number
+    → (names : Log)
+    → new.log ≡ names
+    → (made : Parts Cell)
+    → ArePartsOf q job (record made { number = p.number; log = names })
+    → IsKept q job its w new (record made { number = new.worker; log = new.log })
+kept_by {q = q} {job = job} {p = p} kept worker new e names f made are =
+    kept_as kept new (record made { number = new.worker; log = new.log }) (e ∙ worker)
+    (subst (λ (l : Log). ArePartsOf q job (record made { number = new.worker; log = l })) (sym f)
+    (subst (λ (v : ℕ). ArePartsOf q job (record made { number = v; log = names })) (sym e) are))
+
+-- Parts of which some are others that hold what the log says too
+
+module _ {Cell : Type 0} {q : QueryFacts Cell} {job : JobFacts} {p : Parts Cell} (are : ArePartsOf q job p) where
+  pub other_notes : (notes : Notes) → AreTaken job p.number p.log notes → ArePartsOf q job (record p { notes = notes })
+  other_notes notes taken = record {
+    worker = are.worker;
+    legal = are.legal;
+    done = are.done;
+    notes = taken;
+    next = are.next;
+    all_routers = are.all_routers;
+    routers = are.routers;
+    all_hosts = are.all_hosts;
+    hosts = are.hosts;
+    all_movers = are.all_movers;
+    movers = are.movers;
+    unsent = are.unsent;
+    unwritten = are.unwritten;
+  }
+
+  pub other_routers : (routers : List Routed) → length routers ≡ length p.routers → AtEach routers (IsRouterAt q job p.number p.log) → ArePartsOf q job (record p { routers = routers })
+  other_routers routers all at = record {
+    worker = are.worker;
+    legal = are.legal;
+    done = are.done;
+    notes = are.notes;
+    next = are.next;
+    all_routers = all ∙ are.all_routers;
+    routers = at;
+    all_hosts = are.all_hosts;
+    hosts = are.hosts;
+    all_movers = are.all_movers;
+    movers = are.movers;
+    unsent = are.unsent;
+    unwritten = are.unwritten;
+  }
+
+  pub other_hosts : (hosts : List (Hosted Cell)) → length hosts ≡ length p.hosts → AtEach hosts (IsHostAt q job p.number p.log) → ArePartsOf q job (record p { hosts = hosts })
+  other_hosts hosts all at = record {
+    worker = are.worker;
+    legal = are.legal;
+    done = are.done;
+    notes = are.notes;
+    next = are.next;
+    all_routers = are.all_routers;
+    routers = are.routers;
+    all_hosts = all ∙ are.all_hosts;
+    hosts = at;
+    all_movers = are.all_movers;
+    movers = are.movers;
+    unsent = are.unsent;
+    unwritten = are.unwritten;
+  }
+
+  pub other_movers : (movers : List Moving) → length movers ≡ length p.movers → AtEach movers (AreMoversAt q job p.number p.log) → ArePartsOf q job (record p { movers = movers })
+  other_movers movers all at = record {
+    worker = are.worker;
+    legal = are.legal;
+    done = are.done;
+    notes = are.notes;
+    next = are.next;
+    all_routers = are.all_routers;
+    routers = are.routers;
+    all_hosts = are.all_hosts;
+    hosts = are.hosts;
+    all_movers = all ∙ are.all_movers;
+    movers = at;
+    unsent = are.unsent;
+    unwritten = are.unwritten;
+  }

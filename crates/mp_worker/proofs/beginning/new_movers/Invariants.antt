@@ -1,0 +1,11 @@
+use Rattle.std.proofs.Common.{◌≡◌, length}
+use Rattle.mp_names.specs.Logs.{empty_log}
+use Rattle.mp_parts.specs.Kept.{AreMoversAt}
+use Rattle.mp_parts.specs.Parts.{AtEach}
+use Rattle.mp_worker.proofs.beginning.new_movers.Given as goal
+
+abbrev pub invariant-loop-stage : goal.invariant-loop-stage
+invariant-loop-stage g l = record {
+  all : length l.movers.items ≡ l.stage;
+  each : AtEach l.movers.items (AreMoversAt (g.Q.Query.facts g.J.Naming.job.rules) g.J.Naming.job l.worker empty_log);
+}

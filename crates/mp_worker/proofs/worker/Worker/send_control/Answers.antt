@@ -1,0 +1,71 @@
+use Rattle.std.proofs.Common.{◌≡◌, ◌∙◌, ◌<◌, List, length, refl, ap, subst}
+use Rattle.mp_names.specs.declared.controls.Control.{Control}
+use Rattle.mp_names.specs.declared.controls.Shape.{Shape}
+use Rattle.mp_names.specs.Controls.{control_of, no_control}
+use Rattle.mp_model.specs.Facts.{JobFacts}
+use Rattle.mp_outline.proofs.Soundness.{outline_is_sound}
+use Rattle.mp_parts.specs.Parts.{place_after}
+use Rattle.mp_worker.proofs.Controls.{control_counted, control_kept, may_send_control, one_control}
+use Rattle.mp_worker.proofs.Going.{edge_told, ends_asked, ends_told}
+use Rattle.mp_worker.proofs.worker.Worker.send_control.Goals as goal
+
+pub send-requires-clause-may : goal.send-requires-clause-may
+send-requires-clause-may g c κs within =
+    let laws = g.met.Q.Query g.world.𝓛 g.world.𝓜 g.world.𝓡 ((λ s x. x), (λ x. x), (λ x. x), λ x. x) in
+    let job = g.J.Naming.job in
+    let kept = c.self.invariant in
+    let sound = outline_is_sound (g.Q.Query.facts job.rules) (laws.has_stages job.rules) (laws.posts_are_later job.rules) (laws.later_stages_post_nothing job.rules) job kept.legal in
+    let all = c.controls.ensures ∙ ap (λ (f : JobFacts). f.controls) kept.same in
+    let listed = subst (λ (cs : List Control). c.self.inside.next.0 < length cs) all c.in-Some.ensures.lookup.3.0 in
+    rw (c.in_ok-make_room.ensures.made, c.control-message.ensures) (may_send_control kept refl c.if-self-ne0.false sound listed)
+
+pub send-requires-clause-changes : goal.send-requires-clause-changes
+send-requires-clause-changes g c κs within =
+    let laws = g.met.Q.Query g.world.𝓛 g.world.𝓜 g.world.𝓡 ((λ s x. x), (λ x. x), (λ x. x), λ x. x) in
+    let job = g.J.Naming.job in
+    let kept = c.self.invariant in
+    let sound = outline_is_sound (g.Q.Query.facts job.rules) (laws.has_stages job.rules) (laws.posts_are_later job.rules) (laws.later_stages_post_nothing job.rules) job kept.legal in
+    let all = c.controls.ensures ∙ ap (λ (f : JobFacts). f.controls) kept.same in
+    let listed = subst (λ (cs : List Control). c.self.inside.next.0 < length cs) all c.in-Some.ensures.lookup.3.0 in
+    let control : c.in-Some.control.now ≡ control_of job.controls c.self.inside.next.0 = c.in-Some.ensures.lookup.3.1 no_control ∙ ap (λ (cs : List Control). control_of cs c.self.inside.next.0) all in
+    rw (c.in_ok-make_room.ensures.made, c.control-message.ensures, control) (control_counted kept refl c.if-self-ne0.false sound listed)
+
+pub send-requires-clause-ends : goal.send-requires-clause-ends
+send-requires-clause-ends g c κs within =
+    rw c.in_ok-make_room.ensures.made (ends_asked c.self.invariant refl c.args.self.now c.self.view_is (g.P.Post.stands c.args.post.now) c.requires.ends)
+
+pub returns-in_default-send-clause-none : goal.returns-in_default-send-clause-none
+returns-in_default-send-clause-none g c =
+    let laws = g.met.Q.Query g.world.𝓛 g.world.𝓜 g.world.𝓡 ((λ s x. x), (λ x. x), (λ x. x), λ x. x) in
+    let job = g.J.Naming.job in
+    let kept = c.self.invariant in
+    let sound = outline_is_sound (g.Q.Query.facts job.rules) (laws.has_stages job.rules) (laws.posts_are_later job.rules) (laws.later_stages_post_nothing job.rules) job kept.legal in
+    let all = c.controls.ensures ∙ ap (λ (f : JobFacts). f.controls) kept.same in
+    let listed = subst (λ (cs : List Control). c.self.inside.next.0 < length cs) all c.in-Some.ensures.lookup.3.0 in
+    let full = rw c.in_ok-make_room.ensures.made at c.in_default-send.ensures.full in
+    rw (← c.self.view_is) (λ x can. rw (← one_control kept refl c.if-self-ne0.false sound listed x can) (edge_told kept refl _ refl (g.P.Post.was_full c.args.post.now) _ _ refl full))
+
+pub returns-in_default-send-clause-ends : goal.returns-in_default-send-clause-ends
+returns-in_default-send-clause-ends g c =
+    let ends = rw c.in_ok-make_room.ensures.made at c.in_default-send.ensures.ends in
+    ends_told c.self.invariant refl c.args.self.now c.self.view_is (g.P.Post.stands c.args.post.now) (g.P.Post.stands c.send.new.post) c.send.new.log.log ends
+
+pub invariant_of-self-2 : goal.invariant_of-self-2
+invariant_of-self-2 g c =
+    let laws = g.met.Q.Query g.world.𝓛 g.world.𝓜 g.world.𝓡 ((λ s x. x), (λ x. x), (λ x. x), λ x. x) in
+    let job = g.J.Naming.job in
+    let kept = c.self.invariant in
+    let sound = outline_is_sound (g.Q.Query.facts job.rules) (laws.has_stages job.rules) (laws.posts_are_later job.rules) (laws.later_stages_post_nothing job.rules) job kept.legal in
+    let all = c.controls.ensures ∙ ap (λ (f : JobFacts). f.controls) kept.same in
+    let listed = subst (λ (cs : List Control). c.self.inside.next.0 < length cs) all c.in-Some.ensures.lookup.3.0 in
+    let n = c.self.inside.next in
+    let workers = ap (λ (s : Shape). s.workers) c.shape.ensures.shape ∙ ap (λ (f : JobFacts). f.shape.workers) kept.same in
+    let place : c.place_after-self-inside.result ≡ place_after job.shape.workers (n.0, n.1) = c.place_after-self-inside.ensures ∙ ap (λ w. place_after w (n.0, n.1)) workers in
+    let worker = rw c.in_ok-make_room.ensures.made at c.in-Ok.ensures.worker in
+    let sent = rw (c.in_ok-make_room.ensures.made, c.control-message.ensures) at c.in-Ok.ensures.sent in
+    rw place (control_kept kept refl c.if-self-ne0.false sound listed c.send.new.log worker sent)
+
+pub returns-clause-ends : goal.returns-clause-ends
+returns-clause-ends g c =
+    let ends = rw c.in_ok-make_room.ensures.made at c.in-Ok.ensures.ends in
+    ends_told c.self.invariant refl c.args.self.now c.self.view_is (g.P.Post.stands c.args.post.now) (g.P.Post.stands c.send.new.post) c.send.new.log.log ends

@@ -1,0 +1,57 @@
+use Rattle.std.proofs.Common.{ap, refl, ◌∙◌}
+use Rattle.mp_names.specs.Logs.{with_settled}
+use Rattle.mp_rows.specs.WorkerLog.{WorkerLog}
+use Rattle.mp_names.specs.declared.names.Name.TheVariants.{Settled}
+use Rattle.mp_names.specs.declared.kinds.Kind.TheVariants.{Settle}
+use Rattle.mp_outline.proofs.Soundness.{outline_is_sound}
+use Rattle.mp_handoff.specs.Moving.{Moving}
+use Rattle.mp_worker.proofs.Making.{makes}
+use Rattle.mp_worker.proofs.Movers.{movers_at}
+use Rattle.mp_worker.proofs.Settling.{can_settle, none_to_settle, settled_counted, settled_kept}
+use Rattle.mp_worker.proofs.worker.Worker.settle.Goals as goal
+
+pub returns-in_default-clause-none : goal.returns-in_default-clause-none
+returns-in_default-clause-none g c =
+    let laws = g.met.Q.Query g.world.𝓛 g.world.𝓜 g.world.𝓡 ((λ s x. x), (λ x. x), (λ x. x), λ x. x) in
+    let job = g.J.Naming.job in
+    let kept = c.self.invariant in
+    let sound = outline_is_sound (g.Q.Query.facts job.rules) (laws.has_stages job.rules) (laws.posts_are_later job.rules) (laws.later_stages_post_nothing job.rules) job kept.legal in
+    let m = c.index_mut-movers.result.now in
+    let at = movers_at kept sound c.args.stage c.requires.stage m c.index_mut-movers.ensures.value in
+    rw (← c.self.view_is) (none_to_settle kept refl sound c.args.stage c.requires.stage m at c.in_default.ensures.none_may)
+
+pub push-requires-clause-changes : goal.push-requires-clause-changes
+push-requires-clause-changes g c κs within =
+    let laws = g.met.Q.Query g.world.𝓛 g.world.𝓜 g.world.𝓡 ((λ s x. x), (λ x. x), (λ x. x), λ x. x) in
+    let job = g.J.Naming.job in
+    let kept = c.self.invariant in
+    let sound = outline_is_sound (g.Q.Query.facts job.rules) (laws.has_stages job.rules) (laws.posts_are_later job.rules) (laws.later_stages_post_nothing job.rules) job kept.legal in
+    let m = c.index_mut-movers.result.now in
+    let at = movers_at kept sound c.args.stage c.requires.stage m c.index_mut-movers.ensures.value in
+    rw c.in_ok-make_room.ensures.made (settled_counted kept refl sound c.args.stage c.requires.stage m at c.in-Some.time c.in-Some.ensures.may_settle)
+
+pub invariant_of-self-2 : goal.invariant_of-self-2
+invariant_of-self-2 g c =
+    let laws = g.met.Q.Query g.world.𝓛 g.world.𝓜 g.world.𝓡 ((λ s x. x), (λ x. x), (λ x. x), λ x. x) in
+    let job = g.J.Naming.job in
+    let kept = c.self.invariant in
+    let sound = outline_is_sound (g.Q.Query.facts job.rules) (laws.has_stages job.rules) (laws.posts_are_later job.rules) (laws.later_stages_post_nothing job.rules) job kept.legal in
+    let m = c.index_mut-movers.result.now in
+    let at = movers_at kept sound c.args.stage c.requires.stage m c.index_mut-movers.ensures.value in
+    let same = c.in-Some.ensures.same in
+    let next = settled_kept kept refl sound c.args.stage c.requires.stage m at c.in-Some.time c.in-Some.ensures.may_settle c.settle.new.self (ap (λ (n : Moving). n.stage) same) (ap (λ (n : Moving). n.worker) same) c.in-Some.ensures.held in
+    let made = c.in_ok-make_room.ensures.made in
+    let pushed = c.in_ok-push.ensures.pushed in
+    next c.push.new.self (ap (λ (l : WorkerLog). l.worker) pushed ∙ ap (λ (l : WorkerLog). l.worker) made)
+    (ap (λ (l : WorkerLog). l.log) pushed ∙ ap (λ (l : WorkerLog). with_settled l.log (Settled c.args.stage c.in-Some.time)) made)
+
+pub returns-clause-did : goal.returns-clause-did
+returns-clause-did g c =
+    let laws = g.met.Q.Query g.world.𝓛 g.world.𝓜 g.world.𝓡 ((λ s x. x), (λ x. x), (λ x. x), λ x. x) in
+    let job = g.J.Naming.job in
+    let kept = c.self.invariant in
+    let sound = outline_is_sound (g.Q.Query.facts job.rules) (laws.has_stages job.rules) (laws.posts_are_later job.rules) (laws.later_stages_post_nothing job.rules) job kept.legal in
+    let m = c.index_mut-movers.result.now in
+    let at = movers_at kept sound c.args.stage c.requires.stage m c.index_mut-movers.ensures.value in
+    let can = can_settle kept refl sound c.args.stage c.requires.stage m at c.in-Some.time c.in-Some.ensures.may_settle in
+    rw (← c.self.view_is, c.in_ok-push.ensures.pushed, c.in_ok-make_room.ensures.made) (makes kept refl (Settle c.args.stage) (Settled c.args.stage c.in-Some.time) _ refl can)

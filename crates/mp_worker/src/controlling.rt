@@ -1,0 +1,81 @@
+//! How worker 0 sends control records.
+ghost use Rattle.std.specs.Prelude.{◌≡◌, ◌<◌, ◌-◌, ◌^◌, ℕ, OnErr};
+ghost use Rattle.mp_names.specs.declared.names.Name.{Name};
+ghost use Rattle.mp_names.specs.declared.kinds.Kind.TheVariants.{SendControl};
+ghost use Rattle.mp_outline.specs.JobOutline.{outline_of};
+ghost use Rattle.mp_parts.specs.Parts.{place_after};
+ghost use Rattle.mp_states.specs.Ends.{AtEnds, FollowsLog};
+ghost use Rattle.mp_states.specs.Mail.{MailHinders, MailLets};
+ghost use Rattle.mp_states.specs.State.{CanMake, Makes};
+ghost use Rattle.mp_worker.specs.Turns.{IfMade, IfNoName};
+
+use crate::Worker;
+use crate::sending::send;
+use mp_mailbox::Post;
+use mp_model::{Naming, Query};
+use mp_msg::Msg;
+use mp_names::{Loc, Name};
+use std::alloc::AllocError;
+
+impl<'a, Q: Query, J: Naming> Worker<'a, Q, J> {
+    /// Worker 0 sends the first control record that isn't sent, by index and then by receiver, itself among them: its name,
+    /// or `None` exactly where all are sent, the mailbox was full, or this is another worker. `AllocError`: no memory, and
+    /// nothing changes.
+    pub(crate) fn send_control<P: Post<Msg<Q, J>>>(
+        &mut self,
+        post: &mut P,
+    ) -> Result<Option<Name>, AllocError>
+        requires workers { P.workers post.old ≡ J.job.shape.workers }
+        requires serves { P.serves post.old self.old.number }
+        requires ends { AtEnds (P.stands post.old) (outline_of (Q.facts J.job.rules) J.job) self.old.number self.old.log }
+
+        ensures did { let o = outline_of (Q.facts J.job.rules) J.job in
+            IfMade result (λ x. Makes o SendControl self.old x self.new) }
+        ensures mail { let o = outline_of (Q.facts J.job.rules) J.job in
+            IfMade result (MailLets (P.had_room post.old) o self.old.number SendControl) }
+        ensures none { let o = outline_of (Q.facts J.job.rules) J.job in
+            IfNoName result ((x : Name) → CanMake o SendControl self.old x
+            → MailHinders (P.was_full post.old) (P.was_empty post.old) o self.old.number SendControl x) }
+        ensures unchanged { IfNoName result (self.new ≡ self.old) }
+        ensures refused { OnErr result (self.new ≡ self.old) }
+
+        ensures ends { let o = outline_of (Q.facts J.job.rules) J.job in
+            FollowsLog (P.stands post.old) (P.stands post.new) o self.old.number self.old.log self.new.log }
+        ensures same_workers { P.workers post.new ≡ P.workers post.old }
+        ensures same_depth { P.depth post.new ≡ P.depth post.old }
+        ensures same_ends { (worker : ℕ) → P.serves post.old worker → P.serves post.new worker }
+    {
+        let (index, to) = self.next;
+        if self.number != 0 {
+            return Ok(None);
+        }
+        let Some(control) = self.job.controls().get(index as usize) else {
+            return Ok(None);
+        };
+        self.log.make_room(2)?;
+        let changes = [
+            (Loc::Ctl, control.time, -1),
+            (Loc::CtlMail, control.time, 1),
+        ];
+        let message = Msg::control(index, to, *control);
+        let Ok(name) = send(&mut self.log, post, to, message, &changes) else {
+            return Ok(None);
+        };
+        self.next = place_after(self.job.shape().workers, self.next);
+        Ok(Some(name))
+    }
+}
+
+// The place after that of a control record, which is its index and its receiver: the next receiver of the same one, or the
+// first receiver of the next.
+fn place_after(workers: u32, next: (u32, u32)) -> (u32, u32)
+    requires index { next.0 < 2 ^ 32 - 1 }
+    requires to { next.1 < workers }
+    ensures { result ≡ place_after workers next }
+{
+    if next.1 + 1 == workers {
+        (next.0 + 1, 0)
+    } else {
+        (next.0, next.1 + 1)
+    }
+}
