@@ -39,7 +39,7 @@ has_loc o (Host j) l = l
 has_loc o at l = tt
 
 -- a worker that knows the end is finished as the machine has it
-finished : (o : Outline) (world : World) (w : ℕ) (s : WorkerState) → IsWorkerOf o w s (world.worker w) → KnowsTheEnd o s → WorkerIsFinished o world w
+pub finished : (o : Outline) (world : World) (w : ℕ) (s : WorkerState) → IsWorkerOf o w s (world.worker w) → KnowsTheEnd o s → WorkerIsFinished o world w
 finished o world w s is know =
     record {
       done = λ at l. sym (is.seen at (has_loc o at l)) ∙ know.done at (has_loc o at l);

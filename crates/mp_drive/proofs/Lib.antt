@@ -4,6 +4,8 @@ pub mod Listed
 pub mod Numbered
 pub mod Opened
 pub mod RowsOfQ1
+pub mod Tallied
 pub mod Tried
 pub mod Turned
 pub mod Written
+pub mod Counted

@@ -2,3 +2,4 @@
 pub mod Draws
 pub mod Driven
 pub mod Kept
+pub mod Tallies

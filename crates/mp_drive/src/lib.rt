@@ -3,12 +3,15 @@
 #![tactic(auto)]
 
 mod draws;
+#[cfg(test)]
+mod handing;
 mod list;
 mod places;
 mod plain;
 mod run;
 mod seed;
 mod stop;
+mod tallies;
 #[cfg(test)]
 mod tests;
 #[cfg(test)]

@@ -50,11 +50,10 @@ impl<'a, Q: Query, J: Naming> Model for Plain<'a, Q, J> {
 }
 
 impl<'a, Q: Query, J: Naming> Plain<'a, Q, J> {
-    /// Workers that have done nothing, with mailboxes that take `depth` messages each. The job has no control records yet,
-    /// and the query's last stage gives rows alone. `AllocError`: no memory.
+    /// Workers that have done nothing, with mailboxes that take `depth` messages each. The query's last stage gives rows
+    /// alone. `AllocError`: no memory.
     pub fn open(alloc: Global, job: &'a Job<Q>, depth: u32) -> Result<Plain<'a, Q, J>, AllocError>
         requires job { job.now ≡ J.job }
-        requires no_controls { J.job.controls ≡ [] }
         requires rows { GivesRows (Q.facts J.job.rules) }
         ensures start { let o = outline_of (Q.facts J.job.rules) J.job in
             IfOk result (λ p. AreWorld o depth p (start_of_machine o)) }
@@ -125,7 +124,6 @@ fn new_workers<'a, Q: Query, J: Naming>(
     seen: Seen,
 ) -> Result<Vec<Worker<'a, Q, J>>, AllocError>
     requires job { job.now ≡ J.job }
-    requires no_controls { J.job.controls ≡ [] }
     requires rows { GivesRows (Q.facts J.job.rules) }
     requires version { seen.version ≡ 0 }
     requires opening { ShowsFrontiers (outline_of (Q.facts J.job.rules) J.job) (replicate J.job.shape.workers empty_log) seen }

@@ -15,10 +15,9 @@ use mp_outside::Sink;
 use std::alloc::Global;
 
 /// Runs a whole job on one thread, by the schedule of a seed, with mailboxes that take `depth` messages each, and writes the
-/// answer: how many steps were made. The job has no control records yet, and the query's last stage gives rows alone.
-/// `Memory`: no memory, or more steps were made than a u64 counts, which no job that fits into memory has. `Write`: a write
-/// failed; only where the sink's count of faults rose in this call or stands at its last value, 2^64 - 1. With either a
-/// beginning of the answer is written.
+/// answer: how many steps were made. The query's last stage gives rows alone. `Memory`: no memory, or more steps were made
+/// than a u64 counts, which no job that fits into memory has. `Write`: a write failed; only where the sink's count of faults
+/// rose in this call or stands at its last value, 2^64 - 1. With either a beginning of the answer is written.
 pub fn replay<Q: Query, J: Naming, S: Sink, G: Gate>(
     alloc: Global,
     job: &Job<Q>,
@@ -28,7 +27,6 @@ pub fn replay<Q: Query, J: Naming, S: Sink, G: Gate>(
     sink: &mut S,
 ) -> Result<u64, DriveStop>
     requires job { job.now ≡ J.job }
-    requires no_controls { J.job.controls ≡ [] }
     requires rows { GivesRows (Q.facts J.job.rules) }
     requires depth { 0 < depth }
     ensures answer { OnOk result (S.written sink.new ≡ grown (S.written sink.old) (one_thread_answer (Q.facts J.job.rules) J.job.events)) }

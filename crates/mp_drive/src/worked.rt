@@ -37,7 +37,6 @@ fn bid(time: u32, auction: u32, bidder: u32, price: u32) -> Event
 // Two bids at one time: the first goes from worker 0 to worker 1, the second from worker 1 to worker 2.
 fn two_bids(alloc: Global) -> Result<Job<Q1>, AllocError>
     ensures shape { IfOk result (λ job. job.shape ≡ SHAPE) }
-    ensures controls { IfOk result (λ job. job.controls ≡ []) }
 {
     let mut events = Vec::new(alloc);
     events.push(bid(5, 4, 1, 100))?;
@@ -49,7 +48,6 @@ fn two_bids(alloc: Global) -> Result<Job<Q1>, AllocError>
 // Of these worker 0 takes in the first and the last.
 fn four_bids(alloc: Global) -> Result<Job<Q1>, AllocError>
     ensures shape { IfOk result (λ job. job.shape ≡ SHAPE) }
-    ensures controls { IfOk result (λ job. job.controls ≡ []) }
 {
     let mut events = Vec::new(alloc);
     events.push(bid(30, 1, 1, 100))?;
@@ -61,9 +59,7 @@ fn four_bids(alloc: Global) -> Result<Job<Q1>, AllocError>
 }
 
 // Three bids on one worker with one bin.
-fn three_bids(alloc: Global) -> Result<Job<Q1>, AllocError>
-    ensures controls { IfOk result (λ job. job.controls ≡ []) }
-{
+fn three_bids(alloc: Global) -> Result<Job<Q1>, AllocError> {
     let mut events = Vec::new(alloc);
     events.push(bid(5, 7, 2, 100))?;
     events.push(bid(3, 7, 1, 250))?;
@@ -98,7 +94,6 @@ fn makes<'a, J: Naming>(
 // on its way. Its group waits all the same.
 fn counts_may_cancel<J: Naming>(rt: &impl Abort, alloc: Global, job: &Job<Q1>) -> Result<(), Fail>
     requires job { job.now ≡ J.job }
-    requires controls { job.now.controls ≡ [] }
 {
     let mut sink = MemSink::new(alloc);
     let mut plain = Plain::<Q1, J>::open(alloc, job, 64)?;
@@ -135,7 +130,6 @@ fn counts_cancel(rt: HostRuntime) -> Result<(), Fail> {
 // After one bid of each worker is taken in, the last one of worker 0 is still to come.
 fn shares_are_by_index<J: Naming>(rt: &impl Abort, alloc: Global, job: &Job<Q1>) -> Result<(), Fail>
     requires job { job.now ≡ J.job }
-    requires controls { job.now.controls ≡ [] }
 {
     let mut sink = MemSink::new(alloc);
     let mut plain = Plain::<Q1, J>::open(alloc, job, 64)?;
@@ -167,7 +161,6 @@ fn replays<J: Naming>(
     sink: &mut MemSink,
 ) -> bool
     requires job { job.now ≡ J.job }
-    requires controls { job.now.controls ≡ [] }
 {
     match replay::<Q1, J, _, _>(alloc, job, 1, seed, &OpenGate, sink) {
         Ok(made) => made <= most,

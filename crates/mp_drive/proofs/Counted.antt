@@ -1,0 +1,70 @@
+-- What is told of logs at the end of a job.
+use Rattle.std.proofs.Common.{◌≡◌, ◌∙◌, ◌≤◌, ◌++◌, ◌∷◌, ℕ, ◌<◌, List, [], None, Some, arith, get_or, length, sym, subst, ⊎_elim}
+use Rattle.std.specs.Prelude.{◌↔◌, slice_get}
+use Rattle.std.proofs.lemmas.Option.{get_or_from_slice_get, slice_get_cases, slice_get_within}
+use Rattle.mp_names.specs.declared.names.Name.{Name}
+use Rattle.mp_names.specs.declared.names.Name.TheVariants.{Packet}
+use Rattle.mp_names.specs.Logs.{Log, LogIsLegal}
+use Rattle.mp_names.specs.Names.{Distinct, In}
+use Rattle.mp_names.specs.Outlines.{IsMove, OutlineIsSound, owner_before}
+use Rattle.mp_machine.specs.Promises.{LogIsFull}
+use Rattle.mp_machine.specs.Runs.{run_of_machine}
+use Rattle.mp_machine.proofs.Full.{full_where_known}
+use Rattle.mp_machine.proofs.Worlds.{run_right}
+use Rattle.mp_model.specs.Facts.{JobFacts, QueryFacts}
+use Rattle.mp_outline.specs.JobOutline.{outline_of}
+use Rattle.mp_parts.specs.declared.tally.Tally.{Tally}
+use Rattle.mp_states.specs.State.{WorkerState}
+use Rattle.mp_states.specs.Together.{KnowsTheEnd, Together}
+use Rattle.mp_drive.specs.Driven.{AllKnowTheEnd, AreReached}
+use Rattle.mp_drive.specs.Tallies.{IsTallyOf, TellsLog}
+use Rattle.mp_drive.proofs.Ended.{finished}
+use Rattle.mp_drive.proofs.Opened.{push_all}
+use Rattle.mp_drive.proofs.Tallied.{applied_are_owned, sent_packets_are_distinct, sent_packets_are_moves}
+
+-- within a list there is an item
+some_at : {X : Type 0} (xs : List X) (w : ℕ) → w < length xs → (x : X) × (slice_get xs w ≡ Some x)
+some_at {X} xs w l = ⊎_elim (λ (h : (x : X) × (w < length xs) × (slice_get xs w ≡ Some x) × (get_or xs w x ≡ x)). (h.0, h.2)) (λ (h : (length xs ≤ w) × (slice_get xs w ≡ None)). absurd (omega (arith, h.0))) (slice_get_cases xs w).1
+
+module _ {Cell : Type 0} (q : QueryFacts Cell) (job : JobFacts) where
+  -- what the tallies tell of the workers' logs
+  abbrev pub AllTell : List WorkerState → List Tally → Type 0
+  AllTell workers tallies = (w : ℕ) (s : WorkerState) (t : Tally) → slice_get workers w ≡ Some s → slice_get tallies w ≡ Some t → TellsLog q job s.log t
+
+  -- one more of them
+  pub one_more_tells : (workers : List WorkerState) (tallies new : List Tally) (s : WorkerState) (t : Tally) → AllTell workers tallies → s ≡ get_or workers (length tallies) s → TellsLog q job s.log t → new ≡ tallies ++ t ∷ [] → AllTell workers new
+  one_more_tells workers tallies new s t before is tells grown =
+      subst (AllTell workers) (sym grown)
+      (λ w r u at there. push_all (λ v a. (b : WorkerState) → slice_get workers v ≡ Some b → TellsLog q job b.log a) tallies t (λ v a here b e. before v b a e here)
+      (λ b e. subst (λ (x : WorkerState). TellsLog q job x.log t) (is ∙ get_or_from_slice_get workers (length tallies) b s e) tells)
+      w u there r at)
+
+  module _ (ok : OutlineIsSound (outline_of q job)) where
+    -- a full log is told as the job has it
+    pub full_is_tallied : (w : ℕ) (log : Log) (t : Tally) → LogIsLegal (outline_of q job) w log → LogIsFull (outline_of q job) w log → TellsLog q job log t → IsTallyOf q job w t
+    full_is_tallied w log t legal full tells =
+        let o = outline_of q job in
+        record {
+          groups = tells.groups ∙ applied_are_owned o ok w log legal full;
+          moves = λ j b u. subst (λ (xs : List Name). In (Packet j b u) xs ↔ (IsMove o j b u × (owner_before o j b u ≡ w))) (sym tells.moved) (sent_packets_are_moves o ok w log legal full j b u);
+          once = subst Distinct (sym tells.moved) (sent_packets_are_distinct o w log legal);
+          keys = tells.keys;
+        }
+
+    -- at the end all tallies are the job's
+    pub tallied_at_the_end : (t : Together) → AreReached (outline_of q job) t → AllKnowTheEnd (outline_of q job) t → (tallies : List Tally) → AllTell t.workers tallies → length tallies ≡ job.shape.workers → (w : ℕ) (u : Tally) → slice_get tallies w ≡ Some u → IsTallyOf q job w u
+    tallied_at_the_end t reached all tallies tell many w u at =
+        let o = outline_of q job in
+        let depth = t.post.depth in
+        let world = run_of_machine o depth reached.0 in
+        let right = run_right o ok depth reached.0 in
+        let below = slice_get_within tallies w u at in
+        let each = reached.1.all_workers in
+        let inside : w < length t.workers = omega arith in
+        let here : w < job.shape.workers = omega arith in
+        let some = some_at t.workers w inside in
+        let s = some.0 in
+        let is = reached.1.workers w s some.1 in
+        let know = subst (KnowsTheEnd o) (get_or_from_slice_get t.workers w s s some.1) (all w s inside) in
+        let full = full_where_known o ok depth world right w here (finished o world w s is know) in
+        full_is_tallied w s.log u (subst (LogIsLegal o w) (sym is.log) (right.logs w here)) (subst (LogIsFull o w) (sym is.log) full) (tell w s u some.1 at)

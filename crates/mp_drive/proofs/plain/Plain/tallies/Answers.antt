@@ -1,0 +1,45 @@
+use Rattle.std.proofs.Common.{[], ◌∷◌, ◌≡◌, ◌∙◌, ℕ, List, ap, arith, get_or, length, length-append, subst, sym}
+use Rattle.mp_outline.specs.JobOutline.{outline_of}
+use Rattle.mp_outline.proofs.Soundness.{outline_is_sound}
+use Rattle.mp_states.specs.State.{WorkerState}
+use Rattle.mp_states.specs.Together.{Together}
+use Rattle.mp_drive.specs.Driven.{AreReached}
+use Rattle.mp_drive.proofs.Counted.{one_more_tells, tallied_at_the_end}
+use Rattle.mp_drive.proofs.plain.Plain.tallies.Goals as goal
+
+pub loop-worker-preserved : goal.loop-worker-preserved
+loop-worker-preserved g c =
+    let job = g.J.Naming.job in
+    let q = g.Q.Query.facts job.rules in
+    let i = c.loop-worker.invariant in
+    let workers = c.args.self.now.workers in
+    let tallies = c.loop-worker.tallies.items in
+    let worker = c.worker-item.result in
+    let tally = c.in_ok-tally.field-0 in
+    let pushed = c.push_reserved.ensures in
+    let same = c.deref-worker-items.ensures.value ∙ ap (λ (t : Together). t.workers) c.self.view_is in
+    let at = subst (λ (n : ℕ). worker ≡ get_or workers n worker) (sym i.many) (subst (λ (xs : List WorkerState). worker ≡ get_or xs c.loop-worker.worker-index worker) same c.worker-item.is) in
+    let told = c.in_ok-tally.ensures in
+    record {
+      room = omega (arith, i.room, pushed.capacity);
+      many = omega (arith, ap length pushed.items, length-append tallies (tally ∷ []), i.many);
+      told = one_more_tells q job workers tallies c.push_reserved.new.self.items worker tally i.told at (record { groups = told.groups; moved = told.moved; keys = told.keys }) pushed.items;
+    }
+
+-- as many as there are workers
+pub returns-clause-all : goal.returns-clause-all
+returns-clause-all g c =
+    let o = outline_of (g.Q.Query.facts g.J.Naming.job.rules) g.J.Naming.job in
+    let same = ap length (c.deref-worker-items.ensures.value ∙ ap (λ (t : Together). t.workers) c.self.view_is) in
+    let reached = subst (AreReached o) c.self.view_is c.self.invariant.reached in
+    omega (arith, same, c.loop-worker.invariant.many, c.loop-worker-test.false, c.loop-worker.auto.worker-index-end, reached.1.all_workers)
+
+pub returns-clause-at_the_end : goal.returns-clause-at_the_end
+returns-clause-at_the_end g c = λ w t all at.
+    let laws = g.met.Q.Query g.world.𝓛 g.world.𝓜 g.world.𝓡 ((λ s x. x), (λ x. x), (λ x. x), λ x. x) in
+    let job = g.J.Naming.job in
+    let q = g.Q.Query.facts job.rules in
+    let kept = c.self.invariant in
+    let sound = outline_is_sound q (laws.has_stages job.rules) (laws.posts_are_later job.rules) (laws.later_stages_post_nothing job.rules) job kept.legal in
+    let reached = subst (AreReached (outline_of q job)) c.self.view_is kept.reached in
+    tallied_at_the_end q job sound c.args.self.now reached all c.loop-worker.tallies.items c.loop-worker.invariant.told (returns-clause-all g c) w t at
