@@ -1,5 +1,5 @@
 -- What the status of a refusal tells.
-use Rattle.std.proofs.Common.{ℕ, ◌≡◌, ◌≤◌, ◌⊎◌, inl, inr, Bool, true, false, Option, Some, None, IsSome, Result, Ok, Err, option_map, List, [], length, take, cond, refl, sym, ap, ◌∙◌, arith}
+use Rattle.std.proofs.Common.{ℕ, ◌≡◌, ◌≤◌, ◌⊎◌, inl, inr, Bool, true, false, Option, Some, None, IsSome, Result, Ok, Err, List, [], length, take, cond, refl, sym, ap, ◌∙◌, arith}
 use Rattle.std.specs.Prelude.{nat_le}
 use Rattle.mp_outside.specs.Files.{Files, file_at}
 use Rattle.mp_outside.specs.Sink.{grown}
@@ -7,10 +7,13 @@ use Rattle.mp_outside.proofs.SinkLemmas.{grown-nothing}
 use Rattle.mp_cli.specs.declared.TheConstants.{MAX_BYTES}
 use Rattle.mp_events.specs.declared.refused.EventsReason.{EventsReason}
 use Rattle.mp_events.specs.Events.{events_of}
-use Rattle.mp_cli.specs.Config.{bad_line_of}
+use Rattle.mp_cli.specs.Config.{shape_of}
+use Rattle.mp_control.specs.declared.refused.ControlReason.{ControlReason}
+use Rattle.mp_control.specs.Controls.{controls_of}
+use Rattle.mp_names.specs.declared.controls.Control.{Control}
 use Rattle.mp_model.specs.declared.record.Event.{Event}
 use Rattle.mp_cli.specs.Ends.{ComesWhere, IsLineAt, Says}
-use Rattle.mp_cli.specs.Outcome.{Outcome, Answered, Usage, EventsRefused, ConfigRefused, NoFile, ReadFault, WriteFault, NoMemory, TooLarge, status_of, line_said, with_text, unless_refused, events_refusal, refusal_of_config, refusal_of_events, after_config, after_events, called_for, MayCome, MayFail, IsOfCommand}
+use Rattle.mp_cli.specs.Outcome.{Outcome, Answered, Usage, EventsRefused, ConfigRefused, NoFile, ReadFault, WriteFault, NoMemory, TooLarge, status_of, line_said, with_text, unless_refused, config_refusal, events_refusal, refusal_of_config, refusal_of_events, after_config, after_events, called_for, MayCome, MayFail, IsOfCommand}
 use Rattle.mp_words.specs.Values.{Options}
 
 -- want of memory may always come
@@ -31,25 +34,25 @@ with_text-not_usage name (Some text) next no_next e = either (nat_le (length tex
 called_for-not_usage : (told : Option Files) (asked : Options) → status_of (called_for told asked) ≡ 2 → ⊥
 called_for-not_usage told asked e = with_text-not_usage asked.events (file_at told asked.events) _ after_text e
   where
-    config : (text : List ℕ) → status_of (after_config text) ≡ 2 → ⊥
-    config text is = either (bad_line_of text) is
+    config : (text : List ℕ) → status_of (after_config (shape_of asked) text) ≡ 2 → ⊥
+    config text is = either (controls_of text (shape_of asked)) is
       where
-        either : (bad : Option ℕ) → status_of (unless_refused (option_map ConfigRefused bad) Answered) ≡ 2 → ⊥
-        either (Some line) h = omega arith
-        either None h = omega arith
+        either : (controls : Result (List Control) (ℕ × ControlReason)) → status_of (unless_refused (config_refusal controls) Answered) ≡ 2 → ⊥
+        either (Err bad) h = omega arith
+        either (Ok controls) h = omega arith
 
-    after_text : (text : List ℕ) → status_of (after_events (with_text asked.config (file_at told asked.config) after_config) text) ≡ 2 → ⊥
+    after_text : (text : List ℕ) → status_of (after_events (with_text asked.config (file_at told asked.config) (after_config (shape_of asked))) text) ≡ 2 → ⊥
     after_text text is = either (events_of text) is
       where
-        either : (events : Result (List Event) (ℕ × EventsReason)) → status_of (unless_refused (events_refusal events) (with_text asked.config (file_at told asked.config) after_config)) ≡ 2 → ⊥
+        either : (events : Result (List Event) (ℕ × EventsReason)) → status_of (unless_refused (events_refusal events) (with_text asked.config (file_at told asked.config) (after_config (shape_of asked)))) ≡ 2 → ⊥
         either (Err bad) h = omega arith
-        either (Ok events) h = with_text-not_usage asked.config (file_at told asked.config) after_config config h
+        either (Ok events) h = with_text-not_usage asked.config (file_at told asked.config) (after_config (shape_of asked)) config h
 
 fault-not_usage : (called o : Outcome) → MayFail called o → status_of o ≡ 2 → ⊥
 fault-not_usage called Answered f e = f
 fault-not_usage called Usage f e = f
 fault-not_usage called (EventsRefused line why) f e = f
-fault-not_usage called (ConfigRefused line) f e = f
+fault-not_usage called (ConfigRefused line why) f e = f
 fault-not_usage called (NoFile name) f e = f
 fault-not_usage called ReadFault f e = omega arith
 fault-not_usage called WriteFault f e = omega arith
@@ -60,7 +63,7 @@ of_command-not_usage : (asked : Options) (o : Outcome) → IsOfCommand asked o �
 of_command-not_usage asked Answered f e = omega arith
 of_command-not_usage asked Usage f e = f
 of_command-not_usage asked (EventsRefused line why) f e = omega arith
-of_command-not_usage asked (ConfigRefused line) f e = omega arith
+of_command-not_usage asked (ConfigRefused line why) f e = omega arith
 of_command-not_usage asked (NoFile name) f e = omega arith
 of_command-not_usage asked ReadFault f e = omega arith
 of_command-not_usage asked WriteFault f e = omega arith
@@ -116,7 +119,7 @@ complete_at (Some given) (Some files) NoMemory code reads writes (inr fault) (in
 complete_at (Some given) (Some files) Answered code reads writes (inr fault) (inl e) read write asked is some answered no_reads no_writes = absurd fault
 complete_at (Some given) (Some files) Usage code reads writes (inr fault) (inl e) read write asked is some answered no_reads no_writes = absurd fault
 complete_at (Some given) (Some files) (EventsRefused line why) code reads writes (inr fault) (inl e) read write asked is some answered no_reads no_writes = absurd fault
-complete_at (Some given) (Some files) (ConfigRefused line) code reads writes (inr fault) (inl e) read write asked is some answered no_reads no_writes = absurd fault
+complete_at (Some given) (Some files) (ConfigRefused line why) code reads writes (inr fault) (inl e) read write asked is some answered no_reads no_writes = absurd fault
 complete_at (Some given) (Some files) (NoFile name) code reads writes (inr fault) (inl e) read write asked is some answered no_reads no_writes = absurd fault
 complete_at (Some given) (Some files) (TooLarge name) code reads writes (inr fault) (inl e) read write asked is some answered no_reads no_writes = absurd fault
 

@@ -1,5 +1,5 @@
 -- Which outcomes may come.
-use Rattle.std.proofs.Common.{Result, Ok, Err, IfErr, MatchResult, ℕ, ◌≡◌, ◌<◌, ◌⊎◌, inl, inr, true, false, Option, Some, None, List, length, refl, sym, subst, ◌∙◌, option_map}
+use Rattle.std.proofs.Common.{Result, Ok, Err, IfErr, MatchResult, ℕ, ◌≡◌, ◌<◌, ◌⊎◌, inl, inr, true, false, Option, Some, None, List, length, refl, sym, subst, ◌∙◌}
 use Rattle.std.specs.Prelude.{nat_le, IsSomeAnd}
 use Rattle.std.proofs.lemmas.Bool.{le-leb, lt-leb}
 use Rattle.mp_model.specs.declared.record.Event.{Event}
@@ -7,9 +7,13 @@ use Rattle.mp_outside.specs.Files.{Files, file_at, IsThereWith}
 use Rattle.mp_cli.specs.declared.TheConstants.{MAX_BYTES}
 use Rattle.mp_events.specs.Events.{events_of}
 use Rattle.mp_words.specs.Values.{Options}
-use Rattle.mp_cli.specs.Config.{bad_line_of}
+use Rattle.mp_cli.specs.Config.{shape_of}
+use Rattle.mp_control.specs.declared.refused.ControlReason.{ControlReason}
+use Rattle.mp_control.specs.Controls.{controls_of}
+use Rattle.mp_names.specs.declared.controls.Control.{Control}
+use Rattle.mp_names.specs.declared.controls.Shape.{Shape}
 use Rattle.mp_events.specs.declared.refused.EventsReason.{EventsReason}
-use Rattle.mp_cli.specs.Outcome.{Outcome, Answered, ConfigRefused, EventsRefused, events_refusal, with_text, refusal_of_config, refusal_of_events, after_config, after_events, called_for, MayCome, MayFail, StopsAnswer}
+use Rattle.mp_cli.specs.Outcome.{Outcome, Answered, ConfigRefused, EventsRefused, config_refusal, events_refusal, with_text, refusal_of_config, refusal_of_events, after_config, after_events, called_for, MayCome, MayFail, StopsAnswer}
 use Rattle.mp_cli.specs.Reading.{IsRead, CannotRead, absent, large, failed, no_memory, ReadsConfig, ReadsEvents, RefusedBy}
 
 -- the bytes of a name that is there with a property, where files are told
@@ -61,14 +65,14 @@ events_untold asked text o e = either (events_of text) e
     either (Ok events) h = cc
 
 -- and so is each refusal of the configuration
-config_untold : (asked : Options) (text : List ℕ) (o : Outcome) → refusal_of_config text ≡ Some o → MayCome (Some asked) None o
-config_untold asked text o e = either (bad_line_of text) e
+config_untold : (asked : Options) (shape : Shape) (text : List ℕ) (o : Outcome) → refusal_of_config shape text ≡ Some o → MayCome (Some asked) None o
+config_untold asked shape text o e = either (controls_of text shape) e
   where
-    either : (bad : Option ℕ) → option_map ConfigRefused bad ≡ Some o → MayCome (Some asked) None o
-    either (Some line) h =
+    either : (controls : Result (List Control) (ℕ × ControlReason)) → config_refusal controls ≡ Some o → MayCome (Some asked) None o
+    either (Err bad) h =
         let P : Outcome → Type 0 = λ x. MayCome (Some asked) None x in
-        let is : ConfigRefused line ≡ o = cc in subst P is tt
-    either None h = cc
+        let is : ConfigRefused bad.0 bad.1 ≡ o = cc in subst P is tt
+    either (Ok controls) h = cc
 
 -- the events were refused
 pub may_from_events : (told : Option Files) (asked : Options) (o : Outcome) → RefusedBy told asked.events refusal_of_events o → MayCome (Some asked) told o
@@ -76,31 +80,31 @@ may_from_events None asked o (inl cannot) = CannotRead-of_events asked o cannot
 may_from_events None asked o (inr bad) = events_untold asked bad.0 o bad.2
 may_from_events (Some files) asked o (inl cannot) = cannot_goes_off files asked.events _ _ o cannot
 may_from_events (Some files) asked o (inr bad) =
-    let e = read_goes_on files asked.events bad.0 (after_events (with_text asked.config (file_at (Some files) asked.config) after_config)) bad.1 in
+    let e = read_goes_on files asked.events bad.0 (after_events (with_text asked.config (file_at (Some files) asked.config) (after_config (shape_of asked)))) bad.1 in
     inl (sym (e ∙ rw bad.2 refl))
 
 -- with the events read, what the configuration calls for
-after_reading : (files : Files) (asked : Options) (events : List Event) → ReadsEvents (Some files) asked.events events → called_for (Some files) asked ≡ with_text asked.config (file_at (Some files) asked.config) after_config
+after_reading : (files : Files) (asked : Options) (events : List Event) → ReadsEvents (Some files) asked.events events → called_for (Some files) asked ≡ with_text asked.config (file_at (Some files) asked.config) (after_config (shape_of asked))
 after_reading files asked events r =
-    let e = read_goes_on files asked.events r.0 (after_events (with_text asked.config (file_at (Some files) asked.config) after_config)) r.1 in
+    let e = read_goes_on files asked.events r.0 (after_events (with_text asked.config (file_at (Some files) asked.config) (after_config (shape_of asked)))) r.1 in
     e ∙ rw r.2 refl
 
 -- the configuration was refused
-pub may_from_config : (told : Option Files) (asked : Options) (events : List Event) (o : Outcome) → ReadsEvents told asked.events events → RefusedBy told asked.config refusal_of_config o → MayCome (Some asked) told o
+pub may_from_config : (told : Option Files) (asked : Options) (events : List Event) (o : Outcome) → ReadsEvents told asked.events events → RefusedBy told asked.config (refusal_of_config (shape_of asked)) o → MayCome (Some asked) told o
 may_from_config None asked events o r (inl cannot) = CannotRead-of_config asked o cannot
-may_from_config None asked events o r (inr bad) = config_untold asked bad.0 o bad.2
+may_from_config None asked events o r (inr bad) = config_untold asked (shape_of asked) bad.0 o bad.2
 may_from_config (Some files) asked events o r (inl cannot) =
-    let e = after_reading files asked events r in rw e (cannot_goes_off files asked.config after_config _ o cannot)
+    let e = after_reading files asked events r in rw e (cannot_goes_off files asked.config (after_config (shape_of asked)) _ o cannot)
 may_from_config (Some files) asked events o r (inr bad) =
     let e = after_reading files asked events r in
-    let f = read_goes_on files asked.config bad.0 after_config bad.1 in
+    let f = read_goes_on files asked.config bad.0 (after_config (shape_of asked)) bad.1 in
     inl (sym (e ∙ f ∙ rw bad.2 refl))
 
 -- with both read, an answer is called for
-answer_called_for : (files : Files) (asked : Options) (events : List Event) → ReadsEvents (Some files) asked.events events → ReadsConfig (Some files) asked.config → called_for (Some files) asked ≡ Answered
-answer_called_for files asked events r config =
+answer_called_for : (files : Files) (asked : Options) (events : List Event) (controls : List Control) → ReadsEvents (Some files) asked.events events → ReadsConfig (Some files) asked.config (shape_of asked) controls → called_for (Some files) asked ≡ Answered
+answer_called_for files asked events controls r config =
     let e = after_reading files asked events r in
-    let f = read_goes_on files asked.config config.0 after_config config.1 in
+    let f = read_goes_on files asked.config config.0 (after_config (shape_of asked)) config.1 in
     e ∙ f ∙ rw config.2 refl
 
 -- the writing was stopped
@@ -114,9 +118,9 @@ stopped_untold asked o (inl e) = let P : Outcome → Type 0 = λ x. MayCome (Som
 stopped_untold asked o (inr e) = let P : Outcome → Type 0 = λ x. MayCome (Some asked) None x in subst P (sym e) tt
 
 -- what comes of the writing
-pub may_end : {T R : Type 0} (outcome : R → Outcome) (result : Result T R) (told : Option Files) (asked : Options) (events : List Event) → ReadsEvents told asked.events events → ReadsConfig told asked.config → IfErr result (λ r. StopsAnswer (outcome r)) → MatchResult result (λ _. MayCome (Some asked) told Answered) (λ r. MayCome (Some asked) told (outcome r))
-may_end outcome (Ok x) None asked events read config fault = tt
-may_end outcome (Ok x) (Some files) asked events read config fault = inl (sym (answer_called_for files asked events read config))
-may_end outcome (Err r) None asked events read config fault = stopped_untold asked (outcome r) fault
-may_end outcome (Err r) (Some files) asked events read config fault =
-    inr (stopped_writing _ (outcome r) (answer_called_for files asked events read config) fault)
+pub may_end : {T R : Type 0} (outcome : R → Outcome) (result : Result T R) (told : Option Files) (asked : Options) (events : List Event) (controls : List Control) → ReadsEvents told asked.events events → ReadsConfig told asked.config (shape_of asked) controls → IfErr result (λ r. StopsAnswer (outcome r)) → MatchResult result (λ _. MayCome (Some asked) told Answered) (λ r. MayCome (Some asked) told (outcome r))
+may_end outcome (Ok x) None asked events controls read config fault = tt
+may_end outcome (Ok x) (Some files) asked events controls read config fault = inl (sym (answer_called_for files asked events controls read config))
+may_end outcome (Err r) None asked events controls read config fault = stopped_untold asked (outcome r) fault
+may_end outcome (Err r) (Some files) asked events controls read config fault =
+    inr (stopped_writing _ (outcome r) (answer_called_for files asked events controls read config) fault)

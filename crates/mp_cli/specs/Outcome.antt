@@ -1,21 +1,26 @@
 -- How a call can end: its status and its line.
-use Rattle.std.specs.Prelude.{ℕ, ◌≡◌, ◌⊎◌, ◌++◌, Option, Some, None, Result, Ok, Err, List, [], length, nat_le, codes, MatchOption, option_map, if◌then◌else◌}
+use Rattle.std.specs.Prelude.{ℕ, ◌≡◌, ◌⊎◌, ◌++◌, Option, Some, None, Result, Ok, Err, List, [], length, nat_le, codes, MatchOption, if◌then◌else◌}
 use Rattle.std.specs.Fmt.{decimal}
 use Rattle.mp_model.specs.declared.record.Event.{Event}
 use Rattle.mp_events.specs.declared.refused.EventsReason.{EventsReason}
 use Rattle.mp_events.specs.Events.{events_of}
 use Rattle.mp_events.specs.Reasons.{reason_text}
+use Rattle.mp_control.specs.declared.refused.ControlReason.{ControlReason}
+use Rattle.mp_control.specs.Controls.{controls_of}
+use Rattle.mp_control.specs.Reasons.{reason_text as text_of_control}
+use Rattle.mp_names.specs.declared.controls.Control.{Control}
+use Rattle.mp_names.specs.declared.controls.Shape.{Shape}
 use Rattle.mp_outside.specs.Files.{Files, file_at}
 use Rattle.mp_words.specs.Values.{Options}
 use Rattle.mp_cli.specs.declared.TheConstants.{MAX_BYTES}
-use Rattle.mp_cli.specs.Config.{bad_line_of}
+use Rattle.mp_cli.specs.Config.{shape_of}
 
 -- how a call can end
 pub data Outcome : Type 0 where
   Answered : Outcome
   Usage : Outcome
   EventsRefused : (line : ℕ) (why : EventsReason) → Outcome
-  ConfigRefused : (line : ℕ) → Outcome
+  ConfigRefused : (line : ℕ) (why : ControlReason) → Outcome
   NoFile : (name : List ℕ) → Outcome
   ReadFault : Outcome
   WriteFault : Outcome
@@ -27,7 +32,7 @@ abbrev pub status_of : Outcome → ℕ
 status_of Answered = 0
 status_of Usage = 2
 status_of (EventsRefused line why) = 3
-status_of (ConfigRefused line) = 4
+status_of (ConfigRefused line why) = 4
 status_of (NoFile name) = 5
 status_of ReadFault = 6
 status_of WriteFault = 7
@@ -39,7 +44,7 @@ abbrev pub line_said : Outcome → List ℕ
 line_said Answered = []
 line_said Usage = codes "usage: megaphone run|replay|check|make|demo\n"
 line_said (EventsRefused line why) = codes "events line " ++ (decimal line ++ (codes ": " ++ (reason_text why ++ codes "\n")))
-line_said (ConfigRefused line) = codes "config line " ++ (decimal line ++ codes ": kind\n")
+line_said (ConfigRefused line why) = codes "config line " ++ (decimal line ++ (codes ": " ++ (text_of_control why ++ codes "\n")))
 line_said (NoFile name) = codes "no file " ++ (name ++ codes "\n")
 line_said ReadFault = codes "read fault\n"
 line_said WriteFault = codes "write fault\n"
@@ -49,7 +54,7 @@ line_said (TooLarge name) = codes "too large: " ++ (name ++ codes "\n")
 -- the number of the line that is spoken of, and 0 where none is
 abbrev pub number_in : Outcome → ℕ
 number_in (EventsRefused line why) = line
-number_in (ConfigRefused line) = line
+number_in (ConfigRefused line why) = line
 number_in _ = 0
 
 -- what comes of a named file: it isn't there, it is larger than is allowed, or it has a text
@@ -71,22 +76,28 @@ events_refusal (Err bad) = Some (EventsRefused bad.0 bad.1)
 abbrev pub refusal_of_events : List ℕ → Option Outcome
 refusal_of_events text = events_refusal (events_of text)
 
--- why a configuration is refused, if it is
-abbrev pub refusal_of_config : List ℕ → Option Outcome
-refusal_of_config text = option_map ConfigRefused (bad_line_of text)
+-- control records, or why there are none: the number of the first bad line and the first check that it fails
+abbrev pub config_refusal : Result (List Control) (ℕ × ControlReason) → Option Outcome
+config_refusal (Ok controls) = None
+config_refusal (Err bad) = Some (ConfigRefused bad.0 bad.1)
 
--- what comes of the configuration, where the events are read
-abbrev pub after_config : List ℕ → Outcome
-after_config text = unless_refused (refusal_of_config text) Answered
+-- why a configuration is refused for a job of this shape, if it is
+abbrev pub refusal_of_config : Shape → List ℕ → Option Outcome
+refusal_of_config shape text = config_refusal (controls_of text shape)
+
+-- what comes of the configuration for a job of this shape, where the events are read
+abbrev pub after_config : Shape → List ℕ → Outcome
+after_config shape text = unless_refused (refusal_of_config shape text) Answered
 
 -- what comes of the events, and then of the configuration
 abbrev pub after_events : Outcome → List ℕ → Outcome
 after_events config text = unless_refused (refusal_of_events text) config
 
--- What a command calls for, by what the files hold: the events come first, then the configuration
+-- What a command calls for, by what the files hold: the events come first, then the configuration, which
+-- is read for the shape that the command asks for
 abbrev pub called_for : Option Files → Options → Outcome
 called_for told asked =
-    with_text asked.events (file_at told asked.events) (after_events (with_text asked.config (file_at told asked.config) after_config))
+    with_text asked.events (file_at told asked.events) (after_events (with_text asked.config (file_at told asked.config) (after_config (shape_of asked))))
 
 -- A fault of the outside, or want of memory, may come in place of what is called for. The writing may fail only where an
 -- answer is called for

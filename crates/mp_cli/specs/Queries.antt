@@ -1,4 +1,4 @@
--- The answers of the queries that the command line names.
+-- The stages and the answers of the queries that the command line names.
 use Rattle.std.specs.Prelude.{ℕ, List}
 use Rattle.mp_model.specs.declared.record.Event.{Event}
 use Rattle.mp_model.specs.Answers.{one_thread_answer}
@@ -12,6 +12,17 @@ use Rattle.mp_q_window.specs.Q7.{q7_facts}
 use Rattle.mp_q_join.specs.Q8.{q8_facts}
 use Rattle.mp_words.specs.declared.options.QueryName.{QueryName}
 use Rattle.mp_words.specs.declared.options.QueryName.TheVariants.{Q1, Q2, Q3, Q4, Q5, Q6, Q7, Q8}
+
+-- how many stages the query of this name has
+abbrev pub stages_of : QueryName → ℕ
+stages_of Q1 = 1
+stages_of Q2 = 1
+stages_of Q3 = 1
+stages_of Q4 = 2
+stages_of Q5 = 2
+stages_of Q6 = 2
+stages_of Q7 = 1
+stages_of Q8 = 1
 
 -- the one-thread answer of the query of this name to events
 abbrev pub answer_of : QueryName → List Event → List ℕ

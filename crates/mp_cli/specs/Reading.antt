@@ -4,7 +4,9 @@ use Rattle.mp_model.specs.declared.record.Event.{Event}
 use Rattle.mp_events.specs.Events.{events_of}
 use Rattle.mp_outside.specs.Files.{Files, file_at, IsThereWith}
 use Rattle.mp_cli.specs.declared.TheConstants.{MAX_BYTES}
-use Rattle.mp_cli.specs.Config.{bad_line_of}
+use Rattle.mp_control.specs.Controls.{controls_of}
+use Rattle.mp_names.specs.declared.controls.Control.{Control}
+use Rattle.mp_names.specs.declared.controls.Shape.{Shape}
 use Rattle.mp_cli.specs.Outcome.{Outcome, NoFile, TooLarge, ReadFault, NoMemory}
 
 -- the text is the file's, where files are told, and no longer than is allowed
@@ -28,6 +30,6 @@ RefusedBy told name refusal outcome =
 abbrev pub ReadsEvents : Option Files → List ℕ → List Event → Type 0
 ReadsEvents told name events = (text : List ℕ) × IsRead told name text × (events_of text ≡ Ok events)
 
--- the configuration was read, and has no bad line
-abbrev pub ReadsConfig : Option Files → List ℕ → Type 0
-ReadsConfig told name = (text : List ℕ) × IsRead told name text × (bad_line_of text ≡ None)
+-- the configuration was read, and says these control records for a job of this shape
+abbrev pub ReadsConfig : Option Files → List ℕ → Shape → List Control → Type 0
+ReadsConfig told name shape controls = (text : List ℕ) × IsRead told name text × (controls_of text shape ≡ Ok controls)

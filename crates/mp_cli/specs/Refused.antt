@@ -11,7 +11,7 @@ use Rattle.mp_cli.specs.Outcome.{Outcome, Usage, EventsRefused, ConfigRefused, N
 abbrev pub outcome_of : Refusal → Outcome
 outcome_of refusal.Usage = Usage
 outcome_of (refusal.EventsRefused line why) = EventsRefused line why
-outcome_of (refusal.ConfigRefused line) = ConfigRefused line
+outcome_of (refusal.ConfigRefused line why) = ConfigRefused line why
 outcome_of (refusal.NoFile name) = NoFile name.now
 outcome_of refusal.ReadFault = ReadFault
 outcome_of refusal.WriteFault = WriteFault

@@ -5,8 +5,14 @@ use mp_outside::{MemDepot, MemSink};
 use std::alloc::{AllocError, Global};
 use std::process::Abort;
 
-/// Shapes of a dataflow, whose answers are the same.
-const SHAPES: [&str; 2] = ["--workers 1 --bins 1", "--workers 3 --bins 4"];
+const ONE_WORKER: &str = "--workers 1 --bins 1";
+
+/// Three workers, which own four bins of each stage in turn.
+pub const THREE_WORKERS: &str = "--workers 3 --bins 4";
+
+/// Control records for three workers with four bins: each bin moves at least once, one there and back.
+const MOVES: &[u8] =
+    b"M|1|0|0|2\nM|2|0|1|0\nM|50|0|2|1\nM|100|0|3|2\nM|100|0|0|1\nM|600|0|1|1\nM|1200|0|0|0\n";
 
 /// An event file `e` and a configuration `c`.
 pub fn files(alloc: Global, events: &[u8], config: &[u8]) -> Result<MemDepot, AllocError> {
@@ -54,47 +60,51 @@ pub fn answers_line<R: AllocGlobal + Abort>(
     ends_as(rt, &mut depot, line, 0, "", Some(answer))
 }
 
-/// Runs a query on these events and an empty configuration, by this command, and compares the answer.
+/// Runs a query by this command on these events and this configuration, and compares the answer.
 fn answers_by<R: AllocGlobal + Abort>(
     rt: &R,
     command: &str,
     query: &str,
     events: &[u8],
+    config: &[u8],
     answer: &[u8],
 ) -> Result<(), AllocError> {
     let line = format!(in rt.alloc();
         "megaphone {command} --query {query} --events e --config c --out o"
     )?;
-    answers_line(rt, line.as_str(), events, answer)
+    let mut depot = files(rt.alloc(), events, config)?;
+    ends_as(rt, &mut depot, line.as_str(), 0, "", Some(answer))
 }
 
-/// Runs a query in this shape, by `run` and by `replay` with ten seeds, and compares the answers.
-fn answers_in<R: AllocGlobal + Abort>(
+/// Runs a query in this shape on these events and this configuration, by `run` and by `replay` with ten seeds, and compares
+/// the answers.
+pub fn answers_in<R: AllocGlobal + Abort>(
     rt: &R,
     shape: &str,
     query: &str,
     events: &[u8],
+    config: &[u8],
     answer: &[u8],
 ) -> Result<(), AllocError> {
     let command = format!(in rt.alloc(); "run {shape}")?;
-    answers_by(rt, command.as_str(), query, events, answer)?;
+    answers_by(rt, command.as_str(), query, events, config, answer)?;
     for seed in 0..10 {
         let command = format!(in rt.alloc(); "replay {shape} --seed {seed}")?;
-        answers_by(rt, command.as_str(), query, events, answer)?;
+        answers_by(rt, command.as_str(), query, events, config, answer)?;
     }
     Ok(())
 }
 
-/// Runs a query in many ways on these events and an empty configuration, and compares the answers.
+/// Runs a query in many ways on these events, without moves and with some, and compares the answers.
 pub fn answers<R: AllocGlobal + Abort>(
     rt: &R,
     query: &str,
     events: &[u8],
     answer: &[u8],
 ) -> Result<(), AllocError> {
-    for shape in SHAPES {
-        answers_in(rt, shape, query, events, answer)?;
-    }
+    answers_in(rt, ONE_WORKER, query, events, b"", answer)?;
+    answers_in(rt, THREE_WORKERS, query, events, b"", answer)?;
+    answers_in(rt, THREE_WORKERS, query, events, MOVES, answer)?;
     let narrow = "replay --workers 3 --bins 4 --seed 281474976710656 --depth 1";
-    answers_by(rt, narrow, query, events, answer)
+    answers_by(rt, narrow, query, events, b"", answer)
 }

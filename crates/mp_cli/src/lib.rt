@@ -4,9 +4,12 @@
 mod causes;
 #[cfg(test)]
 mod fixture;
+#[cfg(test)]
+mod moves;
 mod reading;
 mod refusal;
 mod serve;
+mod shape;
 mod status;
 #[cfg(test)]
 mod tests;

@@ -7,6 +7,7 @@ ghost use Rattle.mp_outside.specs.Sink.{grown};
 ghost use Rattle.mp_cli.specs.Refused.{outcome_of};
 ghost use Rattle.mp_cli.specs.Outcome.{line_said, number_in, status_of};
 
+use mp_control::ControlReason;
 use mp_events::EventsReason;
 use mp_outside::{Fault, Sink, write_piece};
 
@@ -17,8 +18,8 @@ pub enum Refusal<'a> {
     Usage,
     /// The event file has a first bad line.
     EventsRefused { line: u64, why: EventsReason },
-    /// The configuration has a first line that isn't blank.
-    ConfigRefused { line: u64 },
+    /// The configuration has a first bad line.
+    ConfigRefused { line: u64, why: ControlReason },
     /// The file of this name isn't there.
     NoFile(&'a str),
     /// A find or a read failed.
@@ -54,7 +55,7 @@ impl<'a> Refusal<'a> {
     {
         match self {
             Refusal::EventsRefused { line, .. } => *line,
-            Refusal::ConfigRefused { line } => *line,
+            Refusal::ConfigRefused { line, .. } => *line,
             _ => 0,
         }
     }
@@ -67,7 +68,7 @@ impl<'a> Refusal<'a> {
         match self {
             Refusal::Usage => ("usage: megaphone run|replay|check|make|demo", "", "", ""),
             Refusal::EventsRefused { why, .. } => ("events line ", digits, ": ", why.text()),
-            Refusal::ConfigRefused { .. } => ("config line ", digits, ": ", "kind"),
+            Refusal::ConfigRefused { why, .. } => ("config line ", digits, ": ", why.text()),
             Refusal::NoFile(name) => ("no file ", *name, "", ""),
             Refusal::ReadFault => ("read fault", "", "", ""),
             Refusal::WriteFault => ("write fault", "", "", ""),

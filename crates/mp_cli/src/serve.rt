@@ -12,8 +12,9 @@ ghost use Rattle.mp_cli.specs.Queries.{answer_of};
 ghost use Rattle.mp_cli.specs.Refused.{outcome_of};
 ghost use Rattle.mp_cli.specs.Reading.{ReadsEvents};
 
-use crate::reading::{events_in, read_config};
+use crate::reading::{controls_in, events_in};
 use crate::refusal::Refusal;
+use crate::shape::shape_of;
 use crate::writing::write_answer;
 use mp_gate::Gate;
 use mp_outside::Depot;
@@ -62,6 +63,7 @@ fn answer<'a, D: Depot, G: Gate>(
     ensures part { OnErr result (let asked = options_in options.now in (D.files depot.new ≡ D.files depot.old) ⊎ ((events : List Event) × ReadsEvents (D.files depot.old) asked.events events × (k : ℕ) × (D.files depot.new ≡ with_file (D.files depot.old) asked.out (take k (answer_of asked.query events))))) }
 {
     let events = events_in(alloc, depot, options.events)?;
-    read_config(alloc, depot, options.config)?;
-    write_answer(alloc, depot, options, events, gate)
+    let shape = shape_of(options);
+    let controls = controls_in(alloc, depot, options.config, &shape)?;
+    write_answer(alloc, depot, options, events, controls, gate)
 }

@@ -118,11 +118,11 @@ fn config_refused(rt: HostRuntime) -> Result<(), Fail> {
     refuses(
         &rt,
         THREE_BIDS,
-        b"\n\nM|5|0|0|0\n",
+        b"\n\nm|5|0|0|0\n",
         4,
         "config line 3: kind\n",
     )?;
-    refuses(&rt, b"x", b"M|5|0|0|0\n", 3, "events line 1: kind\n")?;
+    refuses(&rt, b"x", b"x", 3, "events line 1: kind\n")?;
     Ok(())
 }
 

@@ -18,7 +18,7 @@ use mp_outside::{Depot, Sink};
 /// The command is `run` or `replay` with `--query` (`q1` to `q8`), `--events`, `--config` and `--out`, and perhaps
 /// `--workers` (1, up to 16), `--bins` (16, a power of two up to 256) and `--depth` (64, up to 1024); `replay` also takes
 /// `--seed` (0, up to 2^48). Its statuses are this project's profile: 0 answered; 2 the words are no command; 3 the event
-/// file has a bad line; 4 the configuration has a line that isn't blank; 5 a file isn't there; 6 a find or a read failed; 7 a
+/// file has a bad line; 4 the configuration has a bad line; 5 a file isn't there; 6 a find or a read failed; 7 a
 /// begin or an append failed; 8 want of memory; 9 a file has more than 2^28 bytes. The refusals 3 and 4 say the number of the
 /// first bad line and the first check that it fails.
 ///

@@ -3,7 +3,7 @@ use crate::fixture::answers;
 use std::test::Fail;
 
 #[test]
-fn q1_prices_bids(rt: HostRuntime) -> Result<(), Fail> {
+fn shares_by_index(rt: HostRuntime) -> Result<(), Fail> {
     answers(
         &rt,
         "q1",
@@ -14,7 +14,7 @@ fn q1_prices_bids(rt: HostRuntime) -> Result<(), Fail> {
 }
 
 #[test]
-fn q2_takes_every_123rd_auction(rt: HostRuntime) -> Result<(), Fail> {
+fn every_123rd_auction(rt: HostRuntime) -> Result<(), Fail> {
     answers(
         &rt,
         "q2",
@@ -31,7 +31,7 @@ fn q2_takes_every_123rd_auction(rt: HostRuntime) -> Result<(), Fail> {
 }
 
 #[test]
-fn q3_joins_sellers_and_auctions(rt: HostRuntime) -> Result<(), Fail> {
+fn waiting_auctions_join(rt: HostRuntime) -> Result<(), Fail> {
     answers(
         &rt,
         "q3",
@@ -42,29 +42,51 @@ fn q3_joins_sellers_and_auctions(rt: HostRuntime) -> Result<(), Fail> {
 }
 
 #[test]
-fn q4_averages_categories(rt: HostRuntime) -> Result<(), Fail> {
-    let closed_before_the_last_bid = b"A|0|1|9|10|50|100\nB|50|1|2|60\nB|100|1|3|90\n";
-    answers(&rt, "q4", closed_before_the_last_bid, b"100|10|60\n")?;
-    let two_sales_at_once = b"A|0|1|9|10|0|100\nA|0|2|9|10|0|100\nB|1|1|5|30\nB|2|2|5|41\n";
-    answers(&rt, "q4", two_sales_at_once, b"100|10|35\n")?;
-    let closed_at_the_greatest_time = b"A|0|1|9|4|0|140737488355328\nB|1|1|5|7\n";
+fn closing_before_the_bid(rt: HostRuntime) -> Result<(), Fail> {
     answers(
         &rt,
         "q4",
-        closed_at_the_greatest_time,
+        b"A|0|1|9|10|50|100\nB|50|1|2|60\nB|100|1|3|90\n",
+        b"100|10|60\n",
+    )?;
+    Ok(())
+}
+
+#[test]
+fn one_row_for_two_sales(rt: HostRuntime) -> Result<(), Fail> {
+    answers(
+        &rt,
+        "q4",
+        b"A|0|1|9|10|0|100\nA|0|2|9|10|0|100\nB|1|1|5|30\nB|2|2|5|41\n",
+        b"100|10|35\n",
+    )?;
+    Ok(())
+}
+
+#[test]
+fn wake_at_the_greatest_time(rt: HostRuntime) -> Result<(), Fail> {
+    answers(
+        &rt,
+        "q4",
+        b"A|0|1|9|4|0|140737488355328\nB|1|1|5|7\n",
         b"140737488355328|4|7\n",
     )?;
     Ok(())
 }
 
 #[test]
-fn q5_counts_bids_of_windows(rt: HostRuntime) -> Result<(), Fail> {
+fn six_windows(rt: HostRuntime) -> Result<(), Fail> {
     answers(
         &rt,
         "q5",
         b"B|600|5|1|10\n",
         b"1200|5|1\n1800|5|1\n2400|5|1\n3000|5|1\n3600|5|1\n4200|5|1\n",
     )?;
+    Ok(())
+}
+
+#[test]
+fn ties_in_a_window(rt: HostRuntime) -> Result<(), Fail> {
     answers(
         &rt,
         "q5",
@@ -75,7 +97,7 @@ fn q5_counts_bids_of_windows(rt: HostRuntime) -> Result<(), Fail> {
 }
 
 #[test]
-fn q6_averages_the_last_ten_sales(rt: HostRuntime) -> Result<(), Fail> {
+fn last_ten_prices(rt: HostRuntime) -> Result<(), Fail> {
     let mut events = String::new(rt.alloc());
     for sale in 1..=11u64 {
         let (expires, price) = (100 + sale, 10 * sale);
@@ -92,29 +114,23 @@ fn q6_averages_the_last_ten_sales(rt: HostRuntime) -> Result<(), Fail> {
 }
 
 #[test]
-fn q7_takes_the_best_bid_of_a_window(rt: HostRuntime) -> Result<(), Fail> {
+fn best_bid_of_a_window(rt: HostRuntime) -> Result<(), Fail> {
     answers(
         &rt,
         "q7",
-        b"B|10|1|2|50\nB|20|3|4|50\nB|599|5|6|49\nB|600|1|2|50\n",
-        b"600|1|2|50\n1200|1|2|50\n",
+        b"B|10|1|2|50\nB|20|3|4|50\nB|599|5|6|49\nB|600|7|8|1\n",
+        b"600|1|2|50\n1200|7|8|1\n",
     )?;
     Ok(())
 }
 
 #[test]
-fn q8_takes_sellers_of_their_first_day(rt: HostRuntime) -> Result<(), Fail> {
+fn sellers_of_their_first_day(rt: HostRuntime) -> Result<(), Fail> {
     answers(
         &rt,
         "q8",
-        b"P|100|5|Ann|Reno|OR\nA|43199|1|5|10|0|90000\n",
+        b"P|100|5|Ann|Reno|NY\nA|43199|1|5|3|0|50000\nP|200|6|Bob|Reno|NY\nA|43200|2|6|3|0|50000\n",
         b"43200|5|Ann\n",
-    )?;
-    answers(
-        &rt,
-        "q8",
-        b"P|200|6|Bob|Boise|ID\nA|43200|2|6|10|0|90000\n",
-        b"",
     )?;
     Ok(())
 }

@@ -6,14 +6,18 @@ ghost use Rattle.mp_output.specs.Rows.{GivesRows};
 ghost use Rattle.mp_outside.specs.Fault.{Rose};
 ghost use Rattle.mp_outside.specs.Files.{with_file};
 ghost use Rattle.mp_words.specs.Limits.{AreWithinLimits};
+ghost use Rattle.mp_words.specs.Values.{options_in};
+ghost use Rattle.mp_job.specs.Legal.{ControlsFit};
+ghost use Rattle.mp_cli.specs.Config.{shape_of};
 ghost use Rattle.mp_cli.specs.Outcome.{StopsAnswer, status_of};
-ghost use Rattle.mp_cli.specs.Queries.{answer_of};
+ghost use Rattle.mp_cli.specs.Queries.{answer_of, stages_of};
 ghost use Rattle.mp_cli.specs.Refused.{outcome_of};
 
 use crate::refusal::Refusal;
+use crate::shape::shape_of;
 use mp_drive::{DriveStop, replay};
 use mp_gate::Gate;
-use mp_job::{Job, Shape};
+use mp_job::{Control, Job};
 use mp_model::{Event, Query};
 use mp_outside::{Depot, DepotSink, Fault};
 use mp_q_auction::{Q4, Q6};
@@ -24,16 +28,19 @@ use mp_words::{QueryName, RunOptions};
 use std::alloc::Global;
 use std::marker::Brand;
 
-/// Runs the dataflow that a command asks for on these events, and makes its file hold the answer.
+/// Runs the dataflow that a command asks for on these events, with its bins moved as these control records say, and makes
+/// its file hold the answer.
 pub fn write_answer<'a, D: Depot, G: Gate>(
     alloc: Global,
     depot: &mut D,
     options: &RunOptions<'a>,
     events: Vec<Event>,
+    controls: Vec<Control>,
     gate: &G,
 ) -> Result<(), Refusal<'a>>
     requires options { AreWithinLimits options.now }
     requires events { EventsAreLegal events.items }
+    requires controls { ControlsFit (shape_of (options_in options.now)) controls.items }
     ensures whole { OnOk result (D.files depot.new ≡ with_file (D.files depot.old) options.now.out.now (answer_of options.now.query events.items)) }
     ensures part { OnErr result ((D.files depot.new ≡ D.files depot.old) ⊎ ((k : ℕ) × (D.files depot.new ≡ with_file (D.files depot.old) options.now.out.now (take k (answer_of options.now.query events.items))))) }
     ensures refused { IfErr result (λ r. StopsAnswer (outcome_of r)) }
@@ -41,28 +48,31 @@ pub fn write_answer<'a, D: Depot, G: Gate>(
     ensures failed { IfErr result (λ r. status_of (outcome_of r) ≡ 7 → Rose (D.write_faults depot.old) (D.write_faults depot.new)) }
 {
     match options.query {
-        QueryName::Q1 => run_query(alloc, depot, Q1 {}, options, events, gate),
-        QueryName::Q2 => run_query(alloc, depot, Q2 {}, options, events, gate),
-        QueryName::Q3 => run_query(alloc, depot, Q3 {}, options, events, gate),
-        QueryName::Q4 => run_query(alloc, depot, Q4 {}, options, events, gate),
-        QueryName::Q5 => run_query(alloc, depot, Q5 {}, options, events, gate),
-        QueryName::Q6 => run_query(alloc, depot, Q6 {}, options, events, gate),
-        QueryName::Q7 => run_query(alloc, depot, Q7 {}, options, events, gate),
-        QueryName::Q8 => run_query(alloc, depot, Q8 {}, options, events, gate),
+        QueryName::Q1 => run_query(alloc, depot, Q1 {}, options, events, controls, gate),
+        QueryName::Q2 => run_query(alloc, depot, Q2 {}, options, events, controls, gate),
+        QueryName::Q3 => run_query(alloc, depot, Q3 {}, options, events, controls, gate),
+        QueryName::Q4 => run_query(alloc, depot, Q4 {}, options, events, controls, gate),
+        QueryName::Q5 => run_query(alloc, depot, Q5 {}, options, events, controls, gate),
+        QueryName::Q6 => run_query(alloc, depot, Q6 {}, options, events, controls, gate),
+        QueryName::Q7 => run_query(alloc, depot, Q7 {}, options, events, controls, gate),
+        QueryName::Q8 => run_query(alloc, depot, Q8 {}, options, events, controls, gate),
     }
 }
 
-/// Runs a query on these events, and makes the file hold its answer.
+/// Runs a query on these events, with bins moved by these control records, and makes the file hold its answer.
 fn run_query<'a, D: Depot, Q: Query, G: Gate>(
     alloc: Global,
     depot: &mut D,
     query: Q,
     options: &RunOptions<'a>,
     events: Vec<Event>,
+    controls: Vec<Control>,
     gate: &G,
 ) -> Result<(), Refusal<'a>>
     requires options { AreWithinLimits options.now }
     requires events { EventsAreLegal events.items }
+    requires controls { ControlsFit (shape_of (options_in options.now)) controls.items }
+    requires stages { stages_of options.now.query ≡ Q.STAGES }
     requires rows { GivesRows (Q.facts (Q.rules query)) }
     ensures whole { OnOk result (D.files depot.new ≡ with_file (D.files depot.old) options.now.out.now (one_thread_answer (Q.facts (Q.rules query)) events.items)) }
     ensures part { OnErr result ((D.files depot.new ≡ D.files depot.old) ⊎ ((k : ℕ) × (D.files depot.new ≡ with_file (D.files depot.old) options.now.out.now (take k (one_thread_answer (Q.facts (Q.rules query)) events.items))))) }
@@ -70,12 +80,7 @@ fn run_query<'a, D: Depot, Q: Query, G: Gate>(
 
     ensures failed { IfErr result (λ r. status_of (outcome_of r) ≡ 7 → Rose (D.write_faults depot.old) (D.write_faults depot.new)) }
 {
-    let shape = Shape {
-        workers: options.workers,
-        bins: options.bins,
-        stages: Q::STAGES,
-    };
-    let job = Job::new(alloc, query, events, Vec::new(alloc), shape)?;
+    let job = Job::new(alloc, query, events, controls, shape_of(options))?;
     depot.begin(options.out)?;
     let mut sink = DepotSink::new(depot, options.out);
     replay::<Q, Brand, _, _>(alloc, &job, options.depth, options.seed, gate, &mut sink)?;

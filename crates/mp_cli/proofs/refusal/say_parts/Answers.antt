@@ -1,5 +1,5 @@
 -- After each part it is written too; after a part of one, that.
-use Rattle.std.proofs.Common.{ℕ, ◌+◌, List, length, take, get_or, ap, ◌∙◌, sym, arith}
+use Rattle.std.proofs.Common.{ℕ, ◌+◌, List, length, take, ap, ◌∙◌, sym, arith}
 use Rattle.std.specs.List.{flat_map}
 use Rattle.std.proofs.lemmas.List.{get_or_default}
 use Rattle.mp_outside.specs.Sink.{grown}
