@@ -13,9 +13,9 @@ use Rattle.mp_machine.proofs.Full.{full_where_known}
 use Rattle.mp_machine.proofs.Worlds.{run_right}
 use Rattle.mp_model.specs.Facts.{JobFacts, QueryFacts}
 use Rattle.mp_outline.specs.JobOutline.{outline_of}
-use Rattle.mp_parts.specs.declared.tally.Tally.{Tally}
-use Rattle.mp_states.specs.State.{WorkerState}
-use Rattle.mp_states.specs.Together.{KnowsTheEnd, Together}
+use Rattle.mp_worker_invariant.specs.declared.tally.Tally.{Tally}
+use Rattle.mp_refinement.specs.State.{WorkerState}
+use Rattle.mp_refinement.specs.Together.{KnowsTheEnd, Together}
 use Rattle.mp_drive.specs.Driven.{AllKnowTheEnd, AreReached}
 use Rattle.mp_drive.specs.Tallies.{IsTallyOf, TellsLog}
 use Rattle.mp_drive.proofs.Ended.{finished}

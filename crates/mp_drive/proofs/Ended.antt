@@ -23,10 +23,10 @@ use Rattle.mp_machine.proofs.Worlds.{run_right}
 use Rattle.mp_model.specs.Answers.{one_thread_answer}
 use Rattle.mp_model.specs.Facts.{JobFacts, QueryFacts}
 use Rattle.mp_outline.specs.JobOutline.{outline_of}
-use Rattle.mp_states.specs.State.{WorkerState}
-use Rattle.mp_states.specs.Together.{IsWorkerOf, KnowsTheEnd, Together}
-use Rattle.mp_answer.specs.Lines.{written_lines}
-use Rattle.mp_answer.proofs.Written.{full_logs_answer, written_lines_begin}
+use Rattle.mp_refinement.specs.State.{WorkerState}
+use Rattle.mp_refinement.specs.Together.{IsWorkerOf, KnowsTheEnd, Together}
+use Rattle.mp_answer_laws.specs.Lines.{written_lines}
+use Rattle.mp_answer_laws.proofs.Written.{full_logs_answer, written_lines_begin}
 use Rattle.mp_drive.specs.Driven.{AllKnowTheEnd, AreReached, HasBegun, HasWritten, first_log}
 use Rattle.mp_drive.proofs.Written.{first_legal, some_first}
 

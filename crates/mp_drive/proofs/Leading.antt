@@ -8,7 +8,7 @@ use Rattle.mp_machine.specs.Worlds.{World, start_of_machine}
 use Rattle.mp_machine.specs.Runs.{Turn, NotNow, after_turn, is_made, made_count, run_of_machine, step_of_machine, turn_of_machine, turns_of, world_after}
 use Rattle.mp_machine.proofs.Bounds.{steps_bounded}
 use Rattle.mp_machine.proofs.Worlds.{after_more, turns_more}
-use Rattle.mp_states.specs.Together.{AreWorld, Together}
+use Rattle.mp_refinement.specs.Together.{AreWorld, Together}
 use Rattle.mp_drive.specs.Driven.{AreAfter, AreReached, LeadsOn, MakesStep, MakesSteps}
 
 module _ (o : Outline) where

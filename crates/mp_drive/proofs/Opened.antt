@@ -8,10 +8,10 @@ use Rattle.mp_stamps.specs.declared.seen.Seen.{Seen}
 use Rattle.mp_mailbox.specs.Queues.{Queues, empty_queues}
 use Rattle.mp_machine.specs.Worlds.{start_of_machine}
 use Rattle.mp_board.specs.Boards.{ShowsFrontiers}
-use Rattle.mp_states.specs.Laws.{IsNewWorker}
-use Rattle.mp_states.specs.State.{WorkerState}
-use Rattle.mp_states.specs.Together.{AreWorld, Together}
-use Rattle.mp_states.proofs.Begins.{opening_is_the_start}
+use Rattle.mp_refinement.specs.Laws.{IsNewWorker}
+use Rattle.mp_refinement.specs.State.{WorkerState}
+use Rattle.mp_refinement.specs.Together.{AreWorld, Together}
+use Rattle.mp_refinement.proofs.Begins.{opening_is_the_start}
 use Rattle.mp_drive.specs.Driven.{AreReached}
 
 some_is : {X : Type 0} (x y : X) → Some x ≡ Some y → x ≡ y

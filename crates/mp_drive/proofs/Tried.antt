@@ -20,8 +20,8 @@ use Rattle.mp_machine.specs.Worlds.{World}
 use Rattle.mp_machine.proofs.Ends.{all_over}
 use Rattle.mp_machine.proofs.Places.{place_listed}
 use Rattle.mp_machine.proofs.Worlds.{run_right}
-use Rattle.mp_states.specs.State.{WorkerState}
-use Rattle.mp_states.specs.Together.{AreWorld, KnowsTheEnd, Together}
+use Rattle.mp_refinement.specs.State.{WorkerState}
+use Rattle.mp_refinement.specs.Together.{AreWorld, KnowsTheEnd, Together}
 use Rattle.mp_drive.specs.Driven.{AllKnowTheEnd, AreAfter, AreReached, LeadsOn, turn_in}
 use Rattle.mp_worker.specs.declared.turn.Turn.{Turn as Answered}
 use Rattle.mp_worker.specs.declared.turn.Turn.TheVariants as worker

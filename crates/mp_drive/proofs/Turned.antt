@@ -15,14 +15,14 @@ use Rattle.mp_machine.specs.Worlds.{World, start_of_machine}
 use Rattle.mp_machine.specs.Runs.{Did, NotNow, Saw, Turn, after_turn, run_of_machine, step_of_machine, turn_of_machine}
 use Rattle.mp_machine.proofs.Worlds.{after_more, run_right}
 use Rattle.mp_board.specs.Boards.{Posted, ShowsFrontiers, exchanged, version_with}
-use Rattle.mp_states.specs.Ends.{AtEnds, FollowsLog}
-use Rattle.mp_states.specs.Laws.{MailFollows, StepsMayBeAsked}
-use Rattle.mp_states.specs.Mail.{MailHinders, MailLets}
-use Rattle.mp_states.specs.State.{CanMake, Makes, WorkerState}
-use Rattle.mp_states.specs.Together.{AreWorld, Together, queues_stand}
-use Rattle.mp_states.proofs.Asked.{may_be_asked}
-use Rattle.mp_states.proofs.Exchanges as exchanges
-use Rattle.mp_states.proofs.Steps as steps
+use Rattle.mp_refinement.specs.Ends.{AtEnds, FollowsLog}
+use Rattle.mp_refinement.specs.Laws.{MailFollows, StepsMayBeAsked}
+use Rattle.mp_refinement.specs.Mail.{MailHinders, MailLets}
+use Rattle.mp_refinement.specs.State.{CanMake, Makes, WorkerState}
+use Rattle.mp_refinement.specs.Together.{AreWorld, Together, queues_stand}
+use Rattle.mp_refinement.proofs.Asked.{may_be_asked}
+use Rattle.mp_refinement.proofs.Exchanges as exchanges
+use Rattle.mp_refinement.proofs.Steps as steps
 use Rattle.mp_worker.specs.declared.turn.Stop.{Stop}
 use Rattle.mp_worker.specs.declared.turn.Turn.{Turn as Answered}
 use Rattle.mp_worker.specs.declared.turn.Turn.TheVariants as worker

@@ -21,12 +21,12 @@ use Rattle.mp_machine.specs.Runs.{run_of_machine, step_of_machine}
 use Rattle.mp_machine.specs.Steps.{logged}
 use Rattle.mp_machine.proofs.Worlds.{run_right, step_right}
 use Rattle.mp_board.specs.Boards.{Posted}
-use Rattle.mp_states.specs.State.{CanMake, Makes, WorkerState, as_machine, with_step}
-use Rattle.mp_states.specs.Together.{AreWorld, Together, with_worker}
-use Rattle.mp_states.proofs.Asked.{may_be_asked}
-use Rattle.mp_states.proofs.Steps as steps
-use Rattle.mp_answer.specs.Lines.{lines_of_time, written_lines}
-use Rattle.mp_answer.proofs.Written.{others_write_nothing, parts_of_lines_begin, writing_adds_lines, written_lines_begin}
+use Rattle.mp_refinement.specs.State.{CanMake, Makes, WorkerState, as_machine, with_step}
+use Rattle.mp_refinement.specs.Together.{AreWorld, Together, with_worker}
+use Rattle.mp_refinement.proofs.Asked.{may_be_asked}
+use Rattle.mp_refinement.proofs.Steps as steps
+use Rattle.mp_answer_laws.specs.Lines.{lines_of_time, written_lines}
+use Rattle.mp_answer_laws.proofs.Written.{others_write_nothing, parts_of_lines_begin, writing_adds_lines, written_lines_begin}
 use Rattle.mp_worker.specs.declared.turn.Stop.{Stop}
 use Rattle.mp_worker.specs.declared.turn.Turn.{Turn as Answered}
 use Rattle.mp_worker.specs.declared.turn.Turn.TheVariants as worker

@@ -9,8 +9,8 @@ use Rattle.mp_model.specs.declared.record.Event.{Event}
 use Rattle.mp_model.specs.Answers.{one_thread_answer}
 use Rattle.mp_model.specs.Facts.{QueryFacts}
 use Rattle.mp_machine.specs.Runs.{Turn, Did, NotNow, Saw, is_made, made_count, run_of_machine, turns_of}
-use Rattle.mp_states.specs.Together.{AreWorld, KnowsTheEnd, Together}
-use Rattle.mp_answer.specs.Lines.{written_lines}
+use Rattle.mp_refinement.specs.Together.{AreWorld, KnowsTheEnd, Together}
+use Rattle.mp_answer_laws.specs.Lines.{written_lines}
 use Rattle.mp_worker.specs.declared.turn.Turn.{Turn as Answered}
 use Rattle.mp_worker.specs.declared.turn.Turn.TheVariants as worker
 

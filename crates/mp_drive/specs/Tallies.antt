@@ -6,8 +6,8 @@ use Rattle.mp_names.specs.Names.{Distinct, In, joined_below}
 use Rattle.mp_names.specs.Outlines.{IsMove, owner_before}
 use Rattle.mp_model.specs.Facts.{JobFacts, QueryFacts}
 use Rattle.mp_outline.specs.JobOutline.{outline_of}
-use Rattle.mp_parts.specs.declared.tally.Tally.{Tally}
-use Rattle.mp_parts.specs.Tallies.{MovedHasKeys, name_of_moved, sent_packets}
+use Rattle.mp_worker_invariant.specs.declared.tally.Tally.{Tally}
+use Rattle.mp_worker_invariant.specs.Tallies.{MovedHasKeys, name_of_moved, sent_packets}
 
 module _ {Cell : Type 0} (q : QueryFacts Cell) (job : JobFacts) where
   -- The tally says what the log has: how many groups are applied, and which packets are sent, with how many keys each

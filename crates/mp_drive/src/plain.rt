@@ -7,10 +7,10 @@ ghost use Rattle.mp_outline.specs.JobOutline.{outline_of};
 ghost use Rattle.mp_machine.specs.Worlds.{start_of_machine};
 ghost use Rattle.mp_output.specs.Rows.{GivesRows};
 ghost use Rattle.mp_board.specs.Boards.{ShowsFrontiers};
-ghost use Rattle.mp_states.specs.Laws.{IsNewWorker};
-ghost use Rattle.mp_states.specs.State.{WorkerState};
-ghost use Rattle.mp_states.specs.Together.{AreWorld};
-ghost use Rattle.mp_answer.specs.Lines.{written_lines};
+ghost use Rattle.mp_refinement.specs.Laws.{IsNewWorker};
+ghost use Rattle.mp_refinement.specs.State.{WorkerState};
+ghost use Rattle.mp_refinement.specs.Together.{AreWorld};
+ghost use Rattle.mp_answer_laws.specs.Lines.{written_lines};
 ghost use Rattle.mp_drive.specs.declared.stop.DriveStop.TheVariants.{Write};
 ghost use Rattle.mp_drive.specs.Driven.{AllKnowTheEnd, HasBegun, HasWritten, LeadsOn, first_log, turn_in};
 
@@ -38,7 +38,7 @@ pub struct Plain<'a, Q: Query, J: Naming> {
 }
 
 impl<'a, Q: Query, J: Naming> Model for Plain<'a, Q, J> {
-    ghost use Rattle.mp_states.specs.Together.{Together};
+    ghost use Rattle.mp_refinement.specs.Together.{Together};
     ghost use Rattle.mp_drive.specs.Kept.{IsKept, together};
 
     ghost Value = { Together };

@@ -6,9 +6,9 @@ use Rattle.mp_model.specs.Folds.{cell_before}
 use Rattle.mp_model.specs.QueryLaws.{MostIsEnough}
 use Rattle.mp_model.specs.Stages.{stage_records}
 use Rattle.mp_outline.specs.Laws.{group_at}
-use Rattle.mp_hosting.specs.Hosted.{Hosted, cell_at, waits_at}
-use Rattle.mp_hosting.specs.Applying.{group_here, posts_here, woken_by}
-use Rattle.mp_hosting.specs.Laws.{IsWholeHere}
+use Rattle.mp_host_laws.specs.Hosted.{Hosted, cell_at, waits_at}
+use Rattle.mp_host_laws.specs.Applying.{group_here, posts_here, woken_by}
+use Rattle.mp_host_laws.specs.Laws.{IsWholeHere}
 
 one_more : (b c : Bool) (x y : ℕ) (ys zs : List ℕ) → length zs ≤ length ys + 1 → length (cond b (x ∷ y ∷ ys) (cond c (y ∷ ys) (y ∷ zs))) ≤ length (y ∷ ys) + 1
 one_more true c x y ys zs h = omega arith

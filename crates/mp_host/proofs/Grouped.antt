@@ -18,10 +18,10 @@ use Rattle.mp_outline.proofs.Found.{found}
 use Rattle.mp_msg.specs.Contents.{IsRecordOf}
 use Rattle.mp_msg.specs.States.{BinContent, IsInOrder, cell_in}
 use Rattle.mp_postdated.specs.Wakes.{Has, IsWake}
-use Rattle.mp_hosting.specs.declared.held.Held.{Held}
-use Rattle.mp_hosting.specs.Hosted.{Hosted, began_before, cell_at, has_wake_at, is_held_before, is_of, records_of, state_at}
-use Rattle.mp_hosting.specs.Applying.{IsApplied, group_here, posts_here}
-use Rattle.mp_hosting.proofs.Waiting.{from_is_of}
+use Rattle.mp_host_laws.specs.declared.held.Held.{Held}
+use Rattle.mp_host_laws.specs.Hosted.{Hosted, began_before, cell_at, has_wake_at, is_held_before, is_of, records_of, state_at}
+use Rattle.mp_host_laws.specs.Applying.{IsApplied, group_here, posts_here}
+use Rattle.mp_host_laws.proofs.Waiting.{from_is_of}
 use Rattle.mp_host.specs.Hosts.{IsHosted, MayBeHeld}
 use Rattle.mp_host.proofs.Kept.{states_fit}
 use Rattle.mp_host.proofs.Places.{IsFirstAt, around, no_place, place_is}

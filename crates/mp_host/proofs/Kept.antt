@@ -16,9 +16,9 @@ use Rattle.mp_msg.specs.Contents.{IsRecordOf}
 use Rattle.mp_ordered.specs.InOrder.{IsInOrder, put_in_order}
 use Rattle.mp_ordered.proofs.Placing.{put_all, put_keeps}
 use Rattle.mp_postdated.specs.Wakes.{wake_cmp}
-use Rattle.mp_hosting.specs.declared.held.Held.{Held}
-use Rattle.mp_hosting.specs.Hosted.{Hosted, IsNew, StateStands, empty_state, first_held, group_rank}
-use Rattle.mp_hosting.proofs.Lists.{All-each}
+use Rattle.mp_host_laws.specs.declared.held.Held.{Held}
+use Rattle.mp_host_laws.specs.Hosted.{Hosted, IsNew, StateStands, empty_state, first_held, group_rank}
+use Rattle.mp_host_laws.proofs.Lists.{All-each}
 use Rattle.mp_host.specs.Hosts.{IsHosted, MayBeHeld, WakesArePosted}
 
 -- where a call does one thing on `Ok` and another on `Err`, and either will do

@@ -12,9 +12,9 @@ use Rattle.mp_outline.specs.JobOutline.{outline_of}
 use Rattle.mp_outline.proofs.Stages.{post_named, record_named, same_parts}
 use Rattle.mp_msg.specs.Contents.{IsPacketOf}
 use Rattle.mp_msg.specs.States.{BinContent}
-use Rattle.mp_hosting.specs.declared.held.Held.{Held}
-use Rattle.mp_hosting.specs.Hosted.{Hosted, has_wake_in, is_held_before, state_before, waits_at, wakes_in}
-use Rattle.mp_hosting.specs.Moving.{AreNumbersOf, IsTakenOut, brought, not_waiting}
+use Rattle.mp_host_laws.specs.declared.held.Held.{Held}
+use Rattle.mp_host_laws.specs.Hosted.{Hosted, has_wake_in, is_held_before, state_before, waits_at, wakes_in}
+use Rattle.mp_host_laws.specs.Moving.{AreNumbersOf, IsTakenOut, brought, not_waiting}
 use Rattle.mp_host.specs.Hosts.{IsHosted, MayBeHeld}
 use Rattle.mp_host.specs.Waiting.{waits_beside}
 use Rattle.mp_host.proofs.Kept.{states_fit}

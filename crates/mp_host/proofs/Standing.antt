@@ -8,7 +8,7 @@ use Rattle.mp_model.specs.declared.record.Rec.{Rec}
 use Rattle.mp_ordered.specs.InOrder.{IsInOrder}
 use Rattle.mp_ordered.proofs.Placing.{pairs_head, pairs_tail}
 use Rattle.mp_postdated.specs.Wakes.{ComesNoLater}
-use Rattle.mp_hosting.specs.Hosted.{group_rank, is_of}
+use Rattle.mp_host_laws.specs.Hosted.{group_rank, is_of}
 
 -- the record of a later group isn't in front of one of this group
 later_group : (t k : ℕ) (r s : Rec) → ComesNoLater (t, k) (r.time, r.key) → is_of t k r ≡ false → is_before (group_rank s) (group_rank r) ≡ false → is_of t k s ≡ false

@@ -13,8 +13,8 @@ use Rattle.mp_model.specs.Facts.{QueryFacts}
 use Rattle.mp_job.proofs.Members.{Contains-filter, filter-Contains}
 use Rattle.mp_msg.specs.States.{cell_in}
 use Rattle.mp_postdated.specs.Wakes.{Has, IsAmongWakes, IsWake}
-use Rattle.mp_hosting.specs.Hosted.{is_wake}
-use Rattle.mp_hosting.proofs.Waiting.{in_wake, wake_in}
+use Rattle.mp_host_laws.specs.Hosted.{is_wake}
+use Rattle.mp_host_laws.proofs.Waiting.{in_wake, wake_in}
 use Rattle.mp_host.specs.Cells.{cell_of}
 use Rattle.mp_host.proofs.Finding.{cell_is}
 

@@ -14,7 +14,7 @@ use Rattle.mp_job.proofs.Members.{nothing_in_nil, Contains-cases, Contains-here,
 use Rattle.mp_outline.proofs.Found.{found, found_there}
 use Rattle.mp_outline.proofs.Pairs.{AllPairs-Pairs, Pairs, Pairs-filter}
 use Rattle.mp_postdated.specs.Wakes.{IsAscending, wake_cmp}
-use Rattle.mp_hosting.specs.Moving.{AreNumbersOf}
+use Rattle.mp_host_laws.specs.Moving.{AreNumbersOf}
 use Rattle.mp_host.proofs.Enough.{filter_length}
 use Rattle.mp_host.specs.Numbers.{numbers_of, with_one}
 use Rattle.mp_host.proofs.Woken.{length_within, rising_once}

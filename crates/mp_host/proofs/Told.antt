@@ -22,21 +22,21 @@ use Rattle.mp_outline.proofs.Soundness.{outline_is_sound}
 use Rattle.mp_msg.specs.Contents.{IsRecordOf}
 use Rattle.mp_msg.specs.States.{BinContent, IsStateBefore}
 use Rattle.mp_postdated.specs.Wakes.{ComesNoLater}
-use Rattle.mp_hosting.specs.declared.held.Held.{Held}
-use Rattle.mp_hosting.specs.Hosted.{Hosted, first_group, is_of, records_of, state_before}
-use Rattle.mp_hosting.specs.Applying.{IsApplied, IsReceived, woken_by}
-use Rattle.mp_hosting.specs.Moving.{IsPutIn, IsTakenOut, brought}
-use Rattle.mp_hosting.specs.HostOf.{IsInformed, IsReadyAt, KnowsOwners}
-use Rattle.mp_hosting.specs.Laws.{FirstIsWhole, IsWholeHere}
-use Rattle.mp_hosting.proofs.Applied.{groups_are_held, woken_are_told}
-use Rattle.mp_hosting.proofs.Firsts.{first_waits}
-use Rattle.mp_hosting.proofs.Least.{first_is_least}
-use Rattle.mp_hosting.proofs.Coming.{packets_are_held}
-use Rattle.mp_hosting.proofs.Leaving.{bins_leave, leaving_bins_are_here}
-use Rattle.mp_hosting.proofs.Received.{records_are_held}
-use Rattle.mp_hosting.proofs.Returned.{bins_return}
-use Rattle.mp_hosting.proofs.Waiting.{record_waits}
-use Rattle.mp_hosting.proofs.Whole.{first_is_whole}
+use Rattle.mp_host_laws.specs.declared.held.Held.{Held}
+use Rattle.mp_host_laws.specs.Hosted.{Hosted, first_group, is_of, records_of, state_before}
+use Rattle.mp_host_laws.specs.Applying.{IsApplied, IsReceived, woken_by}
+use Rattle.mp_host_laws.specs.Moving.{IsPutIn, IsTakenOut, brought}
+use Rattle.mp_host_laws.specs.HostOf.{IsInformed, IsReadyAt, KnowsOwners}
+use Rattle.mp_host_laws.specs.Laws.{FirstIsWhole, IsWholeHere}
+use Rattle.mp_host_laws.proofs.Applied.{groups_are_held, woken_are_told}
+use Rattle.mp_host_laws.proofs.Firsts.{first_waits}
+use Rattle.mp_host_laws.proofs.Least.{first_is_least}
+use Rattle.mp_host_laws.proofs.Coming.{packets_are_held}
+use Rattle.mp_host_laws.proofs.Leaving.{bins_leave, leaving_bins_are_here}
+use Rattle.mp_host_laws.proofs.Received.{records_are_held}
+use Rattle.mp_host_laws.proofs.Returned.{bins_return}
+use Rattle.mp_host_laws.proofs.Waiting.{record_waits}
+use Rattle.mp_host_laws.proofs.Whole.{first_is_whole}
 use Rattle.mp_host.specs.Hosts.{IsHosted}
 use Rattle.mp_host.specs.Moves.{GetsBack, GivesUp, NothingLeaves, TakesPacket}
 use Rattle.mp_host.specs.Ready.{IsReadyHere}

@@ -11,8 +11,8 @@ use Rattle.mp_job.proofs.Ascents.{Rises}
 use Rattle.mp_job.proofs.Members.{nothing_in_nil, Contains-cases, Contains-here, Contains-later}
 use Rattle.mp_ordered.specs.InOrder.{IsInOrder}
 use Rattle.mp_ordered.proofs.Placing.{pairs_head, pairs_tail}
-use Rattle.mp_hosting.specs.Hosted.{Hosted, group_rank, has_wake_at, is_of}
-use Rattle.mp_hosting.proofs.Waiting.{from_is_of, is_of_from}
+use Rattle.mp_host_laws.specs.Hosted.{Hosted, group_rank, has_wake_at, is_of}
+use Rattle.mp_host_laws.proofs.Waiting.{from_is_of, is_of_from}
 use Rattle.mp_host.specs.Waiting.{begins_unwoken, unwoken_after}
 
 -- the list from a place on begins with what stands there

@@ -5,9 +5,9 @@ use Rattle.std.proofs.lemmas.List.Elements.{All-head, All-tail, All-weaker}
 use Rattle.std.specs.List.{list_any}
 use Rattle.mp_bins.specs.Bins.{bin_of_key}
 use Rattle.mp_model.specs.Facts.{JobFacts, QueryFacts}
-use Rattle.mp_hosting.specs.declared.held.Held.{Held}
-use Rattle.mp_hosting.specs.Hosted.{Hosted, StandsInOrder, StateStands, has_wake_in, wakes_in}
-use Rattle.mp_hosting.proofs.Waiting.{wake_in}
+use Rattle.mp_host_laws.specs.declared.held.Held.{Held}
+use Rattle.mp_host_laws.specs.Hosted.{Hosted, StandsInOrder, StateStands, has_wake_in, wakes_in}
+use Rattle.mp_host_laws.proofs.Waiting.{wake_in}
 
 -- where only states of one bin have the wake, only those need be asked
 module _ {Cell : Type 0} (t k b : ℕ) where

@@ -26,11 +26,11 @@ use Rattle.mp_outline.proofs.Found.{found, found_there}
 use Rattle.mp_outline.proofs.Pairs.{AllPairs-Pairs, Pairs, Pairs-Rises, Pairs-append, Pairs-weaker}
 use Rattle.mp_ordered.specs.InOrder.{IsInOrder}
 use Rattle.mp_postdated.specs.Wakes.{Has, IsAscending, wake_cmp}
-use Rattle.mp_hosting.specs.declared.held.Held.{Held}
-use Rattle.mp_hosting.specs.Hosted.{Hosted, StandsInOrder, StateStands, all_wakes, group_rank, has_wake_at, has_wake_in, is_of, keys_at, wakes_in}
-use Rattle.mp_hosting.proofs.Counted.{key_waits, waits_key}
-use Rattle.mp_hosting.proofs.Lists.{passing}
-use Rattle.mp_hosting.proofs.Waiting.{in_wake, wake_in, wake_waits}
+use Rattle.mp_host_laws.specs.declared.held.Held.{Held}
+use Rattle.mp_host_laws.specs.Hosted.{Hosted, StandsInOrder, StateStands, all_wakes, group_rank, has_wake_at, has_wake_in, is_of, keys_at, wakes_in}
+use Rattle.mp_host_laws.proofs.Counted.{key_waits, waits_key}
+use Rattle.mp_host_laws.proofs.Lists.{passing}
+use Rattle.mp_host_laws.proofs.Waiting.{in_wake, wake_in, wake_waits}
 use Rattle.mp_host.specs.Hosts.{IsHosted, WakesArePosted}
 use Rattle.mp_host.specs.Waiting.{is_new, new_keys, unwoken_keys, woken_keys}
 use Rattle.mp_host.proofs.Unwoken.{add_if, is_unwoken, unwoken_is, unwoken_rise}

@@ -6,8 +6,8 @@ use Rattle.mp_model.specs.Stages.{stage_records}
 use Rattle.mp_job.specs.Legal.{JobIsLegal}
 use Rattle.mp_ordered.specs.InOrder.{InOrder}
 use Rattle.mp_postdated.specs.Wakes.{Has}
-use Rattle.mp_hosting.specs.declared.held.Held.{Held}
-use Rattle.mp_hosting.specs.Hosted.{Hosted, StandsInOrder, StateStands, wakes_in}
+use Rattle.mp_host_laws.specs.declared.held.Held.{Held}
+use Rattle.mp_host_laws.specs.Hosted.{Hosted, StandsInOrder, StateStands, wakes_in}
 
 -- what contracts see of a host with these parts
 abbrev pub hosted_of : {Cell : Type 0} → ℕ → ℕ → InOrder Rec → List (Held Cell) → ℕ → Hosted Cell

@@ -7,11 +7,11 @@ use Rattle.mp_names.specs.Logs.{Log, LogIsLegal, with_sent, with_took}
 use Rattle.mp_model.specs.Facts.{JobFacts, QueryFacts}
 use Rattle.mp_outline.specs.JobOutline.{outline_of}
 use Rattle.mp_msg.specs.States.{BinContent, IsStateBefore}
-use Rattle.mp_hosting.specs.declared.held.Held.{Held}
-use Rattle.mp_hosting.specs.Hosted.{Hosted}
-use Rattle.mp_hosting.specs.HostOf.{IsHostOf}
-use Rattle.mp_hosting.specs.Laws.{MayLeaveNow}
-use Rattle.mp_hosting.specs.Moving.{IsTakenOut}
+use Rattle.mp_host_laws.specs.declared.held.Held.{Held}
+use Rattle.mp_host_laws.specs.Hosted.{Hosted}
+use Rattle.mp_host_laws.specs.HostOf.{IsHostOf}
+use Rattle.mp_host_laws.specs.Laws.{MayLeaveNow}
+use Rattle.mp_host_laws.specs.Moving.{IsTakenOut}
 
 module _ {Cell : Type 0} (q : QueryFacts Cell) (job : JobFacts) (log : Log) where
   -- a packet of the bin at this time can't leave now

@@ -7,7 +7,7 @@ use Rattle.mp_stamps.specs.Seen.{seen_at}
 use Rattle.mp_bins.specs.Bins.{bin_of_key}
 use Rattle.mp_bins.specs.Notes.{Notes, owner_at}
 use Rattle.mp_model.specs.Facts.{JobFacts}
-use Rattle.mp_hosting.specs.Hosted.{Hosted, first_group}
+use Rattle.mp_host_laws.specs.Hosted.{Hosted, first_group}
 
 -- the first group that waits: the frontiers of records and packets have passed its time, and its bin is the worker's then by what was noted
 pub record IsReadyHere {Cell : Type 0} (job : JobFacts) (seen : Seen) (notes : Notes) (h : Hosted Cell) (t k : ℕ) : Type 0 where

@@ -8,8 +8,8 @@ use Rattle.mp_stamps.specs.declared.seen.Seen.{Seen}
 use Rattle.mp_model.specs.declared.record.Rec.{Rec}
 use Rattle.mp_model.specs.Facts.{JobFacts, QueryFacts}
 use Rattle.mp_outline.specs.JobOutline.{name_of_record, outline_of}
-use Rattle.mp_hosting.specs.Hosted.{Hosted}
-use Rattle.mp_hosting.specs.HostOf.{IsHostOf, IsReadyAt}
+use Rattle.mp_host_laws.specs.Hosted.{Hosted}
+use Rattle.mp_host_laws.specs.HostOf.{IsHostOf, IsReadyAt}
 use Rattle.mp_host.specs.declared.applied.Applied.{Applied}
 
 -- where a group was applied this holds of what came of it

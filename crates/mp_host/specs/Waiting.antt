@@ -3,8 +3,8 @@ use Rattle.std.specs.Prelude.{ℕ, ◌==◌, ◌&&◌, ◌||◌, ◌++◌, Bool,
 use Rattle.std.specs.List.{list_any}
 use Rattle.std.specs.Option.{option_map_or}
 use Rattle.mp_model.specs.declared.record.Rec.{Rec}
-use Rattle.mp_hosting.specs.declared.held.Held.{Held}
-use Rattle.mp_hosting.specs.Hosted.{Hosted, has_wake_at, has_wake_in, is_of, wakes_in}
+use Rattle.mp_host_laws.specs.declared.held.Held.{Held}
+use Rattle.mp_host_laws.specs.Hosted.{Hosted, has_wake_at, has_wake_in, is_of, wakes_in}
 
 module _ {Cell : Type 0} where
   -- the wake is of the time, and none of these states has it

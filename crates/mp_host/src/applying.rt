@@ -6,9 +6,9 @@ ghost use Rattle.mp_model.specs.Ascending.{ascending};
 ghost use Rattle.mp_model.specs.Folds.{cell_before};
 ghost use Rattle.mp_model.specs.Stages.{stage_records};
 ghost use Rattle.mp_outline.specs.Laws.{group_at};
-ghost use Rattle.mp_hosting.specs.Applying.{IsApplied, group_here, posts_here, woken_by};
-ghost use Rattle.mp_hosting.specs.Hosted.{cell_at, first_group, state_at, waits_at};
-ghost use Rattle.mp_hosting.specs.HostOf.{IsInformed, KnowsOwners};
+ghost use Rattle.mp_host_laws.specs.Applying.{IsApplied, group_here, posts_here, woken_by};
+ghost use Rattle.mp_host_laws.specs.Hosted.{cell_at, first_group, state_at, waits_at};
+ghost use Rattle.mp_host_laws.specs.HostOf.{IsInformed, KnowsOwners};
 ghost use Rattle.mp_host.specs.Ready.{IsReadyHere};
 ghost use Rattle.mp_host.specs.Telling.{AppliesGroup, IfDid};
 

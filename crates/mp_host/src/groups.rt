@@ -2,7 +2,7 @@
 ghost use Rattle.std.specs.Prelude.{◌≡◌, ◌≤◌, All, drop, filter, length, not};
 ghost use Rattle.std.specs.List.{prefix_len};
 ghost use Rattle.mp_postdated.specs.Wakes.{ComesNoLater};
-ghost use Rattle.mp_hosting.specs.Hosted.{is_of};
+ghost use Rattle.mp_host_laws.specs.Hosted.{is_of};
 
 use crate::order::ByGroup;
 use mp_model::{Rec, Time};

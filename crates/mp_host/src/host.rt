@@ -3,13 +3,13 @@ ghost use Rattle.std.specs.Prelude.{◌≡◌, ◌≤◌, ◌<◌, ◌+◌, IfOk
 ghost use Rattle.mp_names.specs.Logs.{empty_log};
 ghost use Rattle.mp_job.specs.Legal.{JobIsLegal};
 ghost use Rattle.mp_msg.specs.Contents.{IsRecordOf};
-ghost use Rattle.mp_hosting.specs.Applying.{IsReceived};
-ghost use Rattle.mp_hosting.specs.Hosted.{IsNew, first_held};
-ghost use Rattle.mp_hosting.specs.HostOf.{IsHostOf};
+ghost use Rattle.mp_host_laws.specs.Applying.{IsReceived};
+ghost use Rattle.mp_host_laws.specs.Hosted.{IsNew, first_held};
+ghost use Rattle.mp_host_laws.specs.HostOf.{IsHostOf};
 ghost use Rattle.mp_host.specs.Telling.{TakesRecord};
 
 use crate::order::ByGroup;
-use mp_hosting::Held;
+use mp_host_laws::Held;
 use mp_job::Job;
 use mp_model::{Naming, Query, Rec};
 use mp_msg::BinState;
@@ -31,7 +31,7 @@ pub struct Host<'a, Q: Query, J: Naming> {
 }
 
 impl<'a, Q: Query, J: Naming> Model for Host<'a, Q, J> {
-    ghost use Rattle.mp_hosting.specs.Hosted.{Hosted};
+    ghost use Rattle.mp_host_laws.specs.Hosted.{Hosted};
     ghost use Rattle.std.specs.Prelude.{◌-◌, length};
     ghost use Rattle.std.specs.Vec.{vec_capacity};
     ghost use Rattle.mp_host.specs.Hosts.{IsHosted, hosted_of};

@@ -22,7 +22,7 @@ mod waiting;
 pub use applied::Applied;
 pub use host::Host;
 pub use mp_bins::Owners;
-pub use mp_hosting::Held;
+pub use mp_host_laws::Held;
 pub use mp_job::Job;
 pub use mp_model::{Naming, Query, Rec, Time, Value};
 pub use mp_stamps::Seen;

@@ -7,7 +7,7 @@ use mp_ordered::Order;
 pub struct ByGroup;
 
 impl Order<Rec> for ByGroup {
-    ghost use Rattle.mp_hosting.specs.Hosted.{group_rank};
+    ghost use Rattle.mp_host_laws.specs.Hosted.{group_rank};
 
     ghost rank = { group_rank };
 

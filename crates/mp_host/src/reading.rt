@@ -3,8 +3,8 @@ ghost use Rattle.std.specs.Prelude.{◌≡◌, ◌==◌, ◌↔◌, ℕ, suc, So
 ghost use Rattle.mp_names.specs.Logs.{Log};
 ghost use Rattle.mp_bins.specs.Bins.{bin_of_key};
 ghost use Rattle.mp_bins.specs.Notes.{owner_at};
-ghost use Rattle.mp_hosting.specs.Hosted.{first_group, is_held_before};
-ghost use Rattle.mp_hosting.specs.HostOf.{IsInformed, IsReadyAt, KnowsOwners};
+ghost use Rattle.mp_host_laws.specs.Hosted.{first_group, is_held_before};
+ghost use Rattle.mp_host_laws.specs.HostOf.{IsInformed, IsReadyAt, KnowsOwners};
 ghost use Rattle.mp_host.specs.Hosts.{IsHosted};
 ghost use Rattle.mp_host.specs.Ready.{IsReadyHere};
 

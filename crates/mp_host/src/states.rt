@@ -1,9 +1,9 @@
 //! The states of bins in hand: which of them has a bin at a time, and which wakes they have.
 ghost use Rattle.std.specs.Prelude.{◌≡◌, ◌==◌, ◌&&◌, position};
 ghost use Rattle.std.specs.List.{list_any};
-ghost use Rattle.mp_hosting.specs.Hosted.{began_before, earlier_of, first_wake_of, has_wake_in, is_held_before, is_wake};
+ghost use Rattle.mp_host_laws.specs.Hosted.{began_before, earlier_of, first_wake_of, has_wake_in, is_held_before, is_wake};
 
-use mp_hosting::Held;
+use mp_host_laws::Held;
 use mp_model::Time;
 use mp_postdated::Wakes;
 

@@ -3,7 +3,7 @@ ghost use Rattle.std.specs.Prelude.{◌≡◌, ◌≢◌, ◌<◌, ◌↔◌, �
 ghost use Rattle.std.specs.List.{list_any};
 ghost use Rattle.mp_msg.specs.States.{IsInOrder, cell_in};
 ghost use Rattle.mp_postdated.specs.Wakes.{Has, IsWake};
-ghost use Rattle.mp_hosting.specs.Hosted.{is_wake};
+ghost use Rattle.mp_host_laws.specs.Hosted.{is_wake};
 
 use crate::cells::{most_in, step_in};
 use crate::states::is_woken;

@@ -23,8 +23,8 @@ use Rattle.mp_model.specs.QueryLaws.{HasStages, LaterStagesPostNothing, OutputsH
 use Rattle.mp_model.specs.Stages.{answer_rows}
 use Rattle.mp_rows.specs.Entries.{AreChanges}
 use Rattle.mp_rows.specs.WorkerLog.{WorkerLog}
-use Rattle.mp_changes.specs.Changes.{one_less, one_more, outputs_of, route_after, some_more}
-use Rattle.mp_changes.proofs.Applied.{applied}
+use Rattle.mp_count_laws.specs.Changes.{one_less, one_more, outputs_of, route_after, some_more}
+use Rattle.mp_count_laws.proofs.Applied.{applied}
 use Rattle.mp_outline.specs.JobOutline.{name_of_record, name_of_row, outline_of}
 use Rattle.mp_outline.proofs.Soundness.{outline_is_sound}
 use Rattle.mp_msg.specs.Contents.{IsRecordOf}
@@ -32,20 +32,20 @@ use Rattle.mp_route.specs.Routed.{Routed}
 use Rattle.mp_route.specs.Unsent.{HoldsAllBut, HoldsUnsent}
 use Rattle.mp_handoff.specs.Moving.{Moving}
 use Rattle.mp_output.specs.Unwritten.{Unwritten}
-use Rattle.mp_hosting.specs.Hosted.{Hosted}
-use Rattle.mp_hosting.specs.HostOf.{IsHostOf, IsInformed, IsReadyAt, KnowsOwners}
-use Rattle.mp_parts.specs.Given.{values_given}
-use Rattle.mp_parts.specs.Kept.{IsHostAt, IsRouterAt, PartsAreAsked, StepsKeepParts}
-use Rattle.mp_parts.specs.Laws.{ConditionsAreTold, GroupsHandOn}
-use Rattle.mp_parts.specs.Machine.{machine_worker}
-use Rattle.mp_parts.specs.Parts.{AtEach, HoldsRowsBut, Parts}
-use Rattle.mp_parts.proofs.Asked.{parts_are_asked}
-use Rattle.mp_parts.proofs.Conditions.{conditions_are_told}
-use Rattle.mp_parts.proofs.Handed.{groups_hand_on}
-use Rattle.mp_parts.proofs.Kept.{steps_keep_parts}
-use Rattle.mp_states.specs.State.{CanMake, WorkerState}
+use Rattle.mp_host_laws.specs.Hosted.{Hosted}
+use Rattle.mp_host_laws.specs.HostOf.{IsHostOf, IsInformed, IsReadyAt, KnowsOwners}
+use Rattle.mp_worker_invariant.specs.Given.{values_given}
+use Rattle.mp_worker_invariant.specs.Kept.{IsHostAt, IsRouterAt, PartsAreAsked, StepsKeepParts}
+use Rattle.mp_worker_invariant.specs.Laws.{ConditionsAreTold, GroupsHandOn}
+use Rattle.mp_worker_invariant.specs.Machine.{machine_worker}
+use Rattle.mp_worker_invariant.specs.Parts.{AtEach, HoldsRowsBut, Parts}
+use Rattle.mp_worker_invariant.proofs.Asked.{parts_are_asked}
+use Rattle.mp_worker_invariant.proofs.Conditions.{conditions_are_told}
+use Rattle.mp_worker_invariant.proofs.Handed.{groups_hand_on}
+use Rattle.mp_worker_invariant.proofs.Kept.{steps_keep_parts}
+use Rattle.mp_refinement.specs.State.{CanMake, WorkerState}
 use Rattle.mp_worker.specs.Kept.{IsKept, parts_with}
-use Rattle.mp_parts.specs.Onward.{content, records_at}
+use Rattle.mp_worker_invariant.specs.Onward.{content, records_at}
 use Rattle.mp_worker.proofs.Keeping.{kept_as, other_routers}
 use Rattle.mp_worker.proofs.Counted.{group_in_time, number_of_records, number_of_rows, values_have_keys}
 

@@ -13,13 +13,13 @@ use Rattle.mp_board.specs.Boards.{ShowsFrontiers}
 use Rattle.mp_outline.specs.JobOutline.{outline_of}
 use Rattle.mp_rows.specs.WorkerLog.{WorkerLog}
 use Rattle.mp_route.specs.Routed.{Routed}
-use Rattle.mp_hosting.specs.Hosted.{Hosted}
+use Rattle.mp_host_laws.specs.Hosted.{Hosted}
 use Rattle.mp_handoff.specs.Moving.{Moving}
 use Rattle.mp_output.specs.Unwritten.{Unwritten}
-use Rattle.mp_parts.specs.Kept.{AreMoversAt, IsHostAt, IsRouterAt}
-use Rattle.mp_parts.specs.Parts.{ArePartsOf, AtEach}
-use Rattle.mp_parts.proofs.Asked.{parts_begin}
-use Rattle.mp_states.proofs.Begins.{opening_is_told}
+use Rattle.mp_worker_invariant.specs.Kept.{AreMoversAt, IsHostAt, IsRouterAt}
+use Rattle.mp_worker_invariant.specs.Parts.{ArePartsOf, AtEach}
+use Rattle.mp_worker_invariant.proofs.Asked.{parts_begin}
+use Rattle.mp_refinement.proofs.Begins.{opening_is_told}
 use Rattle.mp_worker.specs.Kept.{parts_with}
 
 -- what holds of each item and its place holds of one more

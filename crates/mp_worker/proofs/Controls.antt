@@ -19,17 +19,17 @@ use Rattle.mp_job.specs.Legal.{JobIsLegal}
 use Rattle.mp_outline.specs.JobOutline.{outline_of}
 use Rattle.mp_rows.specs.Entries.{AreChanges}
 use Rattle.mp_rows.specs.WorkerLog.{WorkerLog}
-use Rattle.mp_changes.specs.Changes.{control_sent_at, control_taken_at, one_less, one_more}
-use Rattle.mp_changes.proofs.Sent.{control_sent}
-use Rattle.mp_changes.proofs.Took.{control_taken}
+use Rattle.mp_count_laws.specs.Changes.{control_sent_at, control_taken_at, one_less, one_more}
+use Rattle.mp_count_laws.proofs.Sent.{control_sent}
+use Rattle.mp_count_laws.proofs.Took.{control_taken}
 use Rattle.mp_msg.specs.Contents.{IsControlOf}
 use Rattle.mp_handoff.specs.Moving.{Moving}
 use Rattle.mp_handoff.specs.MoversOf.{IsMoversOf, IsNewControl}
-use Rattle.mp_parts.specs.Kept.{AreMoversAt}
-use Rattle.mp_parts.specs.Laws.{CanDo}
-use Rattle.mp_parts.specs.Parts.{AreTaken, Parts, place_after}
-use Rattle.mp_parts.proofs.Kept.{steps_keep_parts}
-use Rattle.mp_states.specs.State.{CanMake}
+use Rattle.mp_worker_invariant.specs.Kept.{AreMoversAt}
+use Rattle.mp_worker_invariant.specs.Laws.{CanDo}
+use Rattle.mp_worker_invariant.specs.Parts.{AreTaken, Parts, place_after}
+use Rattle.mp_worker_invariant.proofs.Kept.{steps_keep_parts}
+use Rattle.mp_refinement.specs.State.{CanMake}
 use Rattle.mp_worker.specs.Kept.{IsKept}
 use Rattle.mp_worker.specs.Sending.{MaySend}
 use Rattle.mp_worker.proofs.Keeping.{kept_by}

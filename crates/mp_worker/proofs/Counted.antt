@@ -22,7 +22,7 @@ use Rattle.mp_model.specs.QueryLaws.{LaterStagesPostNothing, OutputsHaveKeys, Po
 use Rattle.mp_model.specs.Stages.{answer_rows, stage_records}
 use Rattle.mp_model.proofs.LastTimes.{groups_in_time, stage_in_time}
 use Rattle.mp_job.proofs.Ascents.{Rises-ascending}
-use Rattle.mp_changes.specs.Changes.{is_output, outputs_of}
+use Rattle.mp_count_laws.specs.Changes.{is_output, outputs_of}
 use Rattle.mp_outline.specs.JobOutline.{name_of_record, name_of_row, outline_of}
 use Rattle.mp_outline.specs.Laws.{OutputsInOrder, group_at, timeline_of}
 use Rattle.mp_outline.proofs.Named.{In_named, named_In, named_once}
@@ -30,11 +30,11 @@ use Rattle.mp_outline.proofs.Pairs.{AllPairs-Pairs, Pairs-Rises, Pairs-weaker}
 use Rattle.mp_outline.proofs.Stages.{name_stands, record_named}
 use Rattle.mp_outline.proofs.Tags.{tag_irreflexive}
 use Rattle.mp_outline.proofs.Timelines.{groups_are_on}
-use Rattle.mp_hosting.specs.Hosted.{Hosted, waits_at}
-use Rattle.mp_hosting.specs.Applying.{posts_here, woken_by}
-use Rattle.mp_parts.specs.Given.{outputs_given, records_made, values_given}
-use Rattle.mp_parts.proofs.Given.{made_once, outputs_are, outputs_come, outputs_in_order, outputs_stand, records_come, records_stand, same_row}
-use Rattle.mp_parts.proofs.OneByOne.{outputs_from, records_from}
+use Rattle.mp_host_laws.specs.Hosted.{Hosted, waits_at}
+use Rattle.mp_host_laws.specs.Applying.{posts_here, woken_by}
+use Rattle.mp_worker_invariant.specs.Given.{outputs_given, records_made, values_given}
+use Rattle.mp_worker_invariant.proofs.Given.{made_once, outputs_are, outputs_come, outputs_in_order, outputs_stand, records_come, records_stand, same_row}
+use Rattle.mp_worker_invariant.proofs.OneByOne.{outputs_from, records_from}
 
 -- Numbers of names
 

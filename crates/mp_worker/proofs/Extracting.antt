@@ -18,21 +18,21 @@ use Rattle.mp_bins.specs.Notes.{Notes}
 use Rattle.mp_model.specs.Facts.{JobFacts, QueryFacts}
 use Rattle.mp_outline.specs.JobOutline.{outline_of}
 use Rattle.mp_rows.specs.WorkerLog.{WorkerLog}
-use Rattle.mp_hosting.specs.declared.held.Held.{Held}
-use Rattle.mp_hosting.specs.Hosted.{Hosted}
-use Rattle.mp_hosting.specs.HostOf.{IsHostOf}
-use Rattle.mp_hosting.specs.Laws.{MayLeaveNow}
-use Rattle.mp_hosting.specs.Moving.{IsPutIn, IsTakenOut}
+use Rattle.mp_host_laws.specs.declared.held.Held.{Held}
+use Rattle.mp_host_laws.specs.Hosted.{Hosted}
+use Rattle.mp_host_laws.specs.HostOf.{IsHostOf}
+use Rattle.mp_host_laws.specs.Laws.{MayLeaveNow}
+use Rattle.mp_host_laws.specs.Moving.{IsPutIn, IsTakenOut}
 use Rattle.mp_handoff.specs.Due.{AreInformed, IsDueHere, IsLeastDue, IsMoveAway, MayLeaveHere}
 use Rattle.mp_handoff.specs.Moving.{Moving}
 use Rattle.mp_handoff.specs.MoversOf.{IsMoversOf}
-use Rattle.mp_parts.specs.Kept.{AreMoversAt, IsHostAt}
-use Rattle.mp_parts.specs.Laws.{CanDo}
-use Rattle.mp_parts.specs.Machine.{machine_worker}
-use Rattle.mp_parts.specs.Parts.{Parts}
-use Rattle.mp_parts.proofs.Kept.{steps_keep_parts}
-use Rattle.mp_parts.proofs.Legal.{packet_legal}
-use Rattle.mp_states.specs.State.{CanMake}
+use Rattle.mp_worker_invariant.specs.Kept.{AreMoversAt, IsHostAt}
+use Rattle.mp_worker_invariant.specs.Laws.{CanDo}
+use Rattle.mp_worker_invariant.specs.Machine.{machine_worker}
+use Rattle.mp_worker_invariant.specs.Parts.{Parts}
+use Rattle.mp_worker_invariant.proofs.Kept.{steps_keep_parts}
+use Rattle.mp_worker_invariant.proofs.Legal.{packet_legal}
+use Rattle.mp_refinement.specs.State.{CanMake}
 use Rattle.mp_worker.specs.Kept.{IsKept}
 use Rattle.mp_worker.specs.Sending.{MaySend}
 use Rattle.mp_worker.proofs.Going.{put_at}

@@ -15,11 +15,11 @@ use Rattle.mp_outline.specs.JobOutline.{outline_of}
 use Rattle.mp_rows.specs.WorkerLog.{WorkerLog}
 use Rattle.mp_route.specs.Routed.{Routed}
 use Rattle.mp_route.specs.Unsent.{MayGo}
-use Rattle.mp_parts.specs.Kept.{IsRouterAt}
-use Rattle.mp_parts.specs.Parts.{ArePartsOf, AtEach, HoldsRowsBut, Parts}
-use Rattle.mp_parts.proofs.Kept.{steps_keep_parts}
-use Rattle.mp_states.specs.Ends.{AtEnds, FollowsLog, Standing}
-use Rattle.mp_states.specs.State.{CanMake, Makes, WorkerState}
+use Rattle.mp_worker_invariant.specs.Kept.{IsRouterAt}
+use Rattle.mp_worker_invariant.specs.Parts.{ArePartsOf, AtEach, HoldsRowsBut, Parts}
+use Rattle.mp_worker_invariant.proofs.Kept.{steps_keep_parts}
+use Rattle.mp_refinement.specs.Ends.{AtEnds, FollowsLog, Standing}
+use Rattle.mp_refinement.specs.State.{CanMake, Makes, WorkerState}
 use Rattle.mp_worker.specs.Kept.{IsKept}
 use Rattle.mp_worker.proofs.Keeping.{kept_by, other_routers}
 

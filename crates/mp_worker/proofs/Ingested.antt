@@ -17,16 +17,16 @@ use Rattle.mp_job.proofs.Members.{Contains-filter}
 use Rattle.mp_outline.specs.JobOutline.{name_of_record, outline_of}
 use Rattle.mp_msg.specs.Contents.{IsRecordOf}
 use Rattle.mp_rows.specs.Entries.{AreChanges}
-use Rattle.mp_changes.specs.Changes.{ingested_at}
-use Rattle.mp_changes.proofs.Ingested.{ingested}
+use Rattle.mp_count_laws.specs.Changes.{ingested_at}
+use Rattle.mp_count_laws.proofs.Ingested.{ingested}
 use Rattle.mp_route.specs.Routed.{Routed}
 use Rattle.mp_route.specs.Unsent.{HoldsOneMore, HoldsUnsent}
-use Rattle.mp_parts.specs.Kept.{IsRouterAt, with_router}
-use Rattle.mp_parts.specs.Laws.{SharesAreIngested}
-use Rattle.mp_parts.specs.Parts.{ArePartsOf, Parts}
-use Rattle.mp_parts.proofs.Ingested.{shares_are_ingested}
-use Rattle.mp_parts.proofs.Kept.{steps_keep_parts}
-use Rattle.mp_states.specs.State.{CanMake, WorkerState}
+use Rattle.mp_worker_invariant.specs.Kept.{IsRouterAt, with_router}
+use Rattle.mp_worker_invariant.specs.Laws.{SharesAreIngested}
+use Rattle.mp_worker_invariant.specs.Parts.{ArePartsOf, Parts}
+use Rattle.mp_worker_invariant.proofs.Ingested.{shares_are_ingested}
+use Rattle.mp_worker_invariant.proofs.Kept.{steps_keep_parts}
+use Rattle.mp_refinement.specs.State.{CanMake, WorkerState}
 
 -- each event of a share makes a record
 pub has_record : {Cell : Type 0} (q : QueryFacts Cell) (job : JobFacts) (w n i : ℕ) (indices : List ℕ) → indices ≡ share_of q job.events job.shape.workers w → n < length indices → i ≡ get_or indices n i → IsSome (record_at q job.events i)

@@ -5,10 +5,10 @@ use Rattle.mp_bins.specs.Notes.{Notes}
 use Rattle.mp_model.specs.Facts.{JobFacts, QueryFacts}
 use Rattle.mp_rows.specs.WorkerLog.{WorkerLog}
 use Rattle.mp_route.specs.Routed.{Routed}
-use Rattle.mp_hosting.specs.Hosted.{Hosted}
+use Rattle.mp_host_laws.specs.Hosted.{Hosted}
 use Rattle.mp_handoff.specs.Moving.{Moving}
-use Rattle.mp_parts.specs.Kept.{AreMoversAt, IsHostAt, IsRouterAt}
-use Rattle.mp_parts.specs.Parts.{ArePartsOf, AreTaken, AtEach, Parts}
+use Rattle.mp_worker_invariant.specs.Kept.{AreMoversAt, IsHostAt, IsRouterAt}
+use Rattle.mp_worker_invariant.specs.Parts.{ArePartsOf, AreTaken, AtEach, Parts}
 use Rattle.mp_worker.specs.Kept.{IsKept}
 
 -- a worker with another log, and with parts that hold what that says

@@ -9,20 +9,20 @@ use Rattle.mp_names.specs.Outlines.{IsOwedBy, OutlineIsSound}
 use Rattle.mp_model.specs.Facts.{JobFacts, QueryFacts}
 use Rattle.mp_outline.specs.JobOutline.{outline_of}
 use Rattle.mp_rows.specs.Entries.{AreChanges}
-use Rattle.mp_changes.specs.Changes.{AreMore, Change, one_more, packet_sent_at, waiting_at}
-use Rattle.mp_changes.proofs.Moved.{groups_leave}
-use Rattle.mp_changes.proofs.Packets.{packet_sent}
+use Rattle.mp_count_laws.specs.Changes.{AreMore, Change, one_more, packet_sent_at, waiting_at}
+use Rattle.mp_count_laws.proofs.Moved.{groups_leave}
+use Rattle.mp_count_laws.proofs.Packets.{packet_sent}
 use Rattle.mp_msg.specs.Contents.{IsPacketOf}
 use Rattle.mp_msg.specs.declared.message.Body.TheVariants.{Packet as PacketBody}
 use Rattle.mp_msg.specs.States.{BinContent, IsStateBefore}
 use Rattle.mp_msg.proofs.Telling.{bodies_follow_names}
-use Rattle.mp_hosting.specs.declared.held.Held.{Held}
-use Rattle.mp_hosting.specs.Hosted.{Hosted, StandsInOrder, began_before}
-use Rattle.mp_hosting.specs.HostOf.{IsHostOf}
-use Rattle.mp_hosting.specs.Laws.{MayLeaveNow}
-use Rattle.mp_hosting.specs.Moving.{AreNumbersOf, IsTakenOut, not_waiting}
-use Rattle.mp_hosting.proofs.MovingTold.{leaving_are_told}
-use Rattle.mp_parts.specs.Kept.{IsHostAt}
+use Rattle.mp_host_laws.specs.declared.held.Held.{Held}
+use Rattle.mp_host_laws.specs.Hosted.{Hosted, StandsInOrder, began_before}
+use Rattle.mp_host_laws.specs.HostOf.{IsHostOf}
+use Rattle.mp_host_laws.specs.Laws.{MayLeaveNow}
+use Rattle.mp_host_laws.specs.Moving.{AreNumbersOf, IsTakenOut, not_waiting}
+use Rattle.mp_host_laws.proofs.MovingTold.{leaving_are_told}
+use Rattle.mp_worker_invariant.specs.Kept.{IsHostAt}
 use Rattle.mp_worker.proofs.Wakes.{wakes_once}
 
 -- what was taken out is of the bin

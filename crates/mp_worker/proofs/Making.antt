@@ -8,11 +8,11 @@ use Rattle.mp_machine.specs.Steps.{IsNext, IsReady, KindFits, logged}
 use Rattle.mp_model.specs.Facts.{JobFacts, QueryFacts}
 use Rattle.mp_outline.specs.JobOutline.{outline_of}
 use Rattle.mp_rows.specs.WorkerLog.{WorkerLog}
-use Rattle.mp_parts.specs.Laws.{CanDo, ConditionsAreTold}
-use Rattle.mp_parts.specs.Machine.{machine_worker}
-use Rattle.mp_parts.specs.Parts.{Parts}
-use Rattle.mp_parts.proofs.Conditions.{conditions_are_told}
-use Rattle.mp_states.specs.State.{CanMake, Makes, WorkerState}
+use Rattle.mp_worker_invariant.specs.Laws.{CanDo, ConditionsAreTold}
+use Rattle.mp_worker_invariant.specs.Machine.{machine_worker}
+use Rattle.mp_worker_invariant.specs.Parts.{Parts}
+use Rattle.mp_worker_invariant.proofs.Conditions.{conditions_are_told}
+use Rattle.mp_refinement.specs.State.{CanMake, Makes, WorkerState}
 use Rattle.mp_worker.specs.Kept.{IsKept}
 
 module _ {Cell : Type 0} {q : QueryFacts Cell} {job its : JobFacts} {number : ℕ} {log : WorkerLog} {p : Parts Cell} (kept : IsKept q job its number log p) (worker : p.number ≡ log.worker) where

@@ -5,13 +5,13 @@ use Rattle.mp_names.specs.Outlines.{OutlineIsSound}
 use Rattle.mp_model.specs.Facts.{JobFacts, QueryFacts}
 use Rattle.mp_outline.specs.JobOutline.{outline_of}
 use Rattle.mp_rows.specs.WorkerLog.{WorkerLog}
-use Rattle.mp_hosting.specs.Hosted.{Hosted}
+use Rattle.mp_host_laws.specs.Hosted.{Hosted}
 use Rattle.mp_handoff.specs.Due.{AreInformed}
 use Rattle.mp_handoff.specs.Moving.{Moving}
 use Rattle.mp_handoff.specs.MoversOf.{KnowsMoves}
-use Rattle.mp_parts.specs.Kept.{AreMoversAt, IsHostAt, PartsAreAsked}
-use Rattle.mp_parts.specs.Parts.{Parts}
-use Rattle.mp_parts.proofs.Asked.{parts_are_asked}
+use Rattle.mp_worker_invariant.specs.Kept.{AreMoversAt, IsHostAt, PartsAreAsked}
+use Rattle.mp_worker_invariant.specs.Parts.{Parts}
+use Rattle.mp_worker_invariant.proofs.Asked.{parts_are_asked}
 use Rattle.mp_worker.specs.Kept.{IsKept}
 
 module _ {Cell : Type 0} {q : QueryFacts Cell} {job its : JobFacts} {number : ℕ} {log : WorkerLog} {p : Parts Cell} (kept : IsKept q job its number log p) (sound : OutlineIsSound (outline_of q job)) (j : ℕ) (below : j < job.shape.stages) where

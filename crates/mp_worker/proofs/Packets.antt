@@ -28,17 +28,17 @@ use Rattle.mp_outline.proofs.Named.{In_named, named_In, named_once}
 use Rattle.mp_outline.proofs.Pairs.{Pairs, Pairs-Rises, Pairs-weaker}
 use Rattle.mp_outline.proofs.Stages.{post_named, record_named}
 use Rattle.mp_rows.specs.Entries.{AreChanges}
-use Rattle.mp_changes.specs.Changes.{AreMore, Change, one_less, packet_taken_at, waiting_at}
-use Rattle.mp_changes.proofs.Moved.{groups_come}
-use Rattle.mp_changes.proofs.Packets.{packet_taken}
+use Rattle.mp_count_laws.specs.Changes.{AreMore, Change, one_less, packet_taken_at, waiting_at}
+use Rattle.mp_count_laws.proofs.Moved.{groups_come}
+use Rattle.mp_count_laws.proofs.Packets.{packet_taken}
 use Rattle.mp_msg.specs.States.{BinContent, IsStateBefore}
-use Rattle.mp_hosting.specs.Hosted.{Hosted, StandsInOrder, waits_at}
-use Rattle.mp_hosting.specs.HostOf.{IsHostOf}
-use Rattle.mp_hosting.specs.Moving.{AreNumbersOf, IsPutIn, brought, not_waiting}
-use Rattle.mp_hosting.proofs.Lists.{Pairs-AllPairs}
-use Rattle.mp_hosting.proofs.MovingTold.{coming_are_told}
+use Rattle.mp_host_laws.specs.Hosted.{Hosted, StandsInOrder, waits_at}
+use Rattle.mp_host_laws.specs.HostOf.{IsHostOf}
+use Rattle.mp_host_laws.specs.Moving.{AreNumbersOf, IsPutIn, brought, not_waiting}
+use Rattle.mp_host_laws.proofs.Lists.{Pairs-AllPairs}
+use Rattle.mp_host_laws.proofs.MovingTold.{coming_are_told}
 use Rattle.mp_host.specs.Moves.{TakesPacket}
-use Rattle.mp_parts.specs.Kept.{IsHostAt}
+use Rattle.mp_worker_invariant.specs.Kept.{IsHostAt}
 use Rattle.mp_worker.proofs.Wakes.{wakes_once}
 
 -- Lists of numbers

@@ -11,7 +11,7 @@ use Rattle.mp_names.specs.Logs.{Log, with_took}
 use Rattle.mp_names.proofs.Lists.{In_cases, filter_In}
 use Rattle.mp_mailbox.specs.Names.{Distinct}
 use Rattle.mp_mailbox.specs.Standing.{AddsPopped, KeepsEdge, KeepsOthers, PopsNew, Stands}
-use Rattle.mp_states.specs.Ends.{AtEnds, FollowsLog, Standing, popped_by, pushed_by, took_from}
+use Rattle.mp_refinement.specs.Ends.{AtEnds, FollowsLog, Standing, popped_by, pushed_by, took_from}
 
 -- the place of a name that stands in a list
 name_at : (x : Name) (xs : List Name) → In x xs → (i : ℕ) × (i < length xs) × ((d : Name) → get_or xs i d ≡ x)

@@ -21,22 +21,22 @@ use Rattle.mp_model.specs.Facts.{JobFacts, QueryFacts}
 use Rattle.mp_outline.specs.JobOutline.{name_of_record, outline_of}
 use Rattle.mp_rows.specs.Entries.{AreChanges}
 use Rattle.mp_rows.specs.WorkerLog.{WorkerLog}
-use Rattle.mp_changes.specs.Changes.{one_less, one_more, record_taken_at}
-use Rattle.mp_changes.proofs.Took.{record_taken as taken_is_counted}
+use Rattle.mp_count_laws.specs.Changes.{one_less, one_more, record_taken_at}
+use Rattle.mp_count_laws.proofs.Took.{record_taken as taken_is_counted}
 use Rattle.mp_msg.specs.Contents.{IsControlOf, IsPacketOf, IsRecordOf, IsRowOf}
 use Rattle.mp_msg.specs.States.{BinContent}
 use Rattle.mp_msg.proofs.Owed.{controls_are_owed, packets_are_owed, records_are_owed, rows_are_owed}
 use Rattle.mp_route.specs.Routed.{Routed}
-use Rattle.mp_hosting.specs.Hosted.{Hosted}
-use Rattle.mp_hosting.specs.HostOf.{IsHostOf}
-use Rattle.mp_hosting.specs.Applying.{IsReceived}
+use Rattle.mp_host_laws.specs.Hosted.{Hosted}
+use Rattle.mp_host_laws.specs.HostOf.{IsHostOf}
+use Rattle.mp_host_laws.specs.Applying.{IsReceived}
 use Rattle.mp_host.specs.Telling.{TakesRecord}
 use Rattle.mp_handoff.specs.Moving.{Moving}
 use Rattle.mp_output.specs.Holding.{HoldsUnwritten}
 use Rattle.mp_output.specs.Unwritten.{Unwritten}
-use Rattle.mp_parts.specs.Kept.{AreMoversAt, IsHostAt}
-use Rattle.mp_parts.specs.Parts.{AreTaken, Parts}
-use Rattle.mp_parts.proofs.Kept.{steps_keep_parts}
+use Rattle.mp_worker_invariant.specs.Kept.{AreMoversAt, IsHostAt}
+use Rattle.mp_worker_invariant.specs.Parts.{AreTaken, Parts}
+use Rattle.mp_worker_invariant.proofs.Kept.{steps_keep_parts}
 use Rattle.mp_worker.specs.Kept.{IsKept, parts_with}
 use Rattle.mp_worker.specs.Rooms.{SameHosts, SameMovers, roomless, without_room}
 use Rattle.mp_worker.proofs.Keeping.{kept_as, other_hosts, other_movers, other_notes}

@@ -7,12 +7,12 @@ use Rattle.std.proofs.lemmas.List.{get_or-set_other, get_or-set_same, length-map
 use Rattle.mp_names.specs.Logs.{Log}
 use Rattle.mp_model.specs.Facts.{JobFacts, QueryFacts}
 use Rattle.mp_outline.specs.JobOutline.{outline_of}
-use Rattle.mp_hosting.specs.Hosted.{Hosted}
-use Rattle.mp_hosting.specs.HostOf.{IsHostOf}
+use Rattle.mp_host_laws.specs.Hosted.{Hosted}
+use Rattle.mp_host_laws.specs.HostOf.{IsHostOf}
 use Rattle.mp_handoff.specs.Moving.{Moving}
 use Rattle.mp_handoff.specs.MoversOf.{IsMoversOf}
-use Rattle.mp_parts.specs.Kept.{AreMoversAt, IsHostAt}
-use Rattle.mp_parts.specs.Parts.{AtEach}
+use Rattle.mp_worker_invariant.specs.Kept.{AreMoversAt, IsHostAt}
+use Rattle.mp_worker_invariant.specs.Parts.{AtEach}
 use Rattle.mp_worker.specs.Rooms.{roomless, without_room}
 
 -- Lists whose items are the same in what is seen of them

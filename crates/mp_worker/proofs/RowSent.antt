@@ -21,8 +21,8 @@ use Rattle.mp_msg.proofs.Telling.{bodies_follow_names}
 use Rattle.mp_output.specs.Rows.{GivesRows, IsRow}
 use Rattle.mp_output.specs.Unwritten.{place_rank}
 use Rattle.mp_output.proofs.RowsAlone.{rows_alone}
-use Rattle.mp_parts.specs.Parts.{HoldsRowsBut}
-use Rattle.mp_parts.proofs.Sending.{first_row_is_least, row_is_sent}
+use Rattle.mp_worker_invariant.specs.Parts.{HoldsRowsBut}
+use Rattle.mp_worker_invariant.proofs.Sending.{first_row_is_least, row_is_sent}
 
 is_some_row : (v : Value) → IsRow v → ((fields : List Field) → v ≡ RowValue fields → ⊥) → ⊥
 is_some_row (RowValue fields) is none = none fields refl

@@ -15,7 +15,7 @@ use Rattle.mp_names.proofs.Lists.{Distinct_filter, In_here, In_later}
 use Rattle.mp_names.proofs.Steps.{given_own}
 use Rattle.mp_mailbox.specs.Names.{Distinct as DistinctMail}
 use Rattle.mp_mailbox.specs.Standing.{AddsPushed, IsFresh, KeepsOthers}
-use Rattle.mp_states.specs.Ends.{AtEnds, FollowsLog, Standing, popped_by, pushed_by, sent_to}
+use Rattle.mp_refinement.specs.Ends.{AtEnds, FollowsLog, Standing, popped_by, pushed_by, sent_to}
 use Rattle.mp_worker.specs.Sending.{MaySend}
 
 -- names that stand once, as mailboxes say it

@@ -11,15 +11,15 @@ use Rattle.mp_model.specs.Facts.{JobFacts, QueryFacts}
 use Rattle.mp_outline.specs.JobOutline.{outline_of}
 use Rattle.mp_rows.specs.Entries.{AreChanges}
 use Rattle.mp_rows.specs.WorkerLog.{WorkerLog}
-use Rattle.mp_changes.specs.Changes.{settled_at}
-use Rattle.mp_changes.proofs.Settled.{settled}
+use Rattle.mp_count_laws.specs.Changes.{settled_at}
+use Rattle.mp_count_laws.proofs.Settled.{settled}
 use Rattle.mp_handoff.specs.Due.{AreInformed, MaySettleHere}
 use Rattle.mp_handoff.specs.Moving.{Moving}
 use Rattle.mp_handoff.specs.MoversOf.{IsMoversOf}
-use Rattle.mp_parts.specs.Kept.{AreMoversAt}
-use Rattle.mp_parts.specs.Parts.{Parts}
-use Rattle.mp_parts.proofs.Kept.{steps_keep_parts}
-use Rattle.mp_states.specs.State.{CanMake}
+use Rattle.mp_worker_invariant.specs.Kept.{AreMoversAt}
+use Rattle.mp_worker_invariant.specs.Parts.{Parts}
+use Rattle.mp_worker_invariant.proofs.Kept.{steps_keep_parts}
+use Rattle.mp_refinement.specs.State.{CanMake}
 use Rattle.mp_worker.specs.Kept.{IsKept}
 use Rattle.mp_worker.proofs.Keeping.{kept_by}
 use Rattle.mp_worker.proofs.Making.{can_do, can_make, state, told}

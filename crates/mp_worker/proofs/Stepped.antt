@@ -10,7 +10,7 @@ use Rattle.mp_machine.specs.Steps.{KindFits, logged}
 use Rattle.mp_machine.proofs.Keeps.{logged_grows}
 use Rattle.mp_model.specs.Facts.{JobFacts, QueryFacts}
 use Rattle.mp_outline.specs.JobOutline.{outline_of}
-use Rattle.mp_states.specs.State.{Makes, WorkerState}
+use Rattle.mp_refinement.specs.State.{Makes, WorkerState}
 use Rattle.mp_worker.specs.Turns.{IfMade, IfNoName}
 
 -- what a worker had posted is a beginning of its log after a step too

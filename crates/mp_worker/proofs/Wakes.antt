@@ -8,8 +8,8 @@ use Rattle.std.proofs.lemmas.Map.Keys.{sorted_head, sorted_tail}
 use Rattle.mp_outline.proofs.Pairs.{AllPairs-Pairs, Pairs}
 use Rattle.mp_postdated.specs.Wakes.{IsAscending, wake_cmp}
 use Rattle.mp_msg.specs.States.{BinContent}
-use Rattle.mp_hosting.specs.Hosted.{Hosted, waits_at}
-use Rattle.mp_hosting.specs.Moving.{not_waiting}
+use Rattle.mp_host_laws.specs.Hosted.{Hosted, waits_at}
+use Rattle.mp_host_laws.specs.Moving.{not_waiting}
 
 not_below_itself : (v w : ℕ × ℕ) → wake_cmp v w ≡ Below → v ≡ w → ⊥
 not_below_itself v w e same = strict v.0 w.0 v.1 w.1 e (ap (λ (u : ℕ × ℕ). u.0) same) (ap (λ (u : ℕ × ℕ). u.1) same)

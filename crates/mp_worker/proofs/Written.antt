@@ -16,10 +16,10 @@ use Rattle.mp_outside.specs.Sink.{grown}
 use Rattle.mp_outline.specs.JobOutline.{outline_of}
 use Rattle.mp_output.specs.Holding.{WritesNext, answer_at}
 use Rattle.mp_output.specs.Unwritten.{IsDue, lines_of, rows_at}
-use Rattle.mp_parts.specs.Kept.{with_unwritten}
-use Rattle.mp_parts.specs.Parts.{ArePartsOf, Parts}
-use Rattle.mp_parts.proofs.Kept.{steps_keep_parts}
-use Rattle.mp_states.specs.State.{CanMake}
+use Rattle.mp_worker_invariant.specs.Kept.{with_unwritten}
+use Rattle.mp_worker_invariant.specs.Parts.{ArePartsOf, Parts}
+use Rattle.mp_worker_invariant.proofs.Kept.{steps_keep_parts}
+use Rattle.mp_refinement.specs.State.{CanMake}
 use Rattle.mp_worker.specs.Writing.{WritesPart}
 
 -- the frontier has passed a time that is due

@@ -1,6 +1,6 @@
 -- Hosts and movers but for the room that they have.
 use Rattle.std.specs.Prelude.{◌≡◌, List, map}
-use Rattle.mp_hosting.specs.Hosted.{Hosted}
+use Rattle.mp_host_laws.specs.Hosted.{Hosted}
 use Rattle.mp_handoff.specs.Moving.{Moving}
 
 module _ {Cell : Type 0} where

@@ -6,7 +6,7 @@ use Rattle.mp_outside.specs.Sink.{grown}
 use Rattle.mp_model.specs.Facts.{JobFacts, QueryFacts}
 use Rattle.mp_outline.specs.JobOutline.{outline_of}
 use Rattle.mp_output.specs.Holding.{answer_at}
-use Rattle.mp_states.specs.State.{CanMake, WorkerState}
+use Rattle.mp_refinement.specs.State.{CanMake, WorkerState}
 
 -- a part, from the front, of the lines of the time that the worker would write
 abbrev pub WritesPart : {Cell : Type 0} → QueryFacts Cell → JobFacts → WorkerState → (old new : Option (List ℕ)) → Type 0

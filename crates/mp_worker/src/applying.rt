@@ -4,17 +4,17 @@ ghost use Rattle.std.specs.Vec.{vec_capacity};
 ghost use Rattle.mp_names.specs.declared.locations.Loc.TheVariants.{Host as HostLoc};
 ghost use Rattle.mp_names.specs.declared.names.Name.{Name};
 ghost use Rattle.mp_names.specs.declared.kinds.Kind.TheVariants.{Apply};
-ghost use Rattle.mp_changes.specs.Changes.{one_less, one_more, some_more};
+ghost use Rattle.mp_count_laws.specs.Changes.{one_less, one_more, some_more};
 ghost use Rattle.mp_outline.specs.JobOutline.{outline_of};
-ghost use Rattle.mp_states.specs.State.{CanMake, Makes};
+ghost use Rattle.mp_refinement.specs.State.{CanMake, Makes};
 ghost use Rattle.mp_worker.specs.Turns.{IfMade, IfNoName};
 
 use crate::Worker;
 use mp_host::Applied;
 use mp_model::{Naming, Query, Time};
 use mp_names::{Loc, Name};
-use mp_parts::{hold_records, hold_rows, location_after, make_room_onward};
 use mp_rows::{Change, Log, LogList};
+use mp_worker_invariant::{hold_records, hold_rows, location_after, make_room_onward};
 use std::alloc::{AllocError, Global};
 
 impl<'a, Q: Query, J: Naming> Worker<'a, Q, J> {

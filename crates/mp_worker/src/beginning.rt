@@ -4,8 +4,8 @@ ghost use Rattle.mp_names.specs.Logs.{empty_log};
 ghost use Rattle.mp_board.specs.Boards.{ShowsFrontiers};
 ghost use Rattle.mp_outline.specs.JobOutline.{outline_of};
 ghost use Rattle.mp_output.specs.Rows.{GivesRows};
-ghost use Rattle.mp_parts.specs.Kept.{AreMoversAt, IsHostAt, IsRouterAt};
-ghost use Rattle.mp_parts.specs.Parts.{AtEach};
+ghost use Rattle.mp_worker_invariant.specs.Kept.{AreMoversAt, IsHostAt, IsRouterAt};
+ghost use Rattle.mp_worker_invariant.specs.Parts.{AtEach};
 
 use crate::Worker;
 use mp_bins::Owners;

@@ -7,13 +7,13 @@ ghost use Rattle.mp_names.specs.Logs.{LogIsLegal, with_took};
 ghost use Rattle.mp_names.specs.Names.{has};
 ghost use Rattle.mp_names.specs.Outlines.{IsOwedTo};
 ghost use Rattle.mp_bins.specs.Notes.{with_note};
-ghost use Rattle.mp_changes.specs.Changes.{packet_taken_at};
+ghost use Rattle.mp_count_laws.specs.Changes.{packet_taken_at};
 ghost use Rattle.mp_job.specs.Legal.{JobIsLegal};
 ghost use Rattle.mp_job.specs.Times.{times_of};
 ghost use Rattle.mp_outline.specs.JobOutline.{outline_of};
 ghost use Rattle.mp_msg.specs.Contents.{IsControlOf, IsPacketOf};
-ghost use Rattle.mp_parts.specs.Kept.{AreMoversAt, IsHostAt};
-ghost use Rattle.mp_parts.specs.Parts.{AreTaken};
+ghost use Rattle.mp_worker_invariant.specs.Kept.{AreMoversAt, IsHostAt};
+ghost use Rattle.mp_worker_invariant.specs.Parts.{AreTaken};
 
 use crate::rooms::PacketLists;
 use mp_bins::Owners;

@@ -3,10 +3,10 @@ ghost use Rattle.std.specs.Prelude.{◌≡◌, ◌<◌, ◌-◌, ◌^◌, ℕ, O
 ghost use Rattle.mp_names.specs.declared.names.Name.{Name};
 ghost use Rattle.mp_names.specs.declared.kinds.Kind.TheVariants.{SendControl};
 ghost use Rattle.mp_outline.specs.JobOutline.{outline_of};
-ghost use Rattle.mp_parts.specs.Parts.{place_after};
-ghost use Rattle.mp_states.specs.Ends.{AtEnds, FollowsLog};
-ghost use Rattle.mp_states.specs.Mail.{MailHinders, MailLets};
-ghost use Rattle.mp_states.specs.State.{CanMake, Makes};
+ghost use Rattle.mp_worker_invariant.specs.Parts.{place_after};
+ghost use Rattle.mp_refinement.specs.Ends.{AtEnds, FollowsLog};
+ghost use Rattle.mp_refinement.specs.Mail.{MailHinders, MailLets};
+ghost use Rattle.mp_refinement.specs.State.{CanMake, Makes};
 ghost use Rattle.mp_worker.specs.Turns.{IfMade, IfNoName};
 
 use crate::Worker;

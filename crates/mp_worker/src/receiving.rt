@@ -10,10 +10,10 @@ ghost use Rattle.mp_job.specs.Legal.{JobIsLegal};
 ghost use Rattle.mp_outline.specs.JobOutline.{name_of_record, outline_of};
 ghost use Rattle.mp_msg.specs.Contents.{IsRecordOf, IsRowOf};
 ghost use Rattle.mp_output.specs.Holding.{HoldsUnwritten};
-ghost use Rattle.mp_parts.specs.Kept.{IsHostAt};
-ghost use Rattle.mp_states.specs.Ends.{AtEnds, FollowsLog};
-ghost use Rattle.mp_states.specs.Mail.{MailHinders, MailLets};
-ghost use Rattle.mp_states.specs.State.{CanMake, Makes};
+ghost use Rattle.mp_worker_invariant.specs.Kept.{IsHostAt};
+ghost use Rattle.mp_refinement.specs.Ends.{AtEnds, FollowsLog};
+ghost use Rattle.mp_refinement.specs.Mail.{MailHinders, MailLets};
+ghost use Rattle.mp_refinement.specs.State.{CanMake, Makes};
 ghost use Rattle.mp_worker.specs.Turns.{IfMade, IfNoName};
 
 use crate::Worker;

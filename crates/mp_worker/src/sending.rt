@@ -7,9 +7,9 @@ ghost use Rattle.mp_names.specs.Outlines.{receiver};
 ghost use Rattle.mp_job.specs.Legal.{JobIsLegal};
 ghost use Rattle.mp_outline.specs.JobOutline.{outline_of};
 ghost use Rattle.mp_rows.specs.Entries.{AreChanges};
-ghost use Rattle.mp_states.specs.Ends.{AtEnds, FollowsLog};
-ghost use Rattle.mp_states.specs.Mail.{MailHinders, MailLets};
-ghost use Rattle.mp_states.specs.State.{CanMake, Makes};
+ghost use Rattle.mp_refinement.specs.Ends.{AtEnds, FollowsLog};
+ghost use Rattle.mp_refinement.specs.Mail.{MailHinders, MailLets};
+ghost use Rattle.mp_refinement.specs.State.{CanMake, Makes};
 ghost use Rattle.mp_worker.specs.Sending.{MaySend};
 ghost use Rattle.mp_worker.specs.Turns.{IfMade, IfNoName};
 

@@ -35,7 +35,7 @@ pub struct Worker<'a, Q: Query, J: Naming> {
 }
 
 impl<'a, Q: Query, J: Naming> Model for Worker<'a, Q, J> {
-    ghost use Rattle.mp_states.specs.State.{WorkerState};
+    ghost use Rattle.mp_refinement.specs.State.{WorkerState};
     ghost use Rattle.mp_worker.specs.Kept.{IsKept, parts_with};
 
     ghost Value = { WorkerState };

@@ -6,8 +6,8 @@ ghost use Rattle.mp_outside.specs.Fault.{Rose};
 ghost use Rattle.mp_outside.specs.Sink.{grown};
 ghost use Rattle.mp_outline.specs.JobOutline.{outline_of};
 ghost use Rattle.mp_output.specs.declared.refused.OutRefused.TheVariants.{WriteFault};
-ghost use Rattle.mp_states.specs.State.{CanMake, Makes};
-ghost use Rattle.mp_answer.specs.Lines.{lines_of_time};
+ghost use Rattle.mp_refinement.specs.State.{CanMake, Makes};
+ghost use Rattle.mp_answer_laws.specs.Lines.{lines_of_time};
 ghost use Rattle.mp_worker.specs.Turns.{IfMade, IfNoName};
 ghost use Rattle.mp_worker.specs.Writing.{WritesPart};
 

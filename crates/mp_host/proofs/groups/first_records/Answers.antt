@@ -1,5 +1,5 @@
 use Rattle.std.proofs.lemmas.List.Folds.{length-prefix_len}
-use Rattle.mp_hosting.specs.Hosted.{is_of}
+use Rattle.mp_host_laws.specs.Hosted.{is_of}
 use Rattle.mp_host.proofs.Standing.{standing}
 use Rattle.mp_host.proofs.groups.first_records.Goals as goal
 

@@ -1,5 +1,5 @@
-use Rattle.mp_hosting.proofs.Logs.{same_test}
-use Rattle.mp_hosting.proofs.Waiting.{in_wake, wake_in}
+use Rattle.mp_host_laws.proofs.Logs.{same_test}
+use Rattle.mp_host_laws.proofs.Waiting.{in_wake, wake_in}
 use Rattle.mp_host.proofs.states.is_woken.Goals as goal
 
 pub returns : goal.returns

@@ -1,6 +1,6 @@
 -- The host is still that of stage 0, and the record is the second one there.
 use Rattle.std.proofs.Common.{ℕ, ap, arith, ◌∙◌}
-use Rattle.mp_hosting.specs.Hosted.{Hosted}
+use Rattle.mp_host_laws.specs.Hosted.{Hosted}
 use Rattle.mp_host.proofs.tests.bids_are_hosted.Goals as goal
 
 pub receive-requires-2-after_bounds : goal.receive-requires-2-after_bounds

@@ -2,7 +2,7 @@
 use Rattle.std.proofs.Common.{◌≡◌, ◌≤◌, ◌+◌, ◌-◌, ◌++◌, length, map, take, vec_len}
 use Rattle.std.specs.Vec.{vec_capacity}
 use Rattle.mp_names.specs.declared.locations.Loc.TheVariants.{Host}
-use Rattle.mp_changes.specs.Changes.{one_more}
+use Rattle.mp_count_laws.specs.Changes.{one_more}
 use Rattle.mp_worker.proofs.applying.push_changes.Given as goal
 
 abbrev pub invariant-loop-time : goal.invariant-loop-time

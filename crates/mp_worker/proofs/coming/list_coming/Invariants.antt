@@ -1,7 +1,7 @@
 -- The changes so far, and room for those that are left.
 use Rattle.std.proofs.Common.{◌≡◌, ◌≤◌, ◌+◌, ◌-◌, length, take, vec_len}
 use Rattle.std.specs.Vec.{vec_capacity}
-use Rattle.mp_changes.specs.Changes.{packet_taken_at}
+use Rattle.mp_count_laws.specs.Changes.{packet_taken_at}
 use Rattle.mp_worker.proofs.coming.list_coming.Given as goal
 
 abbrev pub invariant-loop-at : goal.invariant-loop-at

@@ -1,5 +1,5 @@
 use Rattle.std.proofs.Common.{◌<◌, ◌≤◌, ap, length, rules}
-use Rattle.mp_hosting.specs.Hosted.{Hosted}
+use Rattle.mp_host_laws.specs.Hosted.{Hosted}
 use Rattle.mp_worker.specs.Rooms.{without_room}
 use Rattle.mp_worker.proofs.Roomy.{one_more_so, same_put}
 use Rattle.mp_worker.proofs.rooms.make_room_in_hosts.Goals as goal

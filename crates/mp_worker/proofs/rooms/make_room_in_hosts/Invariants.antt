@@ -1,6 +1,6 @@
 -- The hosts are the same but for their rooms, and those before have room.
 use Rattle.std.proofs.Common.{ℕ, ◌<◌, ◌≤◌, get_or}
-use Rattle.mp_hosting.specs.Hosted.{Hosted}
+use Rattle.mp_host_laws.specs.Hosted.{Hosted}
 use Rattle.mp_worker.specs.Rooms.{SameHosts}
 use Rattle.mp_worker.proofs.rooms.make_room_in_hosts.Given as goal
 

@@ -1,7 +1,7 @@
 use Rattle.std.proofs.Common.{[], ◌∷◌, length, ◌∙◌, ap, subst, sym, arith, length-append}
 use Rattle.mp_outline.specs.JobOutline.{outline_of}
 use Rattle.mp_outline.proofs.Soundness.{outline_is_sound}
-use Rattle.mp_states.specs.Together.{Together}
+use Rattle.mp_refinement.specs.Together.{Together}
 use Rattle.mp_drive.specs.Driven.{HasWritten}
 use Rattle.mp_drive.specs.Kept.{together}
 use Rattle.mp_drive.proofs.Ended.{has_begun}

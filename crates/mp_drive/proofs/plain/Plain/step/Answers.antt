@@ -4,7 +4,7 @@ use Rattle.mp_names.specs.Outlines.{OutlineIsSound}
 use Rattle.mp_job.specs.Legal.{JobIsLegal}
 use Rattle.mp_outline.specs.JobOutline.{outline_of}
 use Rattle.mp_outline.proofs.Soundness.{outline_is_sound}
-use Rattle.mp_states.specs.Together.{Together}
+use Rattle.mp_refinement.specs.Together.{Together}
 use Rattle.mp_drive.specs.Driven.{HasWritten}
 use Rattle.mp_drive.specs.Kept.{together}
 use Rattle.mp_drive.proofs.Turned.{Passes, Says, ends_are, leads_nowhere_on_err, leads_on_if_ok, number_fits, number_is, placed, posted_is, same_cause, still_reached}

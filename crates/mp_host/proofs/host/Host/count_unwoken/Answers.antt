@@ -1,6 +1,6 @@
 use Rattle.std.proofs.Common.{◌∙◌, ap, sym, arith}
 use Rattle.std.proofs.lemmas.List.{drop_all}
-use Rattle.mp_hosting.specs.Hosted.{Hosted}
+use Rattle.mp_host_laws.specs.Hosted.{Hosted}
 use Rattle.mp_host.proofs.Unwoken.{unwoken_none, unwoken_one}
 use Rattle.mp_host.proofs.host.Host.count_unwoken.Goals as goal
 use Rattle.mp_host.proofs.host.Host.count_unwoken.Goals.{then-begins_unwoken, else-begins_unwoken}

@@ -1,6 +1,6 @@
 use Rattle.std.proofs.Common.{◌≤◌, ◌∙◌, ap, length, arith}
 use Rattle.mp_model.specs.declared.limits.TheConstants.{MAX_EVENTS}
-use Rattle.mp_hosting.specs.Hosted.{Hosted}
+use Rattle.mp_host_laws.specs.Hosted.{Hosted}
 use Rattle.mp_host.specs.Waiting.{woken_keys}
 use Rattle.mp_host.proofs.Woken.{hosted_few, woken_step}
 use Rattle.mp_host.proofs.host.Host.count_woken.Goals as goal

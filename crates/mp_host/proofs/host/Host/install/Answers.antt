@@ -1,7 +1,7 @@
 use Rattle.std.proofs.Common.{◌<◌, refl, arith}
 use Rattle.std.specs.Vec.{vec_capacity, vec_len}
 use Rattle.mp_outline.proofs.Soundness.{outline_is_sound}
-use Rattle.mp_hosting.specs.Moving.{brought}
+use Rattle.mp_host_laws.specs.Moving.{brought}
 use Rattle.mp_host.proofs.Kept.{hosted_still}
 use Rattle.mp_host.proofs.Moved.{packet_fits, pushed, put_fit}
 use Rattle.mp_host.proofs.Told.{takes_packet}

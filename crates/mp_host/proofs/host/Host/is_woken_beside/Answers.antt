@@ -5,7 +5,7 @@ use Rattle.std.proofs.lemmas.List.{take_rest}
 use Rattle.mp_names.specs.declared.controls.Shape.{Shape}
 use Rattle.mp_bins.specs.Bins.{bin_of_key}
 use Rattle.mp_model.specs.Facts.{JobFacts}
-use Rattle.mp_hosting.specs.Hosted.{has_wake_in}
+use Rattle.mp_host_laws.specs.Hosted.{has_wake_in}
 use Rattle.mp_host.proofs.WakesOf.{IsOwn, by_first, by_second, only_its_bins, wakes_are_own}
 use Rattle.mp_host.proofs.host.Host.is_woken_beside.Goals as goal
 

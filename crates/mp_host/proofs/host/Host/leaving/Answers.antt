@@ -1,8 +1,8 @@
 use Rattle.std.proofs.Common.{◌+◌, ◌-◌, ◌∙◌, ℕ, filter, length, not, subst, sym}
 use Rattle.std.specs.Vec.{vec_capacity}
-use Rattle.mp_hosting.specs.declared.held.Held.{Held}
-use Rattle.mp_hosting.specs.Hosted.{wakes_in}
-use Rattle.mp_hosting.specs.Moving.{AreNumbersOf}
+use Rattle.mp_host_laws.specs.declared.held.Held.{Held}
+use Rattle.mp_host_laws.specs.Hosted.{wakes_in}
+use Rattle.mp_host_laws.specs.Moving.{AreNumbersOf}
 use Rattle.mp_host.specs.Hosts.{hosted_of}
 use Rattle.mp_host.specs.Waiting.{waits_beside}
 use Rattle.mp_host.proofs.Moved.{leaving_told, none_taken, not_none}

@@ -1,7 +1,7 @@
 use Rattle.std.proofs.Common.{◌-◌, ◌∙◌, ap, length}
 use Rattle.std.specs.Vec.{vec_capacity}
 use Rattle.mp_model.specs.Facts.{JobFacts}
-use Rattle.mp_hosting.specs.Hosted.{Hosted, records_of}
+use Rattle.mp_host_laws.specs.Hosted.{Hosted, records_of}
 use Rattle.mp_host.specs.Hosts.{hosted_of}
 use Rattle.mp_host.proofs.Grouped.{group_is}
 use Rattle.mp_host.proofs.Enough.{cut_sum, most_holds}

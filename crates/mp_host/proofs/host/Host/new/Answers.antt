@@ -1,8 +1,8 @@
 use Rattle.std.proofs.Common.{◌≡◌, subst}
 use Rattle.mp_model.specs.Facts.{JobFacts}
 use Rattle.mp_job.specs.Legal.{JobIsLegal}
-use Rattle.mp_hosting.specs.Hosted.{first_held}
-use Rattle.mp_hosting.proofs.Beginning.{new_hosts_hold_nothing}
+use Rattle.mp_host_laws.specs.Hosted.{first_held}
+use Rattle.mp_host_laws.proofs.Beginning.{new_hosts_hold_nothing}
 use Rattle.mp_host.proofs.Kept.{new_hosted}
 use Rattle.mp_host.proofs.host.Host.new.Goals as goal
 

@@ -1,6 +1,6 @@
 use Rattle.std.proofs.Common.{◌∙◌}
 use Rattle.mp_outline.proofs.Soundness.{outline_is_sound}
-use Rattle.mp_hosting.proofs.Counted.{waiting_are_counted}
+use Rattle.mp_host_laws.proofs.Counted.{waiting_are_counted}
 use Rattle.mp_host.proofs.Woken.{in_order, waiting_counted}
 use Rattle.mp_host.proofs.host.Host.pending.Goals as goal
 

@@ -8,7 +8,7 @@ use Rattle.mp_model.specs.Facts.{JobFacts}
 use Rattle.mp_msg.specs.Contents.{IsRecordOf}
 use Rattle.mp_ordered.specs.InOrder.{IsInOrder}
 use Rattle.mp_ordered.proofs.Placing.{pairs_drop}
-use Rattle.mp_hosting.specs.Hosted.{group_rank}
+use Rattle.mp_host_laws.specs.Hosted.{group_rank}
 use Rattle.mp_host.specs.Hosts.{hosted_of}
 use Rattle.mp_host.proofs.Grouped.{all_fit, cell_here, changed_fits, group_is, group_posts_after, has_place, state_applied}
 use Rattle.mp_host.proofs.Kept.{hosted_still}

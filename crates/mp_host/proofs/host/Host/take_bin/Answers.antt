@@ -1,5 +1,5 @@
 use Rattle.std.proofs.Common.{◌∙◌, refl, sym}
-use Rattle.mp_hosting.specs.Hosted.{is_held_before}
+use Rattle.mp_host_laws.specs.Hosted.{is_held_before}
 use Rattle.mp_host.proofs.Kept.{even_on_none, hosted_still}
 use Rattle.mp_host.proofs.Moved.{left_fit, out_fits, taken_out}
 use Rattle.mp_host.proofs.Places.{no_place, place_is}

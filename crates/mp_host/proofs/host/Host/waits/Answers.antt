@@ -1,7 +1,7 @@
 use Rattle.std.proofs.Common.{◌≡◌, ◌∙◌, rules}
 use Rattle.mp_outline.proofs.Soundness.{outline_is_sound}
-use Rattle.mp_hosting.specs.Hosted.{waits_at}
-use Rattle.mp_hosting.proofs.Waiting.{waits_is_pending}
+use Rattle.mp_host_laws.specs.Hosted.{waits_at}
+use Rattle.mp_host_laws.proofs.Waiting.{waits_is_pending}
 use Rattle.mp_host.proofs.host.Host.waits.Goals as goal
 
 pub returns-then-has_record-clause-told : goal.returns-then-has_record-clause-told

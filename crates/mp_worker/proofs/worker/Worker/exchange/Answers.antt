@@ -1,6 +1,6 @@
 use Rattle.mp_names.proofs.Grows.{grows_refl}
 use Rattle.mp_outline.proofs.Soundness.{outline_is_sound}
-use Rattle.mp_parts.proofs.Kept.{steps_keep_parts}
+use Rattle.mp_worker_invariant.proofs.Kept.{steps_keep_parts}
 use Rattle.mp_worker.proofs.worker.Worker.exchange.Goals as goal
 
 pub exchange-requires-clause-legal : goal.exchange-requires-clause-legal

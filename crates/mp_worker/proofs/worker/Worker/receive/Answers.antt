@@ -8,10 +8,10 @@ use Rattle.mp_names.specs.Outlines.{IsOwedTo}
 use Rattle.mp_names.proofs.Owners.{move_in_shape}
 use Rattle.mp_outline.specs.JobOutline.{outline_of}
 use Rattle.mp_outline.proofs.Soundness.{outline_is_sound}
-use Rattle.mp_hosting.specs.Hosted.{Hosted}
+use Rattle.mp_host_laws.specs.Hosted.{Hosted}
 use Rattle.mp_handoff.specs.Moving.{Moving}
-use Rattle.mp_parts.proofs.Asked.{row_not_written}
-use Rattle.mp_states.specs.State.{WorkerState}
+use Rattle.mp_worker_invariant.proofs.Asked.{row_not_written}
+use Rattle.mp_refinement.specs.State.{WorkerState}
 use Rattle.mp_worker.specs.Rooms.{roomless, without_room}
 use Rattle.mp_worker.proofs.Controls.{control_within}
 use Rattle.mp_worker.proofs.Movers.{host_at, movers_at}

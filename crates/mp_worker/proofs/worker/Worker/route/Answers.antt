@@ -1,6 +1,6 @@
 use Rattle.std.proofs.Common.{refl, ◌∙◌}
 use Rattle.mp_names.specs.Names.{is_rec}
-use Rattle.mp_changes.proofs.Sent.{record_sent}
+use Rattle.mp_count_laws.proofs.Sent.{record_sent}
 use Rattle.mp_outline.specs.JobOutline.{name_of_record, outline_of}
 use Rattle.mp_outline.proofs.Soundness.{outline_is_sound}
 use Rattle.mp_worker.proofs.Going.{ends_asked, edge_told, ends_told, makes_route, may_route, one_route, routed_kept, router_still_kept}

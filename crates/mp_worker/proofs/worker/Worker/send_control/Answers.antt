@@ -4,7 +4,7 @@ use Rattle.mp_names.specs.declared.controls.Shape.{Shape}
 use Rattle.mp_names.specs.Controls.{control_of, no_control}
 use Rattle.mp_model.specs.Facts.{JobFacts}
 use Rattle.mp_outline.proofs.Soundness.{outline_is_sound}
-use Rattle.mp_parts.specs.Parts.{place_after}
+use Rattle.mp_worker_invariant.specs.Parts.{place_after}
 use Rattle.mp_worker.proofs.Controls.{control_counted, control_kept, may_send_control, one_control}
 use Rattle.mp_worker.proofs.Going.{edge_told, ends_asked, ends_told}
 use Rattle.mp_worker.proofs.worker.Worker.send_control.Goals as goal

@@ -1,6 +1,6 @@
 use Rattle.std.proofs.Common.{refl, ◌∙◌}
 use Rattle.mp_names.specs.Names.{is_row}
-use Rattle.mp_changes.proofs.Sent.{row_sent}
+use Rattle.mp_count_laws.proofs.Sent.{row_sent}
 use Rattle.mp_outline.specs.JobOutline.{name_of_row, outline_of}
 use Rattle.mp_outline.proofs.Soundness.{outline_is_sound}
 use Rattle.mp_worker.proofs.Going.{ends_asked, ends_told, makes_send_row, row_sent_kept, rows_still_kept}

@@ -2,7 +2,7 @@ use Rattle.std.proofs.Common.{List, ℕ, ◌∙◌, ap, inr}
 use Rattle.mp_outside.specs.Sink.{grown}
 use Rattle.mp_outline.specs.JobOutline.{outline_of}
 use Rattle.mp_outline.proofs.Soundness.{outline_is_sound}
-use Rattle.mp_changes.proofs.Settled.{written}
+use Rattle.mp_count_laws.proofs.Settled.{written}
 use Rattle.mp_output.proofs.Writing.{on_err}
 use Rattle.mp_worker.proofs.Written.{part_written, rows_have_come, time_written}
 use Rattle.mp_worker.proofs.worker.Worker.write.Goals as goal

@@ -1,0 +1,208 @@
+-- What the log of a worker says of wakes: each came into a state that is in hand.
+use Rattle.std.proofs.Common.{◌≡◌, ◌⊎◌, ℕ, suc, ◌<◌, ◌≤◌, ◌==◌, ◌&&◌, ◌||◌, Bool, true, false, not, Option, None, Some, List, [], ◌∷◌, ◌++◌, filter, refl, sym, ap, subst, inl, inr, ⊎_elim, arith}
+use Rattle.std.specs.List.{list_any}
+use Rattle.std.proofs.lemmas.Bool.{false≢true, and_from, and_parts, both_ways, eq-eqb, eqb-true, false_from_ne_true, not-true, ltb-true, not_from_false, or_cases, or_left, or_right}
+use Rattle.mp_names.specs.declared.names.Name.{Name}
+use Rattle.mp_names.specs.declared.names.Name.TheVariants.{Rec, Packet, Group}
+use Rattle.mp_names.specs.declared.names.Tag.{Tag}
+use Rattle.mp_names.specs.Names.{has, In, is_group, IsAscending, IsPrefix, Less}
+use Rattle.mp_names.specs.Outlines.{Outline, OutlineIsSound, group_owner, groups_of, is_posted}
+use Rattle.mp_names.specs.Logs.{Log, LogIsLegal, brings_wake, has_record, has_wake, is_pending, is_record_of, is_owned, is_wake_here, left_since, owned_groups}
+use Rattle.mp_names.proofs.Lists.{any_at, any_from, filter_In, In_append, In_cases, In_filter, In_here, In_left, In_push, In_right}
+use Rattle.mp_names.proofs.Orders.{filter_ascends, less_irreflexive, less_trans}
+use Rattle.mp_names.proofs.Listed.{groups_ascend, posted_group}
+use Rattle.mp_names.proofs.Hosts.{Brought, brought_at, brought_from, left_at, left_from}
+use Rattle.mp_model.specs.Facts.{JobFacts, QueryFacts}
+use Rattle.mp_outline.specs.JobOutline.{outline_of}
+use Rattle.mp_msg.specs.States.{IsPostedAt}
+use Rattle.mp_host_laws.specs.Hosted.{began_before}
+use Rattle.mp_host_laws.specs.HostOf.{CameInto, IsInHandSince}
+use Rattle.mp_host_laws.proofs.Stays.{since_before}
+
+-- two tests that follow from each other are one
+pub same_test : (a b : Bool) → (a ≡ true → b ≡ true) → (b ≡ true → a ≡ true) → a ≡ b
+same_test true b to from = sym (to refl)
+same_test false true to from = from refl
+same_test false false to from = refl
+
+-- the group of what posted at s is applied and the bin hasn't left since, or a packet brought the wake
+abbrev pub IsKept : Outline → Log → ℕ → ℕ → ℕ → ℕ → Type 0
+IsKept o log j k s u = (In (Group j s k) log.applied × (left_since log j (o.bin_of k) s ≡ false)) ⊎ Brought log j (o.bin_of k) s u
+
+-- a record of the key posts the time, and the wake is here
+abbrev pub IsHere : Outline → Log → ℕ → ℕ → ℕ → Type 0
+IsHere o log j u k = (s : ℕ) × (g : Tag) × In (Rec j s k g) (o.records j) × (is_posted o (Rec j s k g) u ≡ true) × IsKept o log j k s u
+
+pub wake_here : (o : Outline) → OutlineIsSound o → (log : Log) (j u k : ℕ) → has_wake o log j u k ≡ true → IsHere o log j u k
+wake_here o sound log j u k h = let r = any_at (is_wake_here o log j u k) (o.records j) h in form r.0 r.1 r.2
+  where
+    form : (x : Name) → In x (o.records j) → is_wake_here o log j u k x ≡ true → IsHere o log j u k
+    form (Rec i s l g) f e =
+        let applied = has log.applied (Group j s k) in
+        let left = left_since log j (o.bin_of k) s in
+        let brought = list_any (brings_wake log j (o.bin_of k) s u) log.took in
+        let p = and_parts (l == k) (is_posted o (Rec i s l g) u && (applied && not left || brought)) e in
+        let c = and_parts (is_posted o (Rec i s l g) u) (applied && not left || brought) p.1 in
+        let d = eqb-true l k p.0 in
+        let a = eqb-true i j (sound.records_are j (Rec i s l g) f).1 in
+        let kept : IsKept o log j k s u = ⊎_elim
+        (λ (q : (applied && not left) ≡ true). let v = and_parts applied (not left) q in inl (v.0, not-true left v.1))
+        (λ (q : brought ≡ true). inr (brought_at log j (o.bin_of k) s u q))
+        (or_cases (applied && not left) brought c.1) in (
+          s,
+          g,
+          subst (λ (i : ℕ). In (Rec i s k g) (o.records j)) a (subst (λ (l : ℕ). In (Rec i s l g) (o.records j)) d f),
+          subst (λ (i : ℕ). is_posted o (Rec i s k g) u ≡ true) a (subst (λ (l : ℕ). is_posted o (Rec i s l g) u ≡ true) d c.0),
+          kept,
+        )
+    form _ f e = absurd (false≢true e)
+
+pub here_wake : (o : Outline) (log : Log) (j u k : ℕ) → IsHere o log j u k → has_wake o log j u k ≡ true
+here_wake o log j u k p =
+    let s = p.0 in
+    let b = o.bin_of k in
+    let x = Rec j s k p.1 in
+    let applied = has log.applied (Group j s k) in
+    let left = left_since log j b s in
+    let brought = list_any (brings_wake log j b s u) log.took in
+    let kept : (applied && not left || brought) ≡ true = ⊎_elim
+    (λ (c : In (Group j s k) log.applied × (left_since log j b s ≡ false)). or_left (applied && not left) brought (and_from applied (not left) c.0 (not_from_false left c.1)))
+    (λ (c : Brought log j b s u). or_right (applied && not left) brought (brought_from log j b s u c))
+    p.4 in
+    any_from (is_wake_here o log j u k) x (o.records j) p.2 (and_from (k == k) (is_posted o x u && (applied && not left || brought)) (eq-eqb k k refl) (and_from (is_posted o x u) (applied && not left || brought) p.3 kept))
+
+-- a wake that is here has a group
+pub here_in_groups : (o : Outline) (log : Log) (j u k : ℕ) → IsHere o log j u k → In (Group j u k) (groups_of o j)
+here_in_groups o log j u k p = posted_group o j p.0 k u p.1 p.2 p.3
+
+-- a bin that hasn't left since an earlier time hasn't since a later one
+pub still_later : (log : Log) (j b m s : ℕ) → m ≤ s → left_since log j b m ≡ false → left_since log j b s ≡ false
+still_later log j b m s l e =
+    false_from_ne_true (left_since log j b s) (λ h. let r = left_at log j b s h in let g : s < r.0 = r.1 in both_ways (left_since log j b m) e (left_from log j b m r.0 (omega arith) r.2))
+
+module _ {Cell : Type 0} (q : QueryFacts Cell) (job : JobFacts) (sound : OutlineIsSound (outline_of q job)) (w : ℕ) (log : Log) (legal : LogIsLegal (outline_of q job) w log) where
+  -- The wake that a record of the key at some time posts came into a state of the key's bin that is in hand
+  abbrev pub HasSource : ℕ → ℕ → ℕ → Type 0
+  HasSource j u k = (since : Option ℕ) × IsInHandSince q job w log j ((outline_of q job).bin_of k) since × (v : ℕ) × IsPostedAt q job j k v u × CameInto log j since k v u
+
+  applied_source : (j u k v : ℕ) → IsPostedAt q job j k v u → In (Group j v k) log.applied → left_since log j ((outline_of q job).bin_of k) v ≡ false → HasSource j u k
+  applied_source j u k v posted applied still =
+      let b = (outline_of q job).bin_of k in
+      let in_hand = (legal.applied_ready (Group j v k) applied).2 in
+      let s = since_before q job w log legal j b (suc v) (sound.bins_fit k) in_hand (λ n l e. both_ways (left_since log j b v) still (left_from log j b v n (omega arith) e)) in
+      came s.0 s.1 s.2
+    where
+      came : (since : Option ℕ) → IsInHandSince q job w log j ((outline_of q job).bin_of k) since → began_before (suc v) since ≡ true → HasSource j u k
+      came None own began = (None, own, v, posted, applied)
+      came (Some m) own began = let l : m < suc v = ltb-true m (suc v) began in (Some m, own, v, posted, inr (omega arith, applied))
+
+  pub wake_source : (j u k : ℕ) → has_wake (outline_of q job) log j u k ≡ true → HasSource j u k
+  wake_source j u k h =
+      let o = outline_of q job in
+      let p = wake_here o sound log j u k h in
+      ⊎_elim
+      (λ (c : In (Group j p.0 k) log.applied × (left_since log j (o.bin_of k) p.0 ≡ false)). applied_source j u k p.0 (p.1, p.2, p.3) c.0 c.1)
+      (λ (c : Brought log j (o.bin_of k) p.0 u). (Some c.0, (c.4, c.3), p.0, (p.1, p.2, p.3), inl (c.1, c.2)))
+      p.4
+
+  -- and the other way round
+  pub source_wake : (j u k : ℕ) → HasSource j u k → has_wake (outline_of q job) log j u k ≡ true
+  source_wake j u k h = form h.0 h.1 h.2 h.3 h.4
+    where
+      form : (since : Option ℕ) → IsInHandSince q job w log j ((outline_of q job).bin_of k) since → (v : ℕ) → IsPostedAt q job j k v u → CameInto log j since k v u → has_wake (outline_of q job) log j u k ≡ true
+      form None own v posted came =
+          let b = (outline_of q job).bin_of k in
+          let still = false_from_ne_true (left_since log j b v) (λ e. let r = left_at log j b v e in both_ways (has log.sent (Packet j b r.0)) (own.2 r.0) r.2) in
+          here_wake (outline_of q job) log j u k (v, posted.0, posted.1, posted.2, inl (came, still))
+      form (Some m) own v posted came =
+          let b = (outline_of q job).bin_of k in
+          let kept : IsKept (outline_of q job) log j k v u = ⊎_elim
+          (λ (c : (v < m) × (m ≤ u)). inr (m, c.0, c.1, own.1, own.0))
+          (λ (c : (m ≤ v) × In (Group j v k) log.applied). inl (c.1, still_later log j b m v c.0 own.1))
+          came in
+          here_wake (outline_of q job) log j u k (v, posted.0, posted.1, posted.2, kept)
+
+-- What waits
+
+-- a group that waits isn't applied, and a record of it is taken or its wake is here
+pub pending_is : (o : Outline) (log : Log) (j u k : ℕ) → is_pending o log (Group j u k) ≡ true → (has log.applied (Group j u k) ≡ false) × ((has_record log j u k ≡ true) ⊎ (has_wake o log j u k ≡ true))
+pending_is o log j u k e =
+    let p = and_parts (not (has log.applied (Group j u k))) (has_record log j u k || has_wake o log j u k) e in
+    (not-true (has log.applied (Group j u k)) p.0, or_cases (has_record log j u k) (has_wake o log j u k) p.1)
+
+pub record_pends : (o : Outline) (log : Log) (j u k : ℕ) → has log.applied (Group j u k) ≡ false → has_record log j u k ≡ true → is_pending o log (Group j u k) ≡ true
+record_pends o log j u k n h =
+    and_from (not (has log.applied (Group j u k))) (has_record log j u k || has_wake o log j u k) (not_from_false (has log.applied (Group j u k)) n) (or_left (has_record log j u k) (has_wake o log j u k) h)
+
+pub wake_pends : (o : Outline) (log : Log) (j u k : ℕ) → has log.applied (Group j u k) ≡ false → has_wake o log j u k ≡ true → is_pending o log (Group j u k) ≡ true
+wake_pends o log j u k n h =
+    and_from (not (has log.applied (Group j u k))) (has_record log j u k || has_wake o log j u k) (not_from_false (has log.applied (Group j u k)) n) (or_right (has_record log j u k) (has_wake o log j u k) h)
+
+-- a record of the group that is taken
+pub record_taken : (log : Log) (j u k : ℕ) → has_record log j u k ≡ true → (g : Tag) × In (Rec j u k g) log.took
+record_taken log j u k h = let r = any_at (is_record_of j u k) log.took h in form r.0 r.1 r.2
+  where
+    form : (x : Name) → In x log.took → is_record_of j u k x ≡ true → (g : Tag) × In (Rec j u k g) log.took
+    form (Rec i s l g) f e =
+        let p = and_parts (i == j) (s == u && l == k) e in
+        let c = and_parts (s == u) (l == k) p.1 in
+        let a = subst (λ (i : ℕ). In (Rec i s l g) log.took) (eqb-true i j p.0) f in
+        let b = subst (λ (s : ℕ). In (Rec j s l g) log.took) (eqb-true s u c.0) a in
+        (g, subst (λ (l : ℕ). In (Rec j u l g) log.took) (eqb-true l k c.1) b)
+    form _ f e = absurd (false≢true e)
+
+pub taken_record : (log : Log) (j u k : ℕ) (g : Tag) → In (Rec j u k g) log.took → has_record log j u k ≡ true
+taken_record log j u k g i =
+    any_from (is_record_of j u k) (Rec j u k g) log.took i (and_from (j == j) (u == u && k == k) (eq-eqb j j refl) (and_from (u == u) (k == k) (eq-eqb u u refl) (eq-eqb k k refl)))
+
+-- groups of a stage that have one name have one time and one key
+
+time_in : Name → ℕ
+time_in (Group j t k) = t
+time_in _ = 0
+
+key_in : Name → ℕ
+key_in (Group j t k) = k
+key_in _ = 0
+
+pub same_group : (j t k u l : ℕ) → Group j t k ≡ Group j u l → (t ≡ u) × (k ≡ l)
+unfolding time_in key_in
+same_group j t k u l e = (ap time_in e, ap key_in e)
+
+-- Lists that grow
+
+-- a name of a longer list is the last, or one of the others
+pub has_push : (xs : List Name) (x y : Name) → (y ≡ x → ⊥) → has (xs ++ y ∷ []) x ≡ has xs x
+has_push xs x y apart =
+    same_test (has (xs ++ y ∷ []) x) (has xs x)
+    (λ h. ⊎_elim (λ (i : In x xs). i) (λ (e : y ≡ x). absurd (apart e)) (In_push x y xs h))
+    (λ h. In_left x xs (y ∷ []) h)
+
+pub push_has : (xs : List Name) (y : Name) → In y (xs ++ y ∷ [])
+push_has xs y = In_right y xs (y ∷ []) (In_here y [])
+
+before_rest : (xs ys : List Name) → IsAscending (xs ++ ys) → (x y : Name) → In x xs → In y ys → Less x y
+before_rest [] ys h x y i k = absurd (false≢true i)
+before_rest (z ∷ xs) ys h x y i k =
+    ⊎_elim
+    (λ (e : z ≡ x). subst (λ (u : Name). Less u y) e (h.0 y (In_right y xs ys k)))
+    (λ (j : In x xs). before_rest xs ys h.1 x y j k)
+    (In_cases x z xs i)
+
+-- what comes before a name of the beginning of an ascending list stands in that beginning
+pub prefix_before : (xs ys : List Name) (x y : Name) → IsAscending ys → IsPrefix xs ys → In x xs → In y ys → Less y x → In y xs
+prefix_before xs ys x y a p i k less =
+    ⊎_elim
+    (λ (m : In y xs). m)
+    (λ (m : In y p.0). absurd (less_irreflexive x (less_trans x y x (before_rest xs p.0 (subst IsAscending (sym p.1) a) x y i m) less)))
+    (In_append y xs p.0 (subst (λ (l : List Name). In y l) (sym p.1) k))
+
+-- a group of the worker that comes before an applied one is applied
+pub applied_before : (o : Outline) (w : ℕ) (log : Log) → LogIsLegal o w log → (j t u k : ℕ) → In (Group j t k) (groups_of o j) → group_owner o j t k ≡ w → In (Group j u k) log.applied → Less (Group j t k) (Group j u k) → In (Group j t k) log.applied
+applied_before o w log legal j t u k group mine applied less =
+    let below = (legal.applied_ready (Group j u k) applied).0 in
+    let later = filter_In (is_group j) (Group j u k) log.applied applied (eq-eqb j j refl) in
+    let own = filter_In (is_owned o w) (Group j t k) (groups_of o j) group (eq-eqb (group_owner o j t k) w mine) in
+    let ascends = filter_ascends (is_owned o w) (groups_of o j) (groups_ascend o j) in
+    let here = prefix_before (filter (is_group j) log.applied) (owned_groups o w j) (Group j u k) (Group j t k) ascends (legal.applied_in_order j below) later own less in
+    (In_filter (is_group j) (Group j t k) log.applied here).0

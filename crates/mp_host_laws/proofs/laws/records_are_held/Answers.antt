@@ -1,0 +1,5 @@
+use Rattle.mp_host_laws.proofs.Received.{records_are_held}
+use Rattle.mp_host_laws.proofs.laws.records_are_held.Goals as goal
+
+pub returns : goal.returns
+returns g c = λ job legal. records_are_held (g.Q.Query.facts job.rules) job

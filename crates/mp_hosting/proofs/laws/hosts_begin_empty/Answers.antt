@@ -1,5 +1,0 @@
-use Rattle.mp_hosting.proofs.Beginning.{new_hosts_hold_nothing}
-use Rattle.mp_hosting.proofs.laws.hosts_begin_empty.Goals as goal
-
-pub returns : goal.returns
-returns g c = λ job. new_hosts_hold_nothing (g.Q.Query.facts job.rules) job

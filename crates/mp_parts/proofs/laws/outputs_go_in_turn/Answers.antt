@@ -1,5 +1,0 @@
-use Rattle.mp_parts.proofs.InTurn.{outputs_go_in_turn}
-use Rattle.mp_parts.proofs.laws.outputs_go_in_turn.Goals as goal
-
-pub returns : goal.returns
-returns g c = λ job. outputs_go_in_turn (g.Q.Query.facts job.rules) job

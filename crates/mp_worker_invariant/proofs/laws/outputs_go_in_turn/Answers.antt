@@ -1,0 +1,5 @@
+use Rattle.mp_worker_invariant.proofs.InTurn.{outputs_go_in_turn}
+use Rattle.mp_worker_invariant.proofs.laws.outputs_go_in_turn.Goals as goal
+
+pub returns : goal.returns
+returns g c = λ job. outputs_go_in_turn (g.Q.Query.facts job.rules) job

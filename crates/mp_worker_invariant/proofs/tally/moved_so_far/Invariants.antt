@@ -1,0 +1,10 @@
+-- The packets of the movers so far.
+use Rattle.std.proofs.Common.{◌≡◌, All, take}
+use Rattle.mp_worker_invariant.specs.Tallies.{MovedHasKeys, moved_by}
+use Rattle.mp_worker_invariant.proofs.tally.moved_so_far.Given as goal
+
+abbrev pub invariant-loop-one : goal.invariant-loop-one
+invariant-loop-one g l = record {
+  moved : l.moved.items ≡ moved_by (take l.one-index l.movers);
+  keys : All (MovedHasKeys (g.Q.Query.facts g.J.Naming.job.rules) g.J.Naming.job) l.moved.items;
+}
