@@ -23,15 +23,15 @@ place_of_noted (n ∷ ns) i h =
 
 module _ (controls : List Control) (notes : Notes) (t : ℕ) (are : AreNotesOf controls notes) (all : AreNotedBelow controls notes t) (j b u : ℕ) (u_t : u ≤ t) where
   -- a record stands among the notes
-  abbrev Stands : ℕ → Type 0
-  Stands k = (q : ℕ) × (q < length notes.noted) × ((note_at notes.noted q).index ≡ k) × ((note_at notes.noted q).control ≡ control_of controls k)
+  abbrev Denotes : ℕ → Type 0
+  Denotes k = (q : ℕ) × (q < length notes.noted) × ((note_at notes.noted q).index ≡ k) × ((note_at notes.noted q).control ≡ control_of controls k)
 
   is_note : (q : ℕ) → q < length notes.noted → IsNoteOf controls (note_at notes.noted q)
   is_note q l = are.each q no_note l
 
   -- one below u does
-  stands : (k : ℕ) → k < length controls → is_below j b u (control_of controls k) ≡ true → Stands k
-  stands k l e =
+  denotes : (k : ℕ) → k < length controls → is_below j b u (control_of controls k) ≡ true → Denotes k
+  denotes k l e =
       let f = below_is j b u (record { index = k; control = control_of controls k }) e in
       let g = f.1 in
       let r = place_of_noted notes.noted k (all k l (omega arith)) in
@@ -58,7 +58,7 @@ module _ (controls : List Control) (notes : Notes) (t : ℕ) (are : AreNotesOf c
 
       last : (k : ℕ) → k < length controls → is_below j b u (control_of controls k) ≡ true → ((control_of controls k).time < (control_of controls (note_at notes.noted i).index).time) ⊎ (((control_of controls k).time ≡ (control_of controls (note_at notes.noted i).index).time) × (k ≤ (note_at notes.noted i).index))
       last k l e =
-          let r = stands k l e in
+          let r = denotes k l e in
           let q = r.0 in
           let there = below_too k q r.3 e in
           let time_k : (control_of (controls_in notes.noted) q).time ≡ (control_of controls k).time = ap (λ (c : Control). c.time) (control_at_note notes.noted q ∙ r.3) in
@@ -78,7 +78,7 @@ module _ (controls : List Control) (notes : Notes) (t : ℕ) (are : AreNotesOf c
   told_from : (d : Option Control) → Said (controls_in notes.noted) j b u d → owner_before notes j b u ≡ owner_below controls (first_owner notes.shape b) j b u
   told_from None h =
       owner_is_first (controls_in notes.noted) (first_owner notes.shape b) j b u h
-      ∙ sym (owner_is_first controls (first_owner notes.shape b) j b u (λ k l. false_from_ne_true (is_below j b u (control_of controls k)) (λ e. let r = stands k l e in both_ways (is_below j b u (control_of (controls_in notes.noted) r.0)) (h r.0 (as_listed r.0 r.1)) (below_too k r.0 r.3 e))))
+      ∙ sym (owner_is_first controls (first_owner notes.shape b) j b u (λ k l. false_from_ne_true (is_below j b u (control_of controls k)) (λ e. let r = denotes k l e in both_ways (is_below j b u (control_of (controls_in notes.noted) r.0)) (h r.0 (as_listed r.0 r.1)) (below_too k r.0 r.3 e))))
   told_from (Some c) h =
       let i = h.0 in
       owner_is (controls_in notes.noted) (first_owner notes.shape b) j b u i h.1

@@ -7,7 +7,7 @@ ghost use Rattle.mp_bins.specs.Leaving.{BinStays, IsNextLeaving, IsNextOfBin, No
 use crate::finding::{StageBin, owner_below, place_for};
 use crate::leaving::{earlier, first_time, leaving_from};
 use crate::places::{Place, places_of};
-use mp_names::{Control, Move, Shape};
+use mp_names::{Control, Move, Shape, Time};
 use std::alloc::{AllocError, Global};
 use std::marker::Model;
 
@@ -59,7 +59,7 @@ impl Owners {
         ensures room { OnOk result (count ≤ self.new.room) }
         ensures shape { self.new.shape ≡ self.old.shape }
         ensures noted { self.new.noted ≡ self.old.noted }
-        ensures refused { OnErr result (self.new ≡ self.old) }
+        ensures unchanged { OnErr result (self.new ≡ self.old) }
     {
         self.notes.reserve(count as usize)?;
         Ok(())
@@ -74,7 +74,7 @@ impl Owners {
         ensures noted { OnOk result (self.new.noted ≡ with_note self.old.noted (record { index = index; control = control })) }
         ensures shape { self.new.shape ≡ self.old.shape }
         ensures room { OnOk result (self.old.room - 1 ≤ self.new.room) }
-        ensures refused { OnErr result (self.new ≡ self.old) }
+        ensures unchanged { OnErr result (self.new ≡ self.old) }
         ensures never_refused_with_room { 0 < self.old.room → IsOk result }
     {
         self.notes.reserve(1)?;
@@ -86,7 +86,7 @@ impl Owners {
     /// The worker that owns a bin of a stage at a time: that of the noted record of this stage and bin with
     /// the greatest time up to then, of several at one time that of the greatest index; without one, the
     /// first owner. As in Megaphone's control stream; which of several counts is this project's profile.
-    pub fn owner(&self, stage: u32, bin: u32, time: u64) -> u32
+    pub fn owner(&self, stage: u32, bin: u32, time: Time) -> u32
         requires stage { stage < self.now.shape.stages }
         requires bin { bin < self.now.shape.bins }
         ensures owner { result ≡ owner_at self.now stage bin time }
@@ -97,7 +97,7 @@ impl Owners {
 
     /// The same just before a time: a record of that time doesn't count yet. Just before time 0 it is the
     /// first owner.
-    pub fn before(&self, stage: u32, bin: u32, time: u64) -> u32
+    pub fn before(&self, stage: u32, bin: u32, time: Time) -> u32
         requires stage { stage < self.now.shape.stages }
         requires bin { bin < self.now.shape.bins }
         ensures owner { result ≡ owner_before self.now stage bin time }

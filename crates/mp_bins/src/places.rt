@@ -5,12 +5,13 @@ ghost use Rattle.mp_names.specs.Names.{ascending, is_before, placed, rank_of, sa
 ghost use Rattle.mp_bins.specs.Places.{name_of, names_of, place_names};
 
 use crate::owners::Note;
+use mp_names::Time;
 use std::alloc::{AllocError, Global};
 
 /// A time at which a bin of a stage may move.
 #[derive(Clone, Copy, Debug, Drop)]
 pub struct Place {
-    pub time: u64,
+    pub time: Time,
     pub stage: u32,
     pub bin: u32,
 }

@@ -14,7 +14,7 @@ use Rattle.mp_names.specs.Outlines.{Outline, OutlineIsSound}
 use Rattle.mp_names.proofs.Exact.{closed_from_passed}
 use Rattle.mp_names.proofs.Keeps.{empty_is_legal}
 use Rattle.mp_stamps.specs.declared.seen.Seen.{Seen}
-use Rattle.mp_stamps.specs.declared.seen.TheConstants.{MAX_STAGES}
+use Rattle.mp_names.specs.Limits.{most_stages_seen}
 use Rattle.mp_stamps.specs.Seen.{HasLoc, seen_at}
 use Rattle.mp_machine.specs.Steps.{same_log, same_names}
 use Rattle.mp_rows.specs.Entries.{AreContributions, sum_at}
@@ -188,7 +188,7 @@ empty_logs (suc n) (suc w) = empty_logs n w
 module _ (o : Outline) (posted : List PostedLog) (seen : Seen) where
   pub empty_sound :
       OutlineIsSound o
-      → o.stages ≤ MAX_STAGES
+      → o.stages ≤ most_stages_seen
       → logs_of posted ≡ replicate o.workers empty_log
       → HoldContributions o posted
       → seen.version ≡ 0
@@ -233,5 +233,5 @@ standing ps w p l e = ap posted_log e ∙ sym (get_or-map posted_log ps w p empt
 pub version_is : (seen next version before : ℕ) (is_same same : Bool) → seen ≡ next → next ≡ cond is_same version (suc version) → version ≡ before → is_same ≡ same → seen ≡ cond same before (suc before)
 version_is seen next version before is_same same e f g h = e ∙ rw (← g, ← h) f
 
-pub same_as : (is_same : Bool) (log old stands : Log) → is_same ≡ same_log log old → old ≡ stands → is_same ≡ same_log log stands
-same_as is_same log old stands e f = rw (← f) e
+pub same_as : (is_same : Bool) (log old denotes : Log) → is_same ≡ same_log log old → old ≡ denotes → is_same ≡ same_log log denotes
+same_as is_same log old denotes e f = rw (← f) e

@@ -4,7 +4,7 @@ use Rattle.mp_names.specs.Frontiers.{log_at}
 use Rattle.mp_names.specs.Laws.{names_in}
 use Rattle.mp_names.specs.Logs.{LogsAreLegal}
 use Rattle.mp_names.specs.Outlines.{Outline, OutlineIsSound}
-use Rattle.mp_stamps.specs.declared.seen.TheConstants.{MAX_STAGES}
+use Rattle.mp_names.specs.Limits.{most_stages_seen}
 use Rattle.mp_stamps.specs.declared.seen.Seen.{Seen}
 use Rattle.mp_rows.specs.Entries.{AreContributions}
 use Rattle.mp_board.specs.declared.posted.PostedLog.{PostedLog}
@@ -18,7 +18,7 @@ HoldContributions o posted = (w : ℕ) (p : PostedLog) → slice_get posted w �
 -- the outline is sound, each worker has a legal log, and what was seen is what the logs show
 pub record BoardIsSound (o : Outline) (posted : List PostedLog) (seen : Seen) : Type 0 where
   pub outline : OutlineIsSound o
-  pub few_stages : o.stages ≤ MAX_STAGES
+  pub few_stages : o.stages ≤ most_stages_seen
   pub each_worker : length posted ≡ o.workers
   pub legal_logs : LogsAreLegal o (log_at (logs_of posted))
   pub contributions : HoldContributions o posted

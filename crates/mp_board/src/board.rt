@@ -83,7 +83,7 @@ impl<O: Outlined> Board<O> {
         ensures frontiers { IfOk result (λ seen. ShowsFrontiers O.outline self.new.logs seen) }
         ensures told { IfOk result (λ seen. TellsWorker O.outline worker (posted_log log) seen) }
 
-        ensures refused { OnErr result (self.new ≡ self.old) }
+        ensures unchanged { OnErr result (self.new ≡ self.old) }
     {
         let index = worker as usize;
         let is_same = self.posted[index].is_same(&log);

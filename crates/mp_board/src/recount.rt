@@ -3,7 +3,7 @@ ghost use Rattle.std.specs.Prelude.{◌≡◌, ◌<◌, ◌≤◌, ℕ, IfOk, On
 ghost use Rattle.mp_names.specs.declared.locations.Frontier.{Frontier};
 ghost use Rattle.mp_names.specs.declared.locations.Loc.{Loc};
 ghost use Rattle.mp_names.specs.Frontiers.{IsFrontierOf};
-ghost use Rattle.mp_stamps.specs.declared.seen.TheConstants.{MAX_STAGES};
+ghost use Rattle.mp_names.specs.Limits.{most_stages_seen};
 ghost use Rattle.mp_stamps.specs.Counts.{count_in};
 ghost use Rattle.mp_stamps.specs.Seen.{HasLoc, seen_at};
 ghost use Rattle.mp_board.specs.Recount.{IsOpened, posted_sum};
@@ -25,7 +25,7 @@ pub fn seen_of(
     version: u64,
     posted: &[PostedLog],
 ) -> Result<Seen, AllocError>
-    requires { stages ≤ MAX_STAGES }
+    requires { stages ≤ most_stages_seen }
     ensures version { IfOk result (λ seen. seen.version ≡ version) }
     ensures stages { IfOk result (λ seen. seen.stages ≡ stages) }
     ensures frontiers { IfOk result (λ seen. (at : Loc) → HasLoc stages at →
@@ -46,14 +46,14 @@ pub fn post(
     log: PostedLog,
     posted: &mut Vec<PostedLog>,
 ) -> Result<Seen, AllocError>
-    requires stages { stages ≤ MAX_STAGES }
+    requires stages { stages ≤ most_stages_seen }
     requires index { index < length posted.old.items }
     ensures posted { OnOk result (posted.new.items ≡ slice_set posted.old.items index log) }
     ensures version { IfOk result (λ seen. seen.version ≡ version) }
     ensures stages { IfOk result (λ seen. seen.stages ≡ stages) }
     ensures frontiers { IfOk result (λ seen. (at : Loc) → HasLoc stages at →
         IsFrontierOf (posted_sum posted.new.items) at (seen_at seen at)) }
-    ensures refused { OnErr result (posted.new.items ≡ posted.old.items) }
+    ensures unchanged { OnErr result (posted.new.items ≡ posted.old.items) }
 {
     let before = mem::replace(&mut posted[index], log);
     match seen_of(alloc, stages, version, posted.as_slice()) {

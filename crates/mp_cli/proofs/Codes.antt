@@ -4,7 +4,7 @@ use Rattle.std.specs.Prelude.{nat_le}
 use Rattle.mp_outside.specs.Files.{Files, file_at}
 use Rattle.mp_outside.specs.Sink.{grown}
 use Rattle.mp_outside.proofs.SinkLemmas.{grown-nothing}
-use Rattle.mp_cli.specs.declared.TheConstants.{MAX_BYTES}
+use Rattle.mp_names.specs.Limits.{most_bytes}
 use Rattle.mp_events.specs.declared.refused.EventsReason.{EventsReason}
 use Rattle.mp_events.specs.Events.{events_of}
 use Rattle.mp_cli.specs.Config.{shape_of}
@@ -25,7 +25,7 @@ may_lack_memory (Some asked) (Some files) = inr tt
 -- what files call for is no usage
 with_text-not_usage : (name : List ℕ) (found : Option (List ℕ)) (next : List ℕ → Outcome) → ((text : List ℕ) → status_of (next text) ≡ 2 → ⊥) → status_of (with_text name found next) ≡ 2 → ⊥
 with_text-not_usage name None next no_next e = omega arith
-with_text-not_usage name (Some text) next no_next e = either (nat_le (length text) MAX_BYTES) e
+with_text-not_usage name (Some text) next no_next e = either (nat_le (length text) most_bytes) e
   where
     either : (within : Bool) → status_of (cond within (next text) (TooLarge name)) ≡ 2 → ⊥
     either true is = no_next text is

@@ -4,7 +4,7 @@ use Rattle.std.specs.Prelude.{nat_le, IsSomeAnd}
 use Rattle.std.proofs.lemmas.Bool.{le-leb, lt-leb}
 use Rattle.mp_model.specs.declared.record.Event.{Event}
 use Rattle.mp_outside.specs.Files.{Files, file_at, IsThereWith}
-use Rattle.mp_cli.specs.declared.TheConstants.{MAX_BYTES}
+use Rattle.mp_names.specs.Limits.{most_bytes}
 use Rattle.mp_events.specs.Events.{events_of}
 use Rattle.mp_words.specs.Values.{Options}
 use Rattle.mp_cli.specs.Config.{shape_of}
@@ -28,15 +28,15 @@ held files name Has h = some (files name) (h files refl)
 read_goes_on : (files : Files) (name text : List ℕ) (next : List ℕ → Outcome) → IsRead (Some files) name text → with_text name (file_at (Some files) name) next ≡ next text
 read_goes_on files name text next r =
     let h = held files name (λ (bytes : List ℕ). text ≡ bytes) r.whole in
-    let short : nat_le (length text) MAX_BYTES ≡ true = le-leb _ _ r.within in
+    let short : nat_le (length text) most_bytes ≡ true = le-leb _ _ r.within in
     rw (h.1, ← h.2, short) refl
 
 -- why a file gave no text is why the checks stop there
 cannot_goes_off : (files : Files) (name : List ℕ) (next : List ℕ → Outcome) (called o : Outcome) → CannotRead (Some files) name o → (o ≡ with_text name (file_at (Some files) name) next) ⊎ MayFail called o
 cannot_goes_off files name next called o (absent none) = inl (rw none refl)
 cannot_goes_off files name next called o (large more) =
-    let h = held files name (λ (bytes : List ℕ). MAX_BYTES < length bytes) more in
-    let long : nat_le (length h.0) MAX_BYTES ≡ false = lt-leb _ _ h.2 in
+    let h = held files name (λ (bytes : List ℕ). most_bytes < length bytes) more in
+    let long : nat_le (length h.0) most_bytes ≡ false = lt-leb _ _ h.2 in
     inl (rw (h.1, long) refl)
 cannot_goes_off files name next called o failed = inr tt
 cannot_goes_off files name next called o no_memory = inr tt

@@ -12,7 +12,7 @@ use Rattle.mp_names.specs.declared.controls.Control.{Control}
 use Rattle.mp_names.specs.declared.controls.Shape.{Shape}
 use Rattle.mp_outside.specs.Files.{Files, file_at}
 use Rattle.mp_words.specs.Values.{Options}
-use Rattle.mp_cli.specs.declared.TheConstants.{MAX_BYTES}
+use Rattle.mp_names.specs.Limits.{most_bytes}
 use Rattle.mp_cli.specs.Config.{shape_of}
 
 -- how a call can end
@@ -60,7 +60,7 @@ number_in _ = 0
 -- what comes of a named file: it isn't there, it is larger than is allowed, or it has a text
 abbrev pub with_text : List ℕ → Option (List ℕ) → (List ℕ → Outcome) → Outcome
 with_text name None next = NoFile name
-with_text name (Some text) next = if nat_le (length text) MAX_BYTES then next text else TooLarge name
+with_text name (Some text) next = if nat_le (length text) most_bytes then next text else TooLarge name
 
 -- a file that is refused, else what comes next
 abbrev pub unless_refused : Option Outcome → Outcome → Outcome

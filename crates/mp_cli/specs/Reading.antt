@@ -3,7 +3,7 @@ use Rattle.std.specs.Prelude.{ℕ, ◌≡◌, ◌<◌, ◌≤◌, ◌⊎◌, Opt
 use Rattle.mp_model.specs.declared.record.Event.{Event}
 use Rattle.mp_events.specs.Events.{events_of}
 use Rattle.mp_outside.specs.Files.{Files, file_at, IsThereWith}
-use Rattle.mp_cli.specs.declared.TheConstants.{MAX_BYTES}
+use Rattle.mp_names.specs.Limits.{most_bytes}
 use Rattle.mp_control.specs.Controls.{controls_of}
 use Rattle.mp_names.specs.declared.controls.Control.{Control}
 use Rattle.mp_names.specs.declared.controls.Shape.{Shape}
@@ -12,12 +12,12 @@ use Rattle.mp_cli.specs.Outcome.{Outcome, NoFile, TooLarge, ReadFault, NoMemory}
 -- the text is the file's, where files are told, and no longer than is allowed
 pub record IsRead (told : Option Files) (name text : List ℕ) : Type 0 where
   pub whole : IsThereWith told name (λ bytes. text ≡ bytes)
-  pub within : length text ≤ MAX_BYTES
+  pub within : length text ≤ most_bytes
 
 -- why a file gave no text: it isn't there, it is too large, or the outside failed
 pub data CannotRead (told : Option Files) (name : List ℕ) : Outcome → Type 0 where
   absent : file_at told name ≡ None → CannotRead told name (NoFile name)
-  large : IsThereWith told name (λ bytes. MAX_BYTES < length bytes) → CannotRead told name (TooLarge name)
+  large : IsThereWith told name (λ bytes. most_bytes < length bytes) → CannotRead told name (TooLarge name)
   failed : CannotRead told name ReadFault
   no_memory : CannotRead told name NoMemory
 

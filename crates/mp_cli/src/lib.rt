@@ -20,6 +20,3 @@ mod writing;
 
 pub use status::{Status, lack_memory};
 pub use top::run;
-
-/// How many bytes a file that is read may have: 2^28.
-pub const MAX_BYTES: u64 = 1 << 28;

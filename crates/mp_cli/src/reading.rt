@@ -7,11 +7,11 @@ ghost use Rattle.mp_cli.specs.Outcome.{refusal_of_config, refusal_of_events, sta
 ghost use Rattle.mp_cli.specs.Reading.{CannotRead, IsRead, ReadsConfig, ReadsEvents, RefusedBy};
 ghost use Rattle.mp_cli.specs.Refused.{outcome_of};
 
-use crate::MAX_BYTES;
 use crate::refusal::Refusal;
 use mp_control::{Control, ControlRefused, Shape, read_control};
 use mp_events::{EventsRefused, read_events};
 use mp_model::Event;
+use mp_names::limits::MAX_BYTES;
 use mp_outside::{Depot, ReadRefused, read_all};
 use std::alloc::Global;
 

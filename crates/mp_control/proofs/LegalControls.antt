@@ -13,7 +13,7 @@ use Rattle.mp_control.specs.Kinds.{kind_of, limits_of, record_of, records_by}
 use Rattle.mp_control.specs.Read.{IsPassed}
 use Rattle.mp_control.specs.Reasons.{reason_of}
 use Rattle.mp_control.proofs.Numbers.{record_fits}
-use Rattle.mp_job.specs.declared.limits.TheConstants.{MAX_CONTROLS}
+use Rattle.mp_names.specs.Limits.{most_controls}
 use Rattle.mp_job.specs.Legal.{ControlFits, ControlsFit}
 use Rattle.mp_lines.specs.Checks.{check, failures_of_fields, field_at}
 use Rattle.mp_lines.specs.Limits.{failures_of_number}
@@ -25,7 +25,7 @@ use Rattle.mp_names.specs.declared.controls.Shape.{Shape}
 -- what a line of a kind that fails no check has passed
 record HasPassed (shape : Shape) (before : ℕ) (kind : LineKind) (fields : List (List ℕ)) : Type 0 where
   fields_pass : IsPassed shape kind fields
-  few : before + length (records_by shape kind (numbers_in fields)) ≤ MAX_CONTROLS
+  few : before + length (records_by shape kind (numbers_in fields)) ≤ most_controls
 
 has_passed : (shape : Shape) (before : ℕ) (kind : LineKind) (fields : List (List ℕ)) → failures_of_kind shape before (Some kind) fields ≡ [] → HasPassed shape before kind fields
 has_passed shape before kind fields e =
@@ -47,13 +47,13 @@ records_fit shape before (Some Record) fields e =
 
 -- and with those before it not too many
 records_are_few : (shape : Shape) (before : ℕ) (kind : Option LineKind) (fields : List (List ℕ)) → failures_of_kind shape before kind fields ≡ []
-    → before + length (records_of_kind shape kind fields) ≤ MAX_CONTROLS
+    → before + length (records_of_kind shape kind fields) ≤ most_controls
 records_are_few shape before None fields e = absurd (cc)
 records_are_few shape before (Some kind) fields e = (has_passed shape before kind fields e).few
 
 -- a job may be made of the control records of a file
 pub controls_fit : (shape : Shape) (text : List ℕ) (controls : List Control) → controls_of text shape ≡ Ok controls → ControlsFit shape controls
 controls_fit shape text controls e = record {
-  few = few_in_file (control_rules shape) MAX_CONTROLS (λ before fields. records_are_few shape before (kind_of (field_at fields 0)) fields) text controls e;
+  few = few_in_file (control_rules shape) most_controls (λ before fields. records_are_few shape before (kind_of (field_at fields 0)) fields) text controls e;
   each = all_in_file (control_rules shape) (ControlFits shape) (λ before fields. records_fit shape before (kind_of (field_at fields 0)) fields) text controls e;
 }

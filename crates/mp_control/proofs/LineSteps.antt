@@ -10,7 +10,7 @@ use Rattle.mp_control.specs.Controls.{failures_of, is_in_time, numbers_in}
 use Rattle.mp_control.specs.Kinds.{kind_of, limits_of, records_by}
 use Rattle.mp_control.specs.Read.{IsPassed}
 use Rattle.mp_control.proofs.Numbers.{record_fits}
-use Rattle.mp_job.specs.declared.limits.TheConstants.{MAX_CONTROLS}
+use Rattle.mp_names.specs.Limits.{most_controls}
 use Rattle.mp_lines.specs.Checks.{check, field_at}
 use Rattle.mp_names.specs.declared.controls.Shape.{Shape}
 
@@ -20,7 +20,7 @@ in_time shape Record fields h = rw (le-leb _ _ (record_fits shape fields h).in_t
 
 -- so it fails no more than the count
 failures_of-count : (shape : Shape) (before : ℕ) (fields : List (List ℕ)) (kind : LineKind) → kind_of (field_at fields 0) ≡ Some kind → IsPassed shape kind fields
-    → failures_of shape before fields ≡ check (nat_le (before + length (records_by shape kind (numbers_in fields))) MAX_CONTROLS) Count
+    → failures_of shape before fields ≡ check (nat_le (before + length (records_by shape kind (numbers_in fields))) most_controls) Count
 failures_of-count shape before fields kind is h =
     let e : eqb (length fields) (length (limits_of shape kind) + 1) ≡ true = eq-eqb _ _ h.count in
     rw (is, e, h.pass, in_time shape kind fields h) refl
@@ -31,7 +31,7 @@ one shape Record numbers = refl
 
 -- it fails none
 pub passes_all : (shape : Shape) (before : ℕ) (fields : List (List ℕ)) (kind : LineKind) → kind_of (field_at fields 0) ≡ Some kind → IsPassed shape kind fields
-    → before < MAX_CONTROLS → failures_of shape before fields ≡ []
+    → before < most_controls → failures_of shape before fields ≡ []
 passes_all shape before fields kind is h low =
-    let e : nat_le (before + length (records_by shape kind (numbers_in fields))) MAX_CONTROLS ≡ true = le-leb _ _ (omega (arith, low, one shape kind (numbers_in fields))) in
+    let e : nat_le (before + length (records_by shape kind (numbers_in fields))) most_controls ≡ true = le-leb _ _ (omega (arith, low, one shape kind (numbers_in fields))) in
     rw (failures_of-count shape before fields kind is h, e) refl

@@ -14,7 +14,7 @@ use Rattle.mp_lines.specs.Checks.{numbers_of}
 use Rattle.mp_lines.specs.Limits.{failures_of_number, is_within}
 use Rattle.mp_lines.proofs.FieldsRead.{field_passes}
 use Rattle.mp_lines.proofs.LimitSteps.{passes_limit}
-use Rattle.mp_model.specs.declared.limits.TheConstants.{MAX_TIME}
+use Rattle.mp_names.specs.Limits.{greatest_time}
 use Rattle.mp_names.specs.declared.controls.Shape.{Shape}
 use Rattle.mp_text.specs.Numbers.{value_of}
 
@@ -41,7 +41,7 @@ number_within shape kind fields k limit h low is =
 pub record_fits : (shape : Shape) (fields : List (List ℕ)) → IsPassed shape Record fields → ControlFits shape (record_of (numbers_in fields))
 record_fits shape fields h =
     let number = number_within shape Record fields in record {
-      in_time = leb-true _ _ (number 0 (UpTo MAX_TIME) h (lit< tt) refl);
+      in_time = leb-true _ _ (number 0 (UpTo greatest_time) h (lit< tt) refl);
       within = (ltb-true _ _ (number 3 (Below shape.workers) h (lit< tt) refl), ltb-true _ _ (number 2 (Below shape.bins) h (lit< tt) refl), ltb-true _ _ (number 1 (Below shape.stages) h (lit< tt) refl));
     }
 

@@ -8,12 +8,11 @@ use Rattle.mp_control.specs.declared.refused.ControlRefused.{ControlRefused}
 use Rattle.mp_control.specs.declared.refused.ControlRefused.TheVariants.{BadLine, NoMemory}
 use Rattle.mp_control.specs.Kinds.{kind_of, limits_of, records_by}
 use Rattle.mp_control.specs.Reasons.{reason_of}
-use Rattle.mp_job.specs.declared.limits.TheConstants.{MAX_CONTROLS}
+use Rattle.mp_names.specs.Limits.{greatest_time, most_controls}
 use Rattle.mp_lines.specs.Checks.{check, failures_of_fields, field_at}
 use Rattle.mp_lines.specs.Files.{file_of}
 use Rattle.mp_lines.specs.Limits.{failures_of_number}
 use Rattle.mp_lines.specs.Rules.{LineRules}
-use Rattle.mp_model.specs.declared.limits.TheConstants.{MAX_TIME}
 use Rattle.mp_names.specs.declared.controls.Control.{Control}
 use Rattle.mp_names.specs.declared.controls.Shape.{Shape}
 use Rattle.mp_text.specs.Numbers.{value_of}
@@ -24,7 +23,7 @@ numbers_in fields = map value_of (drop 1 fields)
 
 -- a control record is at a time that isn't too late
 abbrev pub is_in_time : Control → Bool
-is_in_time control = nat_le control.time MAX_TIME
+is_in_time control = nat_le control.time greatest_time
 
 -- the checks that a line of this kind fails, in their order, where so many control records stand before it
 abbrev pub failures_of_kind : Shape → ℕ → Option LineKind → List (List ℕ) → List ControlReason
@@ -34,7 +33,7 @@ failures_of_kind shape before (Some kind) fields =
     check (length fields == length (limits_of shape kind) + 1) Fields
     ++ map reason_of (failures_of_fields failures_of_number (limits_of shape kind) (drop 1 fields))
     ++ check (list_all is_in_time records) Range
-    ++ check (nat_le (before + length records) MAX_CONTROLS) Count
+    ++ check (nat_le (before + length records) most_controls) Count
 
 -- the checks that a line's fields fail
 abbrev pub failures_of : Shape → ℕ → List (List ℕ) → List ControlReason

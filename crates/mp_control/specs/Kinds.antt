@@ -5,7 +5,7 @@ use Rattle.mp_control.specs.declared.kinds.LineKind.{LineKind}
 use Rattle.mp_control.specs.declared.kinds.LineKind.TheVariants.{Record}
 use Rattle.mp_lines.specs.declared.limits.NumberLimit.{NumberLimit}
 use Rattle.mp_lines.specs.declared.limits.NumberLimit.TheVariants.{UpTo, Below}
-use Rattle.mp_model.specs.declared.limits.TheConstants.{MAX_TIME}
+use Rattle.mp_names.specs.Limits.{greatest_time}
 use Rattle.mp_names.specs.declared.controls.Control.{Control}
 use Rattle.mp_names.specs.declared.controls.Shape.{Shape}
 
@@ -22,7 +22,7 @@ kind_of field = if bytes_eq field (codes "M") then Some Record else None
 -- the limits of the fields after the kind, from left to right
 abbrev pub limits_of : Shape → LineKind → List NumberLimit
 -- time, stage, bin, worker
-limits_of shape Record = UpTo MAX_TIME ∷ Below shape.stages ∷ Below shape.bins ∷ Below shape.workers ∷ []
+limits_of shape Record = UpTo greatest_time ∷ Below shape.stages ∷ Below shape.bins ∷ Below shape.workers ∷ []
 
 -- the control record of these numbers: time, stage, bin, worker
 abbrev pub record_of : List ℕ → Control

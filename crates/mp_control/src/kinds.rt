@@ -5,7 +5,7 @@ ghost use Rattle.mp_lines.specs.Checks.{field_at};
 
 use mp_job::Shape;
 use mp_lines::NumberLimit;
-use mp_model::limits::MAX_TIME;
+use mp_names::limits::MAX_TIME;
 use mp_text::FieldList;
 
 /// What a line says.

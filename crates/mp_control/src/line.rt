@@ -7,9 +7,9 @@ ghost use Rattle.mp_lines.specs.Checks.{AnswersChecks};
 
 use crate::ControlReason;
 use crate::kinds::LineKind;
-use mp_job::limits::MAX_CONTROLS;
 use mp_job::{Control, Shape};
 use mp_lines::{MOST_FIELDS, read_numbers};
+use mp_names::limits::MAX_CONTROLS;
 use mp_text::FieldList;
 
 /// A line that fails no check: its kind, and the numbers of the fields after that.

@@ -15,7 +15,7 @@ use Rattle.mp_model.specs.Facts.{JobFacts, QueryFacts}
 use Rattle.mp_outline.specs.JobOutline.{outline_of}
 use Rattle.mp_worker_invariant.specs.declared.tally.Tally.{Tally}
 use Rattle.mp_refinement.specs.State.{WorkerState}
-use Rattle.mp_refinement.specs.Together.{KnowsTheEnd, Together}
+use Rattle.mp_refinement.specs.SystemState.{KnowsTheEnd, SystemState}
 use Rattle.mp_drive.specs.Driven.{AllKnowTheEnd, AreReached}
 use Rattle.mp_drive.specs.Tallies.{IsTallyOf, TellsLog}
 use Rattle.mp_drive.proofs.Ended.{finished}
@@ -52,7 +52,7 @@ module _ {Cell : Type 0} (q : QueryFacts Cell) (job : JobFacts) where
         }
 
     -- at the end all tallies are the job's
-    pub tallied_at_the_end : (t : Together) → AreReached (outline_of q job) t → AllKnowTheEnd (outline_of q job) t → (tallies : List Tally) → AllTell t.workers tallies → length tallies ≡ job.shape.workers → (w : ℕ) (u : Tally) → slice_get tallies w ≡ Some u → IsTallyOf q job w u
+    pub tallied_at_the_end : (t : SystemState) → AreReached (outline_of q job) t → AllKnowTheEnd (outline_of q job) t → (tallies : List Tally) → AllTell t.workers tallies → length tallies ≡ job.shape.workers → (w : ℕ) (u : Tally) → slice_get tallies w ≡ Some u → IsTallyOf q job w u
     tallied_at_the_end t reached all tallies tell many w u at =
         let o = outline_of q job in
         let depth = t.post.depth in

@@ -24,7 +24,7 @@ use Rattle.mp_model.specs.Answers.{one_thread_answer}
 use Rattle.mp_model.specs.Facts.{JobFacts, QueryFacts}
 use Rattle.mp_outline.specs.JobOutline.{outline_of}
 use Rattle.mp_refinement.specs.State.{WorkerState}
-use Rattle.mp_refinement.specs.Together.{IsWorkerOf, KnowsTheEnd, Together}
+use Rattle.mp_refinement.specs.SystemState.{IsWorkerOf, KnowsTheEnd, SystemState}
 use Rattle.mp_answer_laws.specs.Lines.{written_lines}
 use Rattle.mp_answer_laws.proofs.Written.{full_logs_answer, written_lines_begin}
 use Rattle.mp_drive.specs.Driven.{AllKnowTheEnd, AreReached, HasBegun, HasWritten, first_log}
@@ -61,7 +61,7 @@ told_by_all P r xs h = (all r h, (λ a. true_from_All P (λ s. P s → ⊥) r xs
     all true h e = All-from_all_within P xs h
     all false h e = absurd (false≢true e)
 
-module _ {Cell : Type 0} (q : QueryFacts Cell) (job : JobFacts) (ok : OutlineIsSound (outline_of q job)) (t : Together) (reached : AreReached (outline_of q job) t) where
+module _ {Cell : Type 0} (q : QueryFacts Cell) (job : JobFacts) (ok : OutlineIsSound (outline_of q job)) (t : SystemState) (reached : AreReached (outline_of q job) t) where
   abbrev o : Outline
   o = outline_of q job
 

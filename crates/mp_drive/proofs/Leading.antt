@@ -8,15 +8,15 @@ use Rattle.mp_machine.specs.Worlds.{World, start_of_machine}
 use Rattle.mp_machine.specs.Runs.{Turn, NotNow, after_turn, is_made, made_count, run_of_machine, step_of_machine, turn_of_machine, turns_of, world_after}
 use Rattle.mp_machine.proofs.Bounds.{steps_bounded}
 use Rattle.mp_machine.proofs.Worlds.{after_more, turns_more}
-use Rattle.mp_refinement.specs.Together.{AreWorld, Together}
+use Rattle.mp_refinement.specs.SystemState.{Refines, SystemState}
 use Rattle.mp_drive.specs.Driven.{AreAfter, AreReached, LeadsOn, MakesStep, MakesSteps}
 
 module _ (o : Outline) where
   -- the state of a run, at the depth that the workers' mailboxes had before
-  at_depth : (t : Together) (depth : ℕ) (world : World) → t.post.depth ≡ depth → AreWorld o t.post.depth t world → AreWorld o depth t world
-  at_depth t depth world e are = subst (λ (d : ℕ). AreWorld o d t world) e are
+  at_depth : (t : SystemState) (depth : ℕ) (world : World) → t.post.depth ≡ depth → Refines o t.post.depth t world → Refines o depth t world
+  at_depth t depth world e are = subst (λ (d : ℕ). Refines o d t world) e are
 
-  pub still_there : (t : Together) → LeadsOn o [] [] t t
+  pub still_there : (t : SystemState) → LeadsOn o [] [] t t
   still_there t = record {
     turns_are = λ before are. refl;
     state_is = λ before are. subst (λ (steps : List (ℕ × Kind)). AreAfter o steps t) (sym (append-nil before)) are;
@@ -26,7 +26,7 @@ module _ (o : Outline) where
   run_more : (depth : ℕ) (before steps : List (ℕ × Kind)) → world_after o depth (run_of_machine o depth before) steps ≡ run_of_machine o depth (before ++ steps)
   run_more depth before steps = sym (after_more o depth before steps (start_of_machine o))
 
-  pub leads_further : (a b : List (ℕ × Kind)) (t u : List Turn) (old mid new : Together) → LeadsOn o a t old mid → LeadsOn o b u mid new → LeadsOn o (a ++ b) (t ++ u) old new
+  pub leads_further : (a b : List (ℕ × Kind)) (t u : List Turn) (old mid new : SystemState) → LeadsOn o a t old mid → LeadsOn o b u mid new → LeadsOn o (a ++ b) (t ++ u) old new
   leads_further a b t u old mid new first second = record {
     turns_are = λ before are.
         let d = old.post.depth in
@@ -44,7 +44,7 @@ module _ (o : Outline) where
       both a b c d e f = cc
 
   -- a step that can't be made now leads nowhere else
-  module _ (s : ℕ × Kind) (old new : Together) (lead : LeadsOn o (s ∷ []) (NotNow ∷ []) old new) where
+  module _ (s : ℕ × Kind) (old new : SystemState) (lead : LeadsOn o (s ∷ []) (NotNow ∷ []) old new) where
     pub was_not_now : (before : List (ℕ × Kind)) → AreAfter o before old → turn_of_machine o old.post.depth (run_of_machine o old.post.depth before) s.0 s.1 ≡ NotNow
     was_not_now before are = let e = lead.turns_are before are in cc
 
@@ -59,20 +59,20 @@ module _ (o : Outline) where
           let d = old.post.depth in
           let world = run_of_machine o d before in
           let same : run_of_machine o d (before ++ s ∷ []) ≡ world = sym (run_more d before (s ∷ [])) ∙ same_world d world (was_not_now before are) in
-          let after : AreWorld o d new (run_of_machine o d (before ++ s ∷ [])) = level d (before ++ s ∷ []) lead.depth (lead.state_is before are) in
-          let here : AreWorld o d new world = subst (AreWorld o d new) same after in
+          let after : Refines o d new (run_of_machine o d (before ++ s ∷ [])) = level d (before ++ s ∷ []) lead.depth (lead.state_is before are) in
+          let here : Refines o d new world = subst (Refines o d new) same after in
           subst (λ (steps : List (ℕ × Kind)). AreAfter o steps new) (sym (append-nil before)) (back d before (sym lead.depth) here);
       depth = lead.depth;
     }
       where
-        level : (d : ℕ) (steps : List (ℕ × Kind)) → new.post.depth ≡ d → AreAfter o steps new → AreWorld o d new (run_of_machine o d steps)
-        level d steps e are = subst (λ (n : ℕ). AreWorld o n new (run_of_machine o n steps)) e are
+        level : (d : ℕ) (steps : List (ℕ × Kind)) → new.post.depth ≡ d → AreAfter o steps new → Refines o d new (run_of_machine o d steps)
+        level d steps e are = subst (λ (n : ℕ). Refines o n new (run_of_machine o n steps)) e are
 
-        back : (d : ℕ) (steps : List (ℕ × Kind)) → d ≡ new.post.depth → AreWorld o d new (run_of_machine o d steps) → AreAfter o steps new
-        back d steps e are = subst (λ (n : ℕ). AreWorld o n new (run_of_machine o n steps)) e are
+        back : (d : ℕ) (steps : List (ℕ × Kind)) → d ≡ new.post.depth → Refines o d new (run_of_machine o d steps) → AreAfter o steps new
+        back d steps e are = subst (λ (n : ℕ). Refines o n new (run_of_machine o n steps)) e are
 
 -- some steps lead on, of which so many are made
-pub record LeadsBy (o : Outline) (n : ℕ) (old new : Together) : Type 0 where
+pub record LeadsBy (o : Outline) (n : ℕ) (old new : SystemState) : Type 0 where
   pub steps : List (ℕ × Kind)
   pub turns : List Turn
   pub lead : LeadsOn o steps turns old new
@@ -85,10 +85,10 @@ one_made : (t : Turn) → is_made t ≡ true → made_count (t ∷ []) ≡ 1
 one_made t e = let here : made_count (t ∷ []) ≡ 0 + cond (is_made t) 1 0 = refl in here ∙ ap (λ (made : Bool). 0 + cond made 1 0) e
 
 module _ (o : Outline) where
-  pub begins_by_none : (t : Together) → LeadsBy o 0 t t
+  pub begins_by_none : (t : SystemState) → LeadsBy o 0 t t
   begins_by_none t = record { steps = []; turns = []; lead = still_there o t; count = refl }
 
-  pub leads_by_one_more : (n : ℕ) (old mid new : Together) → LeadsBy o n old mid → MakesStep o mid new → LeadsBy o (n + 1) old new
+  pub leads_by_one_more : (n : ℕ) (old mid new : SystemState) → LeadsBy o n old mid → MakesStep o mid new → LeadsBy o (n + 1) old new
   leads_by_one_more n old mid new by made = record {
     steps = by.steps ++ made.step ∷ [];
     turns = by.turns ++ made.turn ∷ [];
@@ -101,7 +101,7 @@ module _ (o : Outline) where
   }
 
   -- what is made from here on is a part of what is made from the start
-  few : (n : ℕ) (old new : Together) → OutlineIsSound o → AreReached o old → LeadsBy o n old new → n ≤ (o.workers + 2) * name_count o
+  few : (n : ℕ) (old new : SystemState) → OutlineIsSound o → AreReached o old → LeadsBy o n old new → n ≤ (o.workers + 2) * name_count o
   few n old new ok reached by =
       let d = old.post.depth in
       let before = reached.0 in
@@ -114,5 +114,5 @@ module _ (o : Outline) where
       looser : (w m n : ℕ) → n ≤ (w + 1) * m → n ≤ (w + 2) * m
       looser w m n h = grind arith
 
-  pub makes_steps : (n : ℕ) (old new : Together) → OutlineIsSound o → AreReached o old → LeadsBy o n old new → MakesSteps o n old new
+  pub makes_steps : (n : ℕ) (old new : SystemState) → OutlineIsSound o → AreReached o old → LeadsBy o n old new → MakesSteps o n old new
   makes_steps n old new ok reached by = record { steps = by.steps; turns = by.turns; lead = by.lead; count = by.count; few = few n old new ok reached by }

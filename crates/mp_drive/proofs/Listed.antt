@@ -6,12 +6,12 @@ use Rattle.mp_names.specs.Outlines.{Outline}
 use Rattle.mp_machine.specs.Runs.{Turn, run_of_machine, turns_of, world_after}
 use Rattle.mp_machine.specs.Worlds.{World, start_of_machine}
 use Rattle.mp_machine.proofs.Worlds.{after_more, turns_more}
-use Rattle.mp_refinement.specs.Together.{Together}
+use Rattle.mp_refinement.specs.SystemState.{SystemState}
 use Rattle.mp_worker.specs.declared.turn.Turn.{Turn as Answered}
 use Rattle.mp_drive.specs.Driven.{AreAfter, LeadsOn, turn_in}
 
 module _ (o : Outline) where
-  leads_further : (a b c : Together) (xs ys : List (ℕ × Kind)) (us vs : List Turn) → LeadsOn o xs us a b → LeadsOn o ys vs b c → LeadsOn o (xs ++ ys) (us ++ vs) a c
+  leads_further : (a b c : SystemState) (xs ys : List (ℕ × Kind)) (us vs : List Turn) → LeadsOn o xs us a b → LeadsOn o ys vs b c → LeadsOn o (xs ++ ys) (us ++ vs) a c
   leads_further a b c xs ys us vs first then_on =
       record {
         turns_are = λ before are.
@@ -29,11 +29,11 @@ module _ (o : Outline) where
       }
 
   -- one more step of a list
-  pub one_more : (a b c : Together) (steps : List (ℕ × Kind)) (i : ℕ) (d : ℕ × Kind) (before after : List Answered) (answered : Answered) → i < length steps → after ≡ before ++ answered ∷ []
+  pub one_more : (a b c : SystemState) (steps : List (ℕ × Kind)) (i : ℕ) (d : ℕ × Kind) (before after : List Answered) (answered : Answered) → i < length steps → after ≡ before ++ answered ∷ []
       → LeadsOn o (take i steps) (map turn_in before) a b → LeadsOn o (get_or steps i d ∷ []) (turn_in answered ∷ []) b c → LeadsOn o (take (i + 1) steps) (map turn_in after) a c
   one_more a b c steps i d before after answered l grown first then_on =
       rw (take_more steps i d l, grown, map-append) (leads_further a b c (take i steps) (get_or steps i d ∷ []) (map turn_in before) (turn_in answered ∷ []) first then_on)
 
   -- all steps of it
-  pub whole : (a b : Together) (steps : List (ℕ × Kind)) (i : ℕ) (turns : List Turn) → length steps ≤ i → LeadsOn o (take i steps) turns a b → LeadsOn o steps turns a b
+  pub whole : (a b : SystemState) (steps : List (ℕ × Kind)) (i : ℕ) (turns : List Turn) → length steps ≤ i → LeadsOn o (take i steps) turns a b → LeadsOn o steps turns a b
   whole a b steps i turns l lead = subst (λ (s : List (ℕ × Kind)). LeadsOn o s turns a b) (take_all i steps l) lead

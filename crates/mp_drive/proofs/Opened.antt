@@ -10,7 +10,7 @@ use Rattle.mp_machine.specs.Worlds.{start_of_machine}
 use Rattle.mp_board.specs.Boards.{ShowsFrontiers}
 use Rattle.mp_refinement.specs.Laws.{IsNewWorker}
 use Rattle.mp_refinement.specs.State.{WorkerState}
-use Rattle.mp_refinement.specs.Together.{AreWorld, Together}
+use Rattle.mp_refinement.specs.SystemState.{Refines, SystemState}
 use Rattle.mp_refinement.proofs.Begins.{opening_is_the_start}
 use Rattle.mp_drive.specs.Driven.{AreReached}
 
@@ -40,10 +40,10 @@ one_more_new o n xs ys x new many is grown =
     subst (λ (l : List WorkerState). (w : ℕ) (s : WorkerState) → slice_get l w ≡ Some s → IsNewWorker o w s) (sym grown)
     (push_all (IsNewWorker o) xs x new (subst (λ (k : ℕ). IsNewWorker o k x) (sym many) is))
 
-module _ (o : Outline) (ok : OutlineIsSound o) (t : Together) (depth : ℕ) (all : length t.workers ≡ o.workers) (new : (w : ℕ) (s : WorkerState) → slice_get t.workers w ≡ Some s → IsNewWorker o w s)
+module _ (o : Outline) (ok : OutlineIsSound o) (t : SystemState) (depth : ℕ) (all : length t.workers ≡ o.workers) (new : (w : ℕ) (s : WorkerState) → slice_get t.workers w ≡ Some s → IsNewWorker o w s)
     (logs : t.board.logs ≡ replicate o.workers empty_log) (version : t.board.version ≡ 0) (post : t.post ≡ empty_queues o.workers depth) where
-  pub are_at_start : AreWorld o depth t (start_of_machine o)
+  pub are_at_start : Refines o depth t (start_of_machine o)
   are_at_start = opening_is_the_start o depth t ok all new logs version post
 
   pub begin_reached : AreReached o t
-  begin_reached = ([], subst (λ (d : ℕ). AreWorld o d t (start_of_machine o)) (sym (ap (λ (p : Queues Name). p.depth) post)) are_at_start)
+  begin_reached = ([], subst (λ (d : ℕ). Refines o d t (start_of_machine o)) (sym (ap (λ (p : Queues Name). p.depth) post)) are_at_start)

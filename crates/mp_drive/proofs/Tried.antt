@@ -21,7 +21,7 @@ use Rattle.mp_machine.proofs.Ends.{all_over}
 use Rattle.mp_machine.proofs.Places.{place_listed}
 use Rattle.mp_machine.proofs.Worlds.{run_right}
 use Rattle.mp_refinement.specs.State.{WorkerState}
-use Rattle.mp_refinement.specs.Together.{AreWorld, KnowsTheEnd, Together}
+use Rattle.mp_refinement.specs.SystemState.{Refines, KnowsTheEnd, SystemState}
 use Rattle.mp_drive.specs.Driven.{AllKnowTheEnd, AreAfter, AreReached, LeadsOn, turn_in}
 use Rattle.mp_worker.specs.declared.turn.Turn.{Turn as Answered}
 use Rattle.mp_worker.specs.declared.turn.Turn.TheVariants as worker
@@ -42,11 +42,11 @@ idle_turn worker.NotNow did seen = refl
 idle_turn worker.Busy did seen = refl
 
 -- whatever steps led here, the step of this place is not made now
-abbrev pub IsNotNow : Outline → Together → ℕ × Kind → Type 0
+abbrev pub IsNotNow : Outline → SystemState → ℕ × Kind → Type 0
 IsNotNow o t p = (before : List (ℕ × Kind)) → AreAfter o before t → turn_of_machine o t.post.depth (run_of_machine o t.post.depth before) p.0 p.1 ≡ NotNow
 
 -- of so many places from this one on, wrapping round, no step is made now
-abbrev pub NoneOf : Outline → Together → (start tried : ℕ) → Type 0
+abbrev pub NoneOf : Outline → SystemState → (start tried : ℕ) → Type 0
 NoneOf o t start tried = (k : ℕ) → k < tried → (p : ℕ × Kind) → slice_get (places o) ((start + k) % length (places o)) ≡ Some p → IsNotNow o t p
 
 -- all places are tried, wherever that begins
@@ -64,7 +64,7 @@ wraps_to start place n l m =
     either : (a b : ℕ) → (a ≤ b) ⊎ (b < a)
     either a b = grind arith
 
-module _ (o : Outline) (t : Together) where
+module _ (o : Outline) (t : SystemState) where
   none_of_any : (start : ℕ) → start < length (places o) → NoneOf o t start (length (places o)) → (w : ℕ) (kind : Kind) → IsPlace o w kind → IsNotNow o t (w, kind)
   none_of_any start l none w kind is =
       let c = place_listed o w kind is in
@@ -84,7 +84,7 @@ module _ (o : Outline) (t : Together) where
   is_location OutRoute h = h
   is_location OutMail h = h
 
-  knows : (depth : ℕ) (world : World) (w : ℕ) (s : WorkerState) → AreWorld o depth t world → slice_get t.workers w ≡ Some s → WorkerIsFinished o world w → KnowsTheEnd o s
+  knows : (depth : ℕ) (world : World) (w : ℕ) (s : WorkerState) → Refines o depth t world → slice_get t.workers w ≡ Some s → WorkerIsFinished o world w → KnowsTheEnd o s
   knows depth world w s are is finished =
       let it = are.workers w s is in
       record {
@@ -106,7 +106,7 @@ module _ (o : Outline) (t : Together) where
       knows depth world k (slice_index_or t.workers k d) reached.1 (slice_get-get_or t.workers k d m) (over.1 k (omega arith))
 
   -- one place more was tried, in a state to which nothing has led on
-  pub none_more : (start tried : ℕ) (p : ℕ × Kind) (mid new : Together) → NoneOf o t start tried → LeadsOn o [] [] t mid → slice_get (places o) ((start + tried) % length (places o)) ≡ Some p → LeadsOn o (p ∷ []) (NotNow ∷ []) mid new → NoneOf o t start (tried + 1)
+  pub none_more : (start tried : ℕ) (p : ℕ × Kind) (mid new : SystemState) → NoneOf o t start tried → LeadsOn o [] [] t mid → slice_get (places o) ((start + tried) % length (places o)) ≡ Some p → LeadsOn o (p ∷ []) (NotNow ∷ []) mid new → NoneOf o t start (tried + 1)
   none_more start tried p mid new none still is lead =
       below_more
       (λ (k : ℕ). (q : ℕ × Kind) → slice_get (places o) ((start + k) % length (places o)) ≡ Some q → IsNotNow o t q)

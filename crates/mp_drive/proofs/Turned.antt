@@ -15,11 +15,11 @@ use Rattle.mp_machine.specs.Worlds.{World, start_of_machine}
 use Rattle.mp_machine.specs.Runs.{Did, NotNow, Saw, Turn, after_turn, run_of_machine, step_of_machine, turn_of_machine}
 use Rattle.mp_machine.proofs.Worlds.{after_more, run_right}
 use Rattle.mp_board.specs.Boards.{Posted, ShowsFrontiers, exchanged, version_with}
-use Rattle.mp_refinement.specs.Ends.{AtEnds, FollowsLog}
+use Rattle.mp_refinement.specs.Ends.{PostMatchesLog, FollowsLog}
 use Rattle.mp_refinement.specs.Laws.{MailFollows, StepsMayBeAsked}
-use Rattle.mp_refinement.specs.Mail.{MailHinders, MailLets}
+use Rattle.mp_refinement.specs.Mail.{MailboxBlocks, MailboxAllows}
 use Rattle.mp_refinement.specs.State.{CanMake, Makes, WorkerState}
-use Rattle.mp_refinement.specs.Together.{AreWorld, Together, queues_stand}
+use Rattle.mp_refinement.specs.SystemState.{Refines, SystemState, queues_denote}
 use Rattle.mp_refinement.proofs.Asked.{may_be_asked}
 use Rattle.mp_refinement.proofs.Exchanges as exchanges
 use Rattle.mp_refinement.proofs.Steps as steps
@@ -32,10 +32,10 @@ use Rattle.mp_drive.specs.Driven.{AreAfter, AreReached, LeadsOn, turn_in}
 
 -- What a worker may be asked for where a run leads to the workers' state
 
-pub placed : (o : Outline) (t : Together) → AreReached o t → (w : ℕ) (s : WorkerState) → w < o.workers → s ≡ get_or t.workers w s → slice_get t.workers w ≡ Some s
+pub placed : (o : Outline) (t : SystemState) → AreReached o t → (w : ℕ) (s : WorkerState) → w < o.workers → s ≡ get_or t.workers w s → slice_get t.workers w ≡ Some s
 placed o t reached w s l e = let all = reached.1.all_workers in slice_get_read t.workers (length t.workers) w s refl (omega arith) e
 
-module _ (o : Outline) (ok : OutlineIsSound o) (t : Together) (reached : AreReached o t) (w : ℕ) (s : WorkerState) (was : slice_get t.workers w ≡ Some s) where
+module _ (o : Outline) (ok : OutlineIsSound o) (t : SystemState) (reached : AreReached o t) (w : ℕ) (s : WorkerState) (was : slice_get t.workers w ≡ Some s) where
   asked : StepsMayBeAsked o t
   asked = let depth = t.post.depth in may_be_asked o depth t (run_of_machine o depth reached.0) (run_right o ok depth reached.0) reached.1
 
@@ -45,8 +45,8 @@ module _ (o : Outline) (ok : OutlineIsSound o) (t : Together) (reached : AreReac
   pub number_fits : s.number < o.workers
   number_fits = let fits = asked.fits w s was in omega arith
 
-  pub ends_are : AtEnds (queues_stand o t.post) o s.number s.log
-  ends_are = subst (λ (n : ℕ). AtEnds (queues_stand o t.post) o n s.log) (sym number_is) (asked.ends w s was)
+  pub ends_are : PostMatchesLog (queues_denote o t.post) o s.number s.log
+  ends_are = subst (λ (n : ℕ). PostMatchesLog (queues_denote o t.post) o n s.log) (sym number_is) (asked.ends w s was)
 
   pub posted_is : LogGrows (log_at t.board.logs s.number) s.log
   posted_is = subst (λ (n : ℕ). LogGrows (log_at t.board.logs n) s.log) (sym number_is) (asked.posted w s was)
@@ -54,14 +54,14 @@ module _ (o : Outline) (ok : OutlineIsSound o) (t : Together) (reached : AreReac
 -- What a worker with this number says of its step, on a board and on plain queues
 pub record Says (o : Outline) (kind : Kind) (board after : Posted) (post left : Queues Name) (s new : WorkerState) (r : Result Answered Stop) (w : ℕ) : Type 0 where
   pub did : IfDid r (λ x. Makes o kind s x new)
-  pub mail : IfDid r (MailLets (HadRoom post) o w kind)
+  pub mail : IfDid r (MailboxAllows (HadRoom post) o w kind)
   pub saw : IfSaw r (λ version. (kind ≡ Exchange) × (new ≡ record s { seen = new.seen }) × (new.seen.version ≡ version) × (version ≡ s.seen.version → ⊥))
   pub shown : IfSaw r (λ _. (after ≡ exchanged board w s.log) × ((new.seen.version ≡ after.version) × ShowsFrontiers o after.logs new.seen))
-  pub not_now : IfNotNow r ((x : Name) → CanMake o kind s x → MailHinders (WasFull post) (WasEmpty post) o w kind x)
+  pub not_now : IfNotNow r ((x : Name) → CanMake o kind s x → MailboxBlocks (WasFull post) (WasEmpty post) o w kind x)
   pub same : IfNotNow r (kind ≡ Exchange → (after ≡ exchanged board w s.log) × ((seen : Seen) × ((seen.version ≡ after.version) × ShowsFrontiers o after.logs seen) × (seen.version ≡ s.seen.version)))
   pub busy : IfBusy r ((kind ≡ Exchange) × ⊥)
   pub unchanged : IfNotMade r (new ≡ s)
-  pub follows : FollowsLog (queues_stand o post) (queues_stand o left) o w s.log new.log
+  pub follows : FollowsLog (queues_denote o post) (queues_denote o left) o w s.log new.log
   pub workers : left.workers ≡ post.workers
   pub depth : left.depth ≡ post.depth
   pub others : (kind ≡ Exchange → ⊥) → after ≡ board
@@ -81,32 +81,32 @@ names_none : (o : Outline) (kind : Kind) (s : WorkerState) (x : Name) → CanMak
 names_none o kind s x can e = (subst (λ (k : Kind). CanMake o k s x) e can).next
 
 -- the workers with another one at a number, another board and other mailboxes
-abbrev pub left_with : Together → ℕ → WorkerState → Posted → Queues Name → Together
+abbrev pub left_with : SystemState → ℕ → WorkerState → Posted → Queues Name → SystemState
 left_with t w s board post = record { workers = slice_set t.workers w s; board = board; post = post }
 
-module _ (o : Outline) (t : Together) where
+module _ (o : Outline) (t : SystemState) where
   -- no step
-  stays : (new : Together) → new.post.depth ≡ t.post.depth → ((before : List (ℕ × Kind)) → AreAfter o before t → AreWorld o t.post.depth new (run_of_machine o t.post.depth before)) → LeadsOn o [] [] t new
+  stays : (new : SystemState) → new.post.depth ≡ t.post.depth → ((before : List (ℕ × Kind)) → AreAfter o before t → Refines o t.post.depth new (run_of_machine o t.post.depth before)) → LeadsOn o [] [] t new
   stays new deep h =
       record {
         turns_are = λ before are. refl;
         state_is = λ before are.
             subst (λ (steps : List (ℕ × Kind)). AreAfter o steps new) (sym (append-nil before))
-            (subst (λ (d : ℕ). AreWorld o d new (run_of_machine o d before)) (sym deep) (h before are));
+            (subst (λ (d : ℕ). Refines o d new (run_of_machine o d before)) (sym deep) (h before are));
         depth = deep;
       }
 
   -- one step
-  goes_on : (w : ℕ) (kind : Kind) (turn : Turn) (new : Together) → new.post.depth ≡ t.post.depth
+  goes_on : (w : ℕ) (kind : Kind) (turn : Turn) (new : SystemState) → new.post.depth ≡ t.post.depth
       → ((before : List (ℕ × Kind)) → AreAfter o before t → let world = run_of_machine o t.post.depth before in
-      (turn_of_machine o t.post.depth world w kind ≡ turn) × AreWorld o t.post.depth new (step_of_machine o t.post.depth world w kind))
+      (turn_of_machine o t.post.depth world w kind ≡ turn) × Refines o t.post.depth new (step_of_machine o t.post.depth world w kind))
       → LeadsOn o ((w, kind) ∷ []) (turn ∷ []) t new
   goes_on w kind turn new deep h =
       record {
         turns_are = λ before are. ap (λ (u : Turn). u ∷ []) (sym (h before are).0);
         state_is = λ before are.
-            subst (λ (d : ℕ). AreWorld o d new (run_of_machine o d (before ++ (w, kind) ∷ []))) (sym deep)
-            (subst (AreWorld o t.post.depth new) (sym (after_more o t.post.depth before ((w, kind) ∷ []) (start_of_machine o))) (h before are).1);
+            subst (λ (d : ℕ). Refines o d new (run_of_machine o d (before ++ (w, kind) ∷ []))) (sym deep)
+            (subst (Refines o t.post.depth new) (sym (after_more o t.post.depth before ((w, kind) ∷ []) (start_of_machine o))) (h before are).1);
         depth = deep;
       }
 
@@ -115,11 +115,11 @@ still : (o : Outline) (depth : ℕ) (world : World) (w : ℕ) (kind : Kind) → 
 unfolding step_of_machine
 still o depth world w kind e = sym (ap (after_turn o world w kind) e)
 
-module _ (o : Outline) (ok : OutlineIsSound o) (t : Together) (w : ℕ) (kind : Kind) (s new : WorkerState) (after : Posted) (left : Queues Name) (was : slice_get t.workers w ≡ Some s) where
+module _ (o : Outline) (ok : OutlineIsSound o) (t : SystemState) (w : ℕ) (kind : Kind) (s new : WorkerState) (after : Posted) (left : Queues Name) (was : slice_get t.workers w ≡ Some s) where
   abbrev Told : Result Answered Stop → ℕ → Type 0
   Told r n = Says o kind t.board after t.post left s new r n
 
-  abbrev next : Together
+  abbrev next : SystemState
   next = left_with t w new after left
 
   -- the mailboxes, where nothing was put into the log
@@ -128,25 +128,25 @@ module _ (o : Outline) (ok : OutlineIsSound o) (t : Together) (w : ℕ) (kind : 
       record {
         workers = says.workers;
         depth = says.depth;
-        follows = subst (λ (log : Log). FollowsLog (queues_stand o t.post) (queues_stand o left) o w s.log log) e says.follows;
+        follows = subst (λ (log : Log). FollowsLog (queues_denote o t.post) (queues_denote o left) o w s.log log) e says.follows;
       }
 
   -- nothing changed but what the mailboxes hold
-  unmoved : (r : Result Answered Stop) → Told r w → new ≡ s → after ≡ t.board → (depth : ℕ) (before : List (ℕ × Kind)) → AreWorld o depth t (run_of_machine o depth before) → AreWorld o depth next (run_of_machine o depth before)
+  unmoved : (r : Result Answered Stop) → Told r w → new ≡ s → after ≡ t.board → (depth : ℕ) (before : List (ℕ × Kind)) → Refines o depth t (run_of_machine o depth before) → Refines o depth next (run_of_machine o depth before)
   unmoved r says same board depth before are =
       let world = run_of_machine o depth before in
       let h = steps.same_world o ok depth t world (run_right o ok depth before) are w s was left (same_mail r says (ap (λ (x : WorkerState). x.log) same)) in
-      subst (λ (x : WorkerState). AreWorld o depth (left_with t w x after left) world) (sym same) (subst (λ (b : Posted). AreWorld o depth (left_with t w s b left) world) (sym board) h)
+      subst (λ (x : WorkerState). Refines o depth (left_with t w x after left) world) (sym same) (subst (λ (b : Posted). Refines o depth (left_with t w s b left) world) (sym board) h)
 
-  module _ (depth : ℕ) (before : List (ℕ × Kind)) (are : AreWorld o depth t (run_of_machine o depth before)) where
+  module _ (depth : ℕ) (before : List (ℕ × Kind)) (are : Refines o depth t (run_of_machine o depth before)) where
     abbrev IsTurn : Turn → Type 0
-    IsTurn turn = (turn_of_machine o depth (run_of_machine o depth before) w kind ≡ turn) × AreWorld o depth next (step_of_machine o depth (run_of_machine o depth before) w kind)
+    IsTurn turn = (turn_of_machine o depth (run_of_machine o depth before) w kind ≡ turn) × Refines o depth next (step_of_machine o depth (run_of_machine o depth before) w kind)
 
     did_turn : (x : Name) → Told (Ok (worker.Did x)) w → IsTurn (Did x)
     did_turn x says =
         let h = steps.did o ok depth t (run_of_machine o depth before) (run_right o ok depth before) are w s was kind x new left says.did says.mail (record { workers = says.workers; depth = says.depth; follows = says.follows }) in
         let board = says.others (names_none o kind s x says.did.can) in
-        (h.0, subst (λ (b : Posted). AreWorld o depth (left_with t w new b left) (step_of_machine o depth (run_of_machine o depth before) w kind)) (sym board) h.1)
+        (h.0, subst (λ (b : Posted). Refines o depth (left_with t w new b left) (step_of_machine o depth (run_of_machine o depth before) w kind)) (sym board) h.1)
 
     saw_turn : (version : ℕ) → Told (Ok (worker.Seen version)) w → IsTurn (Saw version)
     saw_turn version says =
@@ -157,15 +157,15 @@ module _ (o : Outline) (ok : OutlineIsSound o) (t : Together) (w : ℕ) (kind : 
         let level : seen.version ≡ version_with t.board w s.log = says.shown.1.0 ∙ ap (λ (b : Posted). b.version) board in
         let mail = same_mail (Ok (worker.Seen version)) says (ap (λ (x : WorkerState). x.log) what.1) in
         let h = exchanges.saw o ok depth t (run_of_machine o depth before) (run_right o ok depth before) are w s was seen level shows left (λ e. what.3 (sym what.2 ∙ e)) mail in
-        let there = subst (λ (x : WorkerState). AreWorld o depth (left_with t w x (exchanged t.board w s.log) left) (step_of_machine o depth (run_of_machine o depth before) w Exchange)) (sym what.1) h.1 in
-        let here = subst (λ (b : Posted). AreWorld o depth (left_with t w new b left) (step_of_machine o depth (run_of_machine o depth before) w Exchange)) (sym board) there in
-        subst (λ (k : Kind). (turn_of_machine o depth (run_of_machine o depth before) w k ≡ Saw version) × AreWorld o depth next (step_of_machine o depth (run_of_machine o depth before) w k)) (sym what.0) (h.0 ∙ ap Saw what.2, here)
+        let there = subst (λ (x : WorkerState). Refines o depth (left_with t w x (exchanged t.board w s.log) left) (step_of_machine o depth (run_of_machine o depth before) w Exchange)) (sym what.1) h.1 in
+        let here = subst (λ (b : Posted). Refines o depth (left_with t w new b left) (step_of_machine o depth (run_of_machine o depth before) w Exchange)) (sym board) there in
+        subst (λ (k : Kind). (turn_of_machine o depth (run_of_machine o depth before) w k ≡ Saw version) × Refines o depth next (step_of_machine o depth (run_of_machine o depth before) w k)) (sym what.0) (h.0 ∙ ap Saw what.2, here)
 
     -- the machine's turn is NotNow
     idle : Told (Ok worker.NotNow) w → (turn_of_machine o depth (run_of_machine o depth before) w kind ≡ NotNow) × (after ≡ t.board) → IsTurn NotNow
     idle says h =
         let there = unmoved (Ok worker.NotNow) says says.unchanged h.1 depth before are in
-        (h.0, subst (AreWorld o depth next) (still o depth (run_of_machine o depth before) w kind h.0) there)
+        (h.0, subst (Refines o depth next) (still o depth (run_of_machine o depth before) w kind h.0) there)
 
     not_now_turn : Told (Ok worker.NotNow) w → IsTurn NotNow
     not_now_turn says =
@@ -187,7 +187,7 @@ module _ (o : Outline) (ok : OutlineIsSound o) (t : Together) (w : ℕ) (kind : 
     turn worker.Busy says = absurd says.busy.1
 
   -- its number is that of its place
-  of_place : (r : Result Answered Stop) → Told r s.number → (depth : ℕ) (world : World) → AreWorld o depth t world → Told r w
+  of_place : (r : Result Answered Stop) → Told r s.number → (depth : ℕ) (world : World) → Refines o depth t world → Told r w
   of_place r says depth world are = subst (Told r) (are.workers w s was).number says
 
   leads_on : (turn : Answered) → Told (Ok turn) s.number → LeadsOn o ((w, kind) ∷ []) (turn_in turn ∷ []) t next

@@ -22,7 +22,7 @@ use Rattle.mp_machine.specs.Steps.{logged}
 use Rattle.mp_machine.proofs.Worlds.{run_right, step_right}
 use Rattle.mp_board.specs.Boards.{Posted}
 use Rattle.mp_refinement.specs.State.{CanMake, Makes, WorkerState, as_machine, with_step}
-use Rattle.mp_refinement.specs.Together.{AreWorld, Together, with_worker}
+use Rattle.mp_refinement.specs.SystemState.{Refines, SystemState, with_worker}
 use Rattle.mp_refinement.proofs.Asked.{may_be_asked}
 use Rattle.mp_refinement.proofs.Steps as steps
 use Rattle.mp_answer_laws.specs.Lines.{lines_of_time, written_lines}
@@ -66,7 +66,7 @@ some_first (s ∷ xs) l = (s, refl)
 
 -- The log of worker 0 is legal
 
-module _ (o : Outline) (ok : OutlineIsSound o) (t : Together) (depth : ℕ) (before : List (ℕ × Kind)) (are : AreWorld o depth t (run_of_machine o depth before)) where
+module _ (o : Outline) (ok : OutlineIsSound o) (t : SystemState) (depth : ℕ) (before : List (ℕ × Kind)) (are : Refines o depth t (run_of_machine o depth before)) where
   pub first_legal : LogIsLegal o 0 (first_log t)
   first_legal =
       let l = ok.some_worker in
@@ -99,17 +99,17 @@ module _ {Cell : Type 0} (q : QueryFacts Cell) (job : JobFacts) where
   adds log x h = absurd h
 
   -- where a worker's log has the same lines, so has that of worker 0
-  same_lines : (t : Together) (w : ℕ) (s new : WorkerState) (after : Posted) (left : Queues Name) → slice_get t.workers w ≡ Some s → written_lines q job.events new.log ≡ written_lines q job.events s.log
+  same_lines : (t : SystemState) (w : ℕ) (s new : WorkerState) (after : Posted) (left : Queues Name) → slice_get t.workers w ≡ Some s → written_lines q job.events new.log ≡ written_lines q job.events s.log
       → written_lines q job.events (first_log (left_with t w new after left)) ≡ written_lines q job.events (first_log t)
   same_lines t zero s new after left was e =
       ap (λ (r : Option WorkerState). written_lines q job.events (log_of r)) (slice_get-set_same t.workers 0 new s was) ∙ e ∙ ap (λ (r : Option WorkerState). written_lines q job.events (log_of r)) (sym was)
   same_lines t (suc w) s new after left was e = ap (λ (r : Option WorkerState). written_lines q job.events (log_of r)) (first_stays t.workers w new)
 
-  module _ (ok : OutlineIsSound (outline_of q job)) (t : Together) (w : ℕ) (kind : Kind) (s new : WorkerState) (after : Posted) (left : Queues Name) (was : slice_get t.workers w ≡ Some s) (number : s.number ≡ w) (written now before : Option (List ℕ)) (has : HasWritten q job.events before t written) where
+  module _ (ok : OutlineIsSound (outline_of q job)) (t : SystemState) (w : ℕ) (kind : Kind) (s new : WorkerState) (after : Posted) (left : Queues Name) (was : slice_get t.workers w ≡ Some s) (number : s.number ≡ w) (written now before : Option (List ℕ)) (has : HasWritten q job.events before t written) where
     abbrev o : Outline
     o = outline_of q job
 
-    abbrev next : Together
+    abbrev next : SystemState
     next = left_with t w new after left
 
     abbrev lines : Log → List ℕ
@@ -150,7 +150,7 @@ module _ {Cell : Type 0} (q : QueryFacts Cell) (job : JobFacts) where
       written_on_ok (Ok turn) given is told says = subst (λ (g : Result Answered DriveStop). OnOk g (HasWritten q job.events before next now)) (sym is) (written_on turn told says)
       written_on_ok (Err stop) given is told says = subst (λ (g : Result Answered DriveStop). OnOk g (HasWritten q job.events before next now)) (sym is.1) tt
 
-    module _ (depth : ℕ) (made : List (ℕ × Kind)) (are : AreWorld o depth t (run_of_machine o depth made)) where
+    module _ (depth : ℕ) (made : List (ℕ × Kind)) (are : Refines o depth t (run_of_machine o depth made)) where
       begun_on : (stop : Stop) → Writes kind s written now (Err stop) → HasBegun q job.events before now
       begun_on stop says =
           ⊎_elim

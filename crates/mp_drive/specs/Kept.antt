@@ -7,15 +7,15 @@ use Rattle.mp_outline.specs.JobOutline.{outline_of}
 use Rattle.mp_mailbox.specs.Queues.{Queues}
 use Rattle.mp_board.specs.Boards.{Posted}
 use Rattle.mp_refinement.specs.State.{WorkerState}
-use Rattle.mp_refinement.specs.Together.{Together}
+use Rattle.mp_refinement.specs.SystemState.{SystemState}
 use Rattle.mp_drive.specs.Driven.{AreReached}
 
 -- the workers, their board and their mailboxes
-abbrev pub together : List WorkerState → Posted → Queues Name → Together
+abbrev pub together : List WorkerState → Posted → Queues Name → SystemState
 together workers board post = record { workers = workers; board = board; post = post }
 
 -- They are of the job that they were made for, which is legal; a run of the machine leads to where they are; and none has stopped
-pub record IsKept {Cell : Type 0} (q : QueryFacts Cell) (job its : JobFacts) (t : Together) : Type 0 where
+pub record IsKept {Cell : Type 0} (q : QueryFacts Cell) (job its : JobFacts) (t : SystemState) : Type 0 where
   pub same : its ≡ job
   pub legal : JobIsLegal q job
   pub reached : AreReached (outline_of q job) t

@@ -1,6 +1,6 @@
 //! The places of a job: its pairs of a worker and a kind of step, in their order.
 ghost use Rattle.std.specs.Prelude.{◌≡◌, ◌<◌, ◌≤◌, ◌+◌, ◌^◌, Some, length, slice_get};
-ghost use Rattle.mp_job.specs.declared.limits.TheConstants.{MAX_WORKERS};
+ghost use Rattle.mp_names.specs.Limits.{most_workers};
 ghost use Rattle.mp_names.specs.Outlines.{Outline};
 ghost use Rattle.mp_machine.specs.Places.{kinds_of, places};
 
@@ -8,7 +8,7 @@ use mp_names::{Kind, Shape};
 
 /// How many places there are: for each worker `4 * stages + workers + 5`. There are at most `MAX_WORKERS` workers.
 pub fn count_of_places(shape: Shape) -> u64
-    requires { shape.workers ≤ MAX_WORKERS }
+    requires { shape.workers ≤ most_workers }
     ensures few { result < 2 ^ 39 }
     ensures count { (o : Outline) → o.workers ≡ shape.workers → o.stages ≡ shape.stages → result ≡ length (places o) }
 {

@@ -9,7 +9,7 @@ ghost use Rattle.mp_output.specs.Rows.{GivesRows};
 ghost use Rattle.mp_board.specs.Boards.{ShowsFrontiers};
 ghost use Rattle.mp_refinement.specs.Laws.{IsNewWorker};
 ghost use Rattle.mp_refinement.specs.State.{WorkerState};
-ghost use Rattle.mp_refinement.specs.Together.{AreWorld};
+ghost use Rattle.mp_refinement.specs.SystemState.{Refines};
 ghost use Rattle.mp_answer_laws.specs.Lines.{written_lines};
 ghost use Rattle.mp_drive.specs.declared.stop.DriveStop.TheVariants.{Write};
 ghost use Rattle.mp_drive.specs.Driven.{AllKnowTheEnd, HasBegun, HasWritten, LeadsOn, first_log, turn_in};
@@ -27,7 +27,7 @@ use mp_worker::{Stop, Turn, Worker};
 use std::alloc::{AllocError, Global};
 use std::marker::Model;
 
-/// The workers of the job J, their board and the mailboxes between them, for one thread. Contracts see a `Together`.
+/// The workers of the job J, their board and the mailboxes between them, for one thread. Contracts see a `SystemState`.
 #[derive(Drop)]
 pub struct Plain<'a, Q: Query, J: Naming> {
     pub(crate) job: &'a Job<Q>,
@@ -38,10 +38,10 @@ pub struct Plain<'a, Q: Query, J: Naming> {
 }
 
 impl<'a, Q: Query, J: Naming> Model for Plain<'a, Q, J> {
-    ghost use Rattle.mp_refinement.specs.Together.{Together};
+    ghost use Rattle.mp_refinement.specs.SystemState.{SystemState};
     ghost use Rattle.mp_drive.specs.Kept.{IsKept, together};
 
-    ghost Value = { Together };
+    ghost Value = { SystemState };
 
     ghost view = { λ p. together p.workers.items p.board p.post };
 
@@ -56,7 +56,7 @@ impl<'a, Q: Query, J: Naming> Plain<'a, Q, J> {
         requires job { job.now ≡ J.job }
         requires rows { GivesRows (Q.facts J.job.rules) }
         ensures start { let o = outline_of (Q.facts J.job.rules) J.job in
-            IfOk result (λ p. AreWorld o depth p (start_of_machine o)) }
+            IfOk result (λ p. Refines o depth p (start_of_machine o)) }
         ensures depth { IfOk result (λ p. p.post.depth ≡ depth) }
         ensures nothing_written { IfOk result (λ p. written_lines (Q.facts J.job.rules) J.job.events (first_log p) ≡ []) }
     {
@@ -83,7 +83,7 @@ impl<'a, Q: Query, J: Naming> Plain<'a, Q, J> {
         requires worker { worker < J.job.shape.workers }
         ensures turn { let o = outline_of (Q.facts J.job.rules) J.job in
             IfOk result (λ turn. LeadsOn o ((worker, kind) ∷ []) (turn_in turn ∷ []) self.old self.new) }
-        ensures refused { let o = outline_of (Q.facts J.job.rules) J.job in OnErr result (LeadsOn o [] [] self.old self.new) }
+        ensures unchanged { let o = outline_of (Q.facts J.job.rules) J.job in OnErr result (LeadsOn o [] [] self.old self.new) }
 
         ensures written { let q = Q.facts J.job.rules in
             (before : Option (List ℕ)) → HasWritten q J.job.events before self.old (S.written sink.old)
@@ -92,7 +92,7 @@ impl<'a, Q: Query, J: Naming> Plain<'a, Q, J> {
             (before : Option (List ℕ)) → HasWritten q J.job.events before self.old (S.written sink.old)
             → OnErr result (HasBegun q J.job.events before (S.written sink.new)) }
         ensures failed { result ≡ Err Write → Rose (S.faults sink.old) (S.faults sink.new) }
-        ensures beside { S.beside sink.new ≡ S.beside sink.old }
+        ensures frame { S.frame sink.new ≡ S.frame sink.old }
         ensures writes { S.faults sink.old ≤ S.faults sink.new }
     {
         let worker = &mut self.workers[worker as usize];

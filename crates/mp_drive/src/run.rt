@@ -32,7 +32,7 @@ pub fn replay<Q: Query, J: Naming, S: Sink, G: Gate>(
     ensures answer { OnOk result (S.written sink.new ≡ grown (S.written sink.old) (one_thread_answer (Q.facts J.job.rules) J.job.events)) }
     ensures part { OnErr result (HasBegun (Q.facts J.job.rules) J.job.events (S.written sink.old) (S.written sink.new)) }
     ensures failed { result ≡ Err Write → Rose (S.faults sink.old) (S.faults sink.new) }
-    ensures beside { S.beside sink.new ≡ S.beside sink.old }
+    ensures frame { S.frame sink.new ≡ S.frame sink.old }
     ensures writes { S.faults sink.old ≤ S.faults sink.new }
 {
     let mut plain = Plain::<Q, J>::open(alloc, job, depth)?;

@@ -42,7 +42,7 @@ impl<'a, Q: Query, J: Naming> Plain<'a, Q, J> {
             (before : Option (List ℕ)) → HasWritten q J.job.events before self.old (S.written sink.old)
             → OnErr result (HasBegun q J.job.events before (S.written sink.new)) }
         ensures failed { result ≡ Err Write → Rose (S.faults sink.old) (S.faults sink.new) }
-        ensures beside { S.beside sink.new ≡ S.beside sink.old }
+        ensures frame { S.frame sink.new ≡ S.frame sink.old }
         ensures writes { S.faults sink.old ≤ S.faults sink.new }
     {
         let places = count_of_places(self.job.shape());
@@ -78,7 +78,7 @@ impl<'a, Q: Query, J: Naming> Plain<'a, Q, J> {
             (before : Option (List ℕ)) → HasWritten q J.job.events before self.old (S.written sink.old)
             → OnErr result (HasBegun q J.job.events before (S.written sink.new)) }
         ensures failed { result ≡ Err Write → Rose (S.faults sink.old) (S.faults sink.new) }
-        ensures beside { S.beside sink.new ≡ S.beside sink.old }
+        ensures frame { S.frame sink.new ≡ S.frame sink.old }
         ensures writes { S.faults sink.old ≤ S.faults sink.new }
     {
         let shape = self.job.shape();

@@ -18,7 +18,7 @@ use Rattle.mp_events.specs.Kinds.{checks_of, kind_of}
 use Rattle.mp_model.specs.Legal.{EventIsLegal, IsName}
 use Rattle.mp_events.specs.Lines.{event_by, event_of, failures_of, failures_of_kind, field_at, is_ordered, number_at}
 use Rattle.mp_events.specs.Reasons.{check}
-use Rattle.mp_model.specs.declared.limits.TheConstants.{MAX_EVENTS, MAX_ID, MAX_NAME, MAX_PRICE, MAX_TIME}
+use Rattle.mp_names.specs.Limits.{greatest_id, greatest_price, greatest_time, longest_name, most_events}
 use Rattle.mp_model.specs.declared.record.Event.{Event}
 use Rattle.mp_text.specs.Fields.{fields_of}
 use Rattle.mp_text.specs.Lines.{numbered_lines_of}
@@ -66,9 +66,9 @@ number_within kind fields k max h low is = leb-true _ _ (passes _ _ (empty_parts
 
 -- and its name is a name
 name_within : (kind : LineKind) (fields : List (List ℕ)) (k : ℕ) → IsPassed kind fields → k < length (checks_of kind)
-    → get_or (checks_of kind) k (NameUpTo MAX_NAME) ≡ NameUpTo MAX_NAME → IsName (field_at fields (1 + k))
+    → get_or (checks_of kind) k (NameUpTo longest_name) ≡ NameUpTo longest_name → IsName (field_at fields (1 + k))
 name_within kind fields k h low is =
-    let both = and_parts _ _ (passes _ _ (passed_at kind fields k (NameUpTo MAX_NAME) h low is)) in
+    let both = and_parts _ _ (passes _ _ (passed_at kind fields k (NameUpTo longest_name) h low is)) in
     (ltb-true _ _ both.0, leb-true _ _ both.1)
 
 -- the event of such a line is legal
@@ -76,18 +76,18 @@ legal_by : (kind : LineKind) (fields : List (List ℕ)) → IsPassed kind fields
 legal_by Person fields h =
     let number = number_within Person fields in
     let name = name_within Person fields in record {
-      in_time = number 0 MAX_TIME h (lit< tt) refl;
-      legal = (number 1 MAX_ID h (lit< tt) refl, name 2 h (lit< tt) refl, name 3 h (lit< tt) refl, name 4 h (lit< tt) refl);
+      in_time = number 0 greatest_time h (lit< tt) refl;
+      legal = (number 1 greatest_id h (lit< tt) refl, name 2 h (lit< tt) refl, name 3 h (lit< tt) refl, name 4 h (lit< tt) refl);
     }
 legal_by Auction fields h =
     let number = number_within Auction fields in record {
-      in_time = number 0 MAX_TIME h (lit< tt) refl;
-      legal = (number 1 MAX_ID h (lit< tt) refl, number 2 MAX_ID h (lit< tt) refl, number 3 MAX_ID h (lit< tt) refl, number 4 MAX_PRICE h (lit< tt) refl, ltb-true _ _ h.ordered, number 5 MAX_TIME h (lit< tt) refl);
+      in_time = number 0 greatest_time h (lit< tt) refl;
+      legal = (number 1 greatest_id h (lit< tt) refl, number 2 greatest_id h (lit< tt) refl, number 3 greatest_id h (lit< tt) refl, number 4 greatest_price h (lit< tt) refl, ltb-true _ _ h.ordered, number 5 greatest_time h (lit< tt) refl);
     }
 legal_by Bid fields h =
     let number = number_within Bid fields in record {
-      in_time = number 0 MAX_TIME h (lit< tt) refl;
-      legal = (number 1 MAX_ID h (lit< tt) refl, number 2 MAX_ID h (lit< tt) refl, number 3 MAX_PRICE h (lit< tt) refl);
+      in_time = number 0 greatest_time h (lit< tt) refl;
+      legal = (number 1 greatest_id h (lit< tt) refl, number 2 greatest_id h (lit< tt) refl, number 3 greatest_price h (lit< tt) refl);
     }
 
 -- a line that fails no check says a legal event
@@ -116,12 +116,12 @@ length-cons_option : {X : Type 0} (o : Option X) (xs : List X) → length (cons_
 length-cons_option None xs = omega arith
 length-cons_option (Some x) xs = omega arith
 
-few_on : (before : ℕ) (lines : List (ℕ × List ℕ)) → failures_from before lines ≡ [] → before ≤ MAX_EVENTS → before + length (events_on lines) ≤ MAX_EVENTS
+few_on : (before : ℕ) (lines : List (ℕ × List ℕ)) → failures_from before lines ≡ [] → before ≤ most_events → before + length (events_on lines) ≤ most_events
 few_on before [] e low = omega (arith, low)
 few_on before (line ∷ more) e low =
     let parts = empty_parts (map (λ why. (line.0, why)) (failures_of before (fields_of line.1))) (failures_from (before + 1) more) e in
-    let counted = (empty_parts (check (nat_lt before MAX_EVENTS) Count) _ (empty_map _ _ parts.0)).0 in
-    let under : before < MAX_EVENTS = ltb-true _ _ (passes _ _ counted) in
+    let counted = (empty_parts (check (nat_lt before most_events) Count) _ (empty_map _ _ parts.0)).0 in
+    let under : before < most_events = ltb-true _ _ (passes _ _ counted) in
     let later = few_on (before + 1) more parts.1 (omega (arith, under)) in
     omega (arith, later, length-cons_option (event_of line.1) (events_on more))
 
@@ -131,7 +131,7 @@ from_ok [] events given e = (refl, cc)
 from_ok (fail ∷ more) events given e = absurd (cc)
 
 -- the events of a file are legal, and not more than there may be
-pub legal_events : (text : List ℕ) (events : List Event) → events_of text ≡ Ok events → All EventIsLegal events × (length events ≤ MAX_EVENTS)
+pub legal_events : (text : List ℕ) (events : List Event) → events_of text ≡ Ok events → All EventIsLegal events × (length events ≤ most_events)
 legal_events text events e =
     let lines : List (ℕ × List ℕ) = filled (numbered_lines_of text) in
     let parts = from_ok (failures_from 0 lines) (events_on lines) events e in

@@ -13,7 +13,7 @@ use Rattle.mp_events.specs.Checks.{number_by, numbers_of}
 use Rattle.mp_events.specs.Kinds.{checks_of}
 use Rattle.mp_events.specs.Lines.{event_by, event_of, is_ordered, number_at}
 use Rattle.mp_events.specs.Read.{IsRead, is_in_order}
-use Rattle.mp_model.specs.declared.limits.TheConstants.{MAX_TIME}
+use Rattle.mp_names.specs.Limits.{greatest_time}
 use Rattle.mp_text.specs.Fields.{fields_of}
 
 -- one of the numbers, by its check
@@ -43,7 +43,7 @@ is_in_order-read fields line h = by_kind line.kind line.numbers h
     by_kind Person numbers h = refl
     by_kind Auction numbers h =
         let read : ReadLine = record { kind = Auction; numbers = numbers } in
-        rw (number_read fields read 0 MAX_TIME h (lit< tt) refl, number_read fields read 5 MAX_TIME h (lit< tt) refl) refl
+        rw (number_read fields read 0 greatest_time h (lit< tt) refl, number_read fields read 5 greatest_time h (lit< tt) refl) refl
     by_kind Bid numbers h = refl
 
 -- a line that was read says an event

@@ -5,7 +5,7 @@ use Rattle.mp_events.specs.declared.checks.FieldCheck.{FieldCheck}
 use Rattle.mp_events.specs.declared.checks.FieldCheck.TheVariants.{NumberUpTo, NameUpTo}
 use Rattle.mp_events.specs.declared.kinds.LineKind.{LineKind}
 use Rattle.mp_events.specs.declared.kinds.LineKind.TheVariants.{Person, Auction, Bid}
-use Rattle.mp_model.specs.declared.limits.TheConstants.{MAX_TIME, MAX_ID, MAX_NAME, MAX_PRICE}
+use Rattle.mp_names.specs.Limits.{greatest_id, greatest_price, greatest_time, longest_name}
 
 -- the kind that a line's first field says
 abbrev pub kind_of : List ℕ → Option LineKind
@@ -17,9 +17,9 @@ kind_of field =
 -- the checks of the fields after the kind, from left to right
 abbrev pub checks_of : LineKind → List FieldCheck
 -- time, id, name, city, state
-checks_of Person = NumberUpTo MAX_TIME ∷ NumberUpTo MAX_ID ∷ NameUpTo MAX_NAME ∷ NameUpTo MAX_NAME ∷ NameUpTo MAX_NAME ∷ []
+checks_of Person = NumberUpTo greatest_time ∷ NumberUpTo greatest_id ∷ NameUpTo longest_name ∷ NameUpTo longest_name ∷ NameUpTo longest_name ∷ []
 -- time, id, seller, category, reserve, expires
 checks_of Auction =
-    NumberUpTo MAX_TIME ∷ NumberUpTo MAX_ID ∷ NumberUpTo MAX_ID ∷ NumberUpTo MAX_ID ∷ NumberUpTo MAX_PRICE ∷ NumberUpTo MAX_TIME ∷ []
+    NumberUpTo greatest_time ∷ NumberUpTo greatest_id ∷ NumberUpTo greatest_id ∷ NumberUpTo greatest_id ∷ NumberUpTo greatest_price ∷ NumberUpTo greatest_time ∷ []
 -- time, auction, bidder, price
-checks_of Bid = NumberUpTo MAX_TIME ∷ NumberUpTo MAX_ID ∷ NumberUpTo MAX_ID ∷ NumberUpTo MAX_PRICE ∷ []
+checks_of Bid = NumberUpTo greatest_time ∷ NumberUpTo greatest_id ∷ NumberUpTo greatest_id ∷ NumberUpTo greatest_price ∷ []

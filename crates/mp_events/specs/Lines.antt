@@ -9,7 +9,7 @@ use Rattle.mp_events.specs.declared.refused.EventsReason.TheVariants.{Count, Kin
 use Rattle.mp_events.specs.Checks.{failures_of_fields}
 use Rattle.mp_events.specs.Kinds.{checks_of, kind_of}
 use Rattle.mp_events.specs.Reasons.{check}
-use Rattle.mp_model.specs.declared.limits.TheConstants.{MAX_EVENTS}
+use Rattle.mp_names.specs.Limits.{most_events}
 use Rattle.mp_model.specs.declared.record.Event.{Event}
 use Rattle.mp_model.specs.declared.value.Value.{Value}
 use Rattle.mp_model.specs.declared.value.Value.TheVariants.{Person, Auction, Bid}
@@ -40,7 +40,7 @@ failures_of_kind (Some kind) fields =
 
 -- the checks that a line's fields fail, in their order, where so many events stand before it
 abbrev pub failures_of : ℕ → List (List ℕ) → List EventsReason
-failures_of before fields = check (nat_lt before MAX_EVENTS) Count ++ failures_of_kind (kind_of (field_at fields 0)) fields
+failures_of before fields = check (nat_lt before most_events) Count ++ failures_of_kind (kind_of (field_at fields 0)) fields
 
 -- what a line of this kind says
 abbrev pub value_by : LineKind → List (List ℕ) → Value

@@ -4,7 +4,7 @@ ghost use Rattle.mp_events.specs.Kinds.{checks_of, kind_of};
 ghost use Rattle.mp_events.specs.Lines.{field_at};
 
 use crate::checks::FieldCheck::{self, NameUpTo, NumberUpTo};
-use mp_model::limits::{MAX_ID, MAX_NAME, MAX_PRICE, MAX_TIME};
+use mp_names::limits::{MAX_ID, MAX_NAME, MAX_PRICE, MAX_TIME};
 use mp_text::FieldList;
 
 /// What a line says.

@@ -8,8 +8,8 @@ ghost use Rattle.mp_text.specs.declared.splitting.TheConstants.{FIELDS_HELD};
 use crate::EventsReason;
 use crate::checks::{MOST_FIELDS, read_numbers};
 use crate::kinds::LineKind;
-use mp_model::limits::MAX_EVENTS;
 use mp_model::{Event, Text, Value};
+use mp_names::limits::MAX_EVENTS;
 use mp_text::FieldList;
 use std::alloc::{AllocError, Global};
 

@@ -2,7 +2,7 @@
 ghost use Rattle.std.specs.Prelude.{◌≡◌, ◌≤◌, All, Ok, Err, IfOk, IfErr, vec_len};
 ghost use Rattle.mp_events.specs.Events.{IfBadLine, events_of};
 ghost use Rattle.mp_model.specs.Legal.{EventIsLegal};
-ghost use Rattle.mp_model.specs.declared.limits.TheConstants.{MAX_EVENTS};
+ghost use Rattle.mp_names.specs.Limits.{most_events};
 
 use crate::EventsRefused;
 use crate::lines::read_line;
@@ -18,7 +18,7 @@ use std::alloc::Global;
 pub fn read_events(alloc: Global, text: &[u8]) -> Result<Vec<Event>, EventsRefused>
     ensures events { IfOk result (λ events. events_of text.now ≡ Ok events.items) }
     ensures legal { IfOk result (λ events. All EventIsLegal events.items) }
-    ensures few { IfOk result (λ events. vec_len events ≤ MAX_EVENTS) }
+    ensures few { IfOk result (λ events. vec_len events ≤ most_events) }
 
     ensures bad_line { IfErr result (λ refused.
         IfBadLine refused (λ line why. events_of text.now ≡ Err (line, why))) }

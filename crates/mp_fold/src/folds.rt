@@ -1,6 +1,6 @@
 //! The fold of one key: its cell, group after group, and what the groups give.
 ghost use Rattle.std.specs.Prelude.{◌≡◌, ◌≤◌, ◌++◌, All, OnOk};
-ghost use Rattle.mp_model.specs.declared.limits.TheConstants.{LAST_TIME};
+ghost use Rattle.mp_names.specs.Limits.{last_time};
 ghost use Rattle.mp_model.specs.Folds.{FitsAlong, outputs_at, outputs_of, timeline};
 
 use crate::timeline::{at_time, group_times, is_woken, of_key};
@@ -16,7 +16,7 @@ pub fn fold_key<Q: Query>(
     key: u64,
     outputs: &mut Vec<Output>,
 ) -> Result<(), AllocError>
-    requires times { All (λ r. r.time ≤ LAST_TIME) recs.now }
+    requires times { All (λ r. r.time ≤ last_time) recs.now }
     requires fits { let q = Q.facts (Q.rules query.now) in
         FitsAlong q stage (q.fresh stage) (timeline q stage key recs.now) }
     ensures { OnOk result (outputs.new.items

@@ -2,7 +2,7 @@
 ghost use Rattle.std.specs.Prelude.{◌≡◌, ◌≤◌, ◌++◌, All, IfOk, OnOk};
 ghost use Rattle.std.specs.List.{filter_map};
 ghost use Rattle.std.specs.Option.{option_to_list};
-ghost use Rattle.mp_model.specs.declared.limits.TheConstants.{LAST_TIME};
+ghost use Rattle.mp_names.specs.Limits.{last_time};
 ghost use Rattle.mp_model.specs.Stages.{input_records, record_of, record_of_output};
 
 use mp_model::{Event, Output, Query, Rec, Tag};
@@ -14,7 +14,7 @@ pub fn input_records<Q: Query>(
     query: &Q,
     events: &[Event],
 ) -> Result<Vec<Rec>, AllocError>
-    requires { All (λ e. e.time ≤ LAST_TIME) events.now }
+    requires { All (λ e. e.time ≤ last_time) events.now }
     ensures { IfOk result (λ v. v.items ≡ input_records (Q.facts (Q.rules query.now)) events.now) }
 {
     let mut recs = Vec::new(alloc);
@@ -31,7 +31,7 @@ fn push_record<Q: Query>(
     event: &Event,
     recs: &mut Vec<Rec>,
 ) -> Result<(), AllocError>
-    requires { event.now.time ≤ LAST_TIME }
+    requires { event.now.time ≤ last_time }
     ensures { OnOk result (recs.new.items
         ≡ recs.old.items ++ option_to_list (record_of (Q.facts (Q.rules query.now)) index event.now)) }
 {
@@ -56,7 +56,7 @@ pub fn output_records<Q: Query>(
     stage: u32,
     outputs: &[Output],
 ) -> Result<Vec<Rec>, AllocError>
-    requires { All (λ o. o.time ≤ LAST_TIME) outputs.now }
+    requires { All (λ o. o.time ≤ last_time) outputs.now }
     ensures { IfOk result (λ v. v.items
         ≡ filter_map (record_of_output (Q.facts (Q.rules query.now)) stage) outputs.now) }
 {
@@ -74,7 +74,7 @@ fn push_output_record<Q: Query>(
     output: &Output,
     recs: &mut Vec<Rec>,
 ) -> Result<(), AllocError>
-    requires { output.now.time ≤ LAST_TIME }
+    requires { output.now.time ≤ last_time }
     ensures { OnOk result (recs.new.items
         ≡ recs.old.items ++ option_to_list (record_of_output (Q.facts (Q.rules query.now)) stage output.now)) }
 {

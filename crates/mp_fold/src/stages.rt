@@ -1,6 +1,6 @@
 //! The stages, one after the other.
 ghost use Rattle.std.specs.Prelude.{◌≡◌, ℕ, ◌<◌, ◌≤◌, All, IfOk};
-ghost use Rattle.mp_model.specs.declared.limits.TheConstants.{LAST_TIME};
+ghost use Rattle.mp_names.specs.Limits.{last_time};
 ghost use Rattle.mp_model.specs.Folds.{FitsAlong, stage_outputs, timeline};
 ghost use Rattle.mp_model.specs.Legal.{EventsAreLegal};
 ghost use Rattle.mp_model.specs.Stages.{answer_rows, stage_records};
@@ -54,7 +54,7 @@ fn stage_outputs<Q: Query>(
     stage: u32,
     recs: &[Rec],
 ) -> Result<Vec<Output>, AllocError>
-    requires times { All (λ r. r.time ≤ LAST_TIME) recs.now }
+    requires times { All (λ r. r.time ≤ last_time) recs.now }
     requires fits { let q = Q.facts (Q.rules query.now) in
         (k : ℕ) → FitsAlong q stage (q.fresh stage) (timeline q stage k recs.now) }
     ensures { IfOk result (λ v. v.items ≡ stage_outputs (Q.facts (Q.rules query.now)) stage recs.now) }

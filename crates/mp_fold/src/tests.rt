@@ -1,6 +1,6 @@
 //! A query of two stages with wakes, answered; and the form of a line.
 ghost use Rattle.std.specs.Prelude.{◌≡◌, ◌≤◌, ◌*◌, ◌/◌, ◌++◌, map, IfOk, OnOk};
-ghost use Rattle.mp_model.specs.declared.limits.TheConstants.{MAX_ID, MAX_PRICE, MAX_TIME};
+ghost use Rattle.mp_names.specs.Limits.{greatest_id, greatest_price, greatest_time};
 ghost use Rattle.mp_model.specs.Legal.{EventIsLegal};
 ghost use Rattle.mp_fold.specs.Sample.{gives_of, last_time, offer_of, row_of, wake_of};
 
@@ -186,10 +186,10 @@ fn reduced(price: u64) -> u64
 }
 
 fn bid_at(time: Time, auction: u64, bidder: u64, price: u64) -> Event
-    requires time { time ≤ MAX_TIME }
-    requires auction { auction ≤ MAX_ID }
-    requires bidder { bidder ≤ MAX_ID }
-    requires price { price ≤ MAX_PRICE }
+    requires time { time ≤ greatest_time }
+    requires auction { auction ≤ greatest_id }
+    requires bidder { bidder ≤ greatest_id }
+    requires price { price ≤ greatest_price }
     ensures { EventIsLegal result }
 {
     Event {

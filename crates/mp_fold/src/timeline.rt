@@ -1,7 +1,7 @@
 //! The groups of a key: its records, their times, and whether a time is woken.
 ghost use Rattle.std.specs.Prelude.{◌≡◌, ◌≤◌, ◌==◌, All, IfOk};
 ghost use Rattle.std.specs.List.{list_any};
-ghost use Rattle.mp_model.specs.declared.limits.TheConstants.{LAST_TIME};
+ghost use Rattle.mp_names.specs.Limits.{last_time};
 ghost use Rattle.mp_model.specs.Ascending.{ascending};
 ghost use Rattle.mp_model.specs.Folds.{at_time, is_woken, keys_of, of_key, times_in};
 
@@ -50,7 +50,7 @@ pub fn group_times<Q: Query>(
     stage: u32,
     recs: &[Rec],
 ) -> Result<Vec<Time>, AllocError>
-    requires { All (λ r. r.time ≤ LAST_TIME) recs.now }
+    requires { All (λ r. r.time ≤ last_time) recs.now }
     ensures { IfOk result (λ v. v.items ≡ ascending (times_in (Q.facts (Q.rules query.now)) stage recs.now)) }
 {
     let times = times_in(alloc, query, stage, recs)?;
@@ -64,7 +64,7 @@ fn times_in<Q: Query>(
     stage: u32,
     recs: &[Rec],
 ) -> Result<Vec<Time>, AllocError>
-    requires { All (λ r. r.time ≤ LAST_TIME) recs.now }
+    requires { All (λ r. r.time ≤ last_time) recs.now }
     ensures { IfOk result (λ v. v.items ≡ times_in (Q.facts (Q.rules query.now)) stage recs.now) }
 {
     let mut times = Vec::new(alloc);
@@ -77,7 +77,7 @@ fn times_in<Q: Query>(
 
 /// Whether one of the records posts this time.
 pub fn is_woken<Q: Query>(query: &Q, stage: u32, recs: &[Rec], time: Time) -> bool
-    requires { All (λ r. r.time ≤ LAST_TIME) recs.now }
+    requires { All (λ r. r.time ≤ last_time) recs.now }
     ensures { result ≡ is_woken (Q.facts (Q.rules query.now)) stage recs.now time }
 {
     for rec in recs {

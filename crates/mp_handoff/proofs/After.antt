@@ -4,7 +4,7 @@ use Rattle.std.proofs.lemmas.Bool.{and_from, and_parts, cases_lt, eq-eqb, eqb-tr
 use Rattle.mp_names.specs.declared.names.Name.TheVariants.{Packet}
 use Rattle.mp_names.specs.Names.{IsBefore, Less}
 use Rattle.mp_bins.specs.Leaving.{IsAfter}
-use Rattle.mp_handoff.specs.Moving.{is_after}
+use Rattle.mp_handoff.specs.MoversState.{is_after}
 
 -- what the test says
 

@@ -18,13 +18,13 @@ use Rattle.mp_bins.specs.Notes.{Notes, owner_at as noted_owner_at, owner_before 
 use Rattle.mp_ordered.specs.InOrder.{InOrder}
 use Rattle.mp_bins.specs.Leaving.{IsAfter, IsLeaving, IsNextLeaving, NoneLeaves}
 use Rattle.mp_handoff.specs.declared.sent.Sent.{Sent}
-use Rattle.mp_handoff.specs.Due.{AreInformed, CanLeave, IsDueHere, IsMoveAway, LeavesBy, MayLeaveHere}
-use Rattle.mp_handoff.specs.Moving.{Moving, is_after}
+use Rattle.mp_handoff.specs.Due.{MoversMatchLogAndSeen, CanLeave, IsDueHere, IsMoveAway, LeavesBy, MayLeaveHere}
+use Rattle.mp_handoff.specs.MoversState.{MoversState, is_after}
 use Rattle.mp_handoff.specs.MoversOf.{IsMoversOf, KnowsMoves}
 use Rattle.mp_handoff.proofs.After.{after_from, after_is, less_after, no_later}
 
 -- the movers of these fields
-abbrev pub moving : ℕ → ℕ → InOrder ℕ → Option (ℕ × ℕ) → List Sent → ℕ → Moving
+abbrev pub moving : ℕ → ℕ → InOrder ℕ → Option (ℕ × ℕ) → List Sent → ℕ → MoversState
 moving j w times last sent room = record {
   stage = j;
   worker = w;
@@ -61,7 +61,7 @@ module _ (o : Outline) (log : Log) (notes : Notes) (seen : Seen) (w j : ℕ) (kn
         e.0 ∙ owed.1,
       )
 
-module _ (o : Outline) (log : Log) (m : Moving) (h : IsMoversOf o log m) (b t : ℕ) (owed : IsOwedBy o m.worker (Packet m.stage b t)) where
+module _ (o : Outline) (log : Log) (m : MoversState) (h : IsMoversOf o log m) (b t : ℕ) (owed : IsOwedBy o m.worker (Packet m.stage b t)) where
   -- what comes after the last packet isn't sent, and nothing else isn't
   pub after_unsent : IsAfter m.last t b → has log.sent (Packet m.stage b t) ≡ false
   after_unsent a = h.sent b t owed ∙ ap not (after_from m.last t b a)
@@ -69,7 +69,7 @@ module _ (o : Outline) (log : Log) (m : Moving) (h : IsMoversOf o log m) (b t : 
   pub unsent_after : has log.sent (Packet m.stage b t) ≡ false → IsAfter m.last t b
   unsent_after n = after_is m.last t b (not-false (is_after m.last t b) (sym (h.sent b t owed) ∙ n))
 
-module _ (o : Outline) (log : Log) (notes : Notes) (seen : Seen) (m : Moving) (i : AreInformed o log notes seen m) where
+module _ (o : Outline) (log : Log) (notes : Notes) (seen : Seen) (m : MoversState) (i : MoversMatchLogAndSeen o log notes seen m) where
   leaving_is_due : (b t : ℕ) → HasPassed (seen_at seen CtlMail) t → IsLeaving notes m.stage m.worker b t → IsAfter m.last t b → IsDueHere o log seen m.worker m.stage (Packet m.stage b t)
   leaving_is_due b t p l a =
       let owed = leaving_is_owed o log notes seen m.worker m.stage i.1 b t p l in
@@ -106,7 +106,7 @@ module _ (o : Outline) (log : Log) (notes : Notes) (seen : Seen) (m : Moving) (i
     goes_away p = (ap (λ (u : Move). u.stage) next.told, ap (λ (u : Move). u.from) next.told ∙ next.leaves.1, ap (λ (u : Move). u.to) next.told ∙ (i.1.owners v.bin v.time p).1)
 
 -- a bin leaves up to a time just where the next one does
-pub leaves_by : (notes : Notes) (m : Moving) (t : ℕ) (v : Move) → IsNextLeaving notes m.stage m.worker m.last v → IsTrue (nat_le v.time t) ↔ LeavesBy notes m t
+pub leaves_by : (notes : Notes) (m : MoversState) (t : ℕ) (v : Move) → IsNextLeaving notes m.stage m.worker m.last v → IsTrue (nat_le v.time t) ↔ LeavesBy notes m t
 leaves_by notes m t v next = (
   (λ l. (v.bin, v.time, leb-true v.time t l, next.leaves, next.later)),
   (λ h. let le = no_later h.1 h.0 v.time v.bin (next.least h.0 h.1 h.3 h.4) in let l = h.2 in le-leb v.time t (omega arith)),

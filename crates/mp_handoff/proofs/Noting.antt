@@ -7,12 +7,12 @@ use Rattle.mp_names.specs.Names.{has}
 use Rattle.mp_names.specs.Outlines.{Outline, control_at}
 use Rattle.mp_names.proofs.Lists.{In_left}
 use Rattle.mp_model.specs.Ascending.{placed}
-use Rattle.mp_handoff.specs.Moving.{Moving}
+use Rattle.mp_handoff.specs.MoversState.{MoversState}
 use Rattle.mp_handoff.specs.MoversOf.{IsMoversOf, IsNewControl}
 use Rattle.mp_handoff.proofs.Same.{any_before, any_cases, any_last}
 use Rattle.mp_handoff.proofs.Times.{placed_here, placed_there, there_placed}
 
-module _ (o : Outline) (log : Log) (m : Moving) (t i : ℕ) (h : IsMoversOf o log m) (new : IsNewControl o log m t i) where
+module _ (o : Outline) (log : Log) (m : MoversState) (t i : ℕ) (h : IsMoversOf o log m) (new : IsNewControl o log m t i) where
   -- a time of which a control record is still to be taken isn't settled
   pub not_settled : has log.settled (Settled m.stage t) ≡ false
   not_settled = false_from_ne_true (has log.settled (Settled m.stage t)) (λ s. let e = new.of_time in both_ways (has log.took (Ctrl i m.worker)) new.not_taken (h.known i t (inl s) new.listed (omega arith)))

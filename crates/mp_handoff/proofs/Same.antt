@@ -11,7 +11,7 @@ use Rattle.mp_names.specs.Outlines.{Outline, control_at}
 use Rattle.mp_names.specs.Logs.{Log, is_ctrl_of, is_noted, with_applied, with_ingested, with_sent, with_settled, with_took}
 use Rattle.mp_names.proofs.Lists.{any_at, any_from, In_here, In_left, In_push, In_right}
 use Rattle.mp_handoff.specs.Laws.{is_control_of, MoversAlwaysStay}
-use Rattle.mp_handoff.specs.Moving.{Moving}
+use Rattle.mp_handoff.specs.MoversState.{MoversState}
 use Rattle.mp_handoff.specs.MoversOf.{IsMoversOf}
 
 same_bool : (a b : Bool) → (a ≡ true → b ≡ true) → (b ≡ true → a ≡ true) → a ≡ b
@@ -51,7 +51,7 @@ module _ (p : Name → Bool) (xs : List Name) (x : Name) where
 
 -- the new log says of the stage what the old one said, and has all control records that it had
 pub same_told :
-    (o : Outline) (log new : Log) (m : Moving)
+    (o : Outline) (log new : Log) (m : MoversState)
     → IsMoversOf o log m
     → ((t : ℕ) → is_noted o new m.stage t ≡ is_noted o log m.stage t)
     → ((i : ℕ) → In (Ctrl i m.worker) log.took → In (Ctrl i m.worker) new.took)
@@ -73,7 +73,7 @@ same_told o log new m h noted took sent settled packets =
     }
 
 -- room is no part of what is told
-pub other_room : (o : Outline) (log : Log) (m : Moving) (us : List ℕ) (room : ℕ) → us ≡ m.unsettled → IsMoversOf o log m → IsMoversOf o log (record m { unsettled = us; room = room })
+pub other_room : (o : Outline) (log : Log) (m : MoversState) (us : List ℕ) (room : ℕ) → us ≡ m.unsettled → IsMoversOf o log m → IsMoversOf o log (record m { unsettled = us; room = room })
 other_room o log m us room e h = record {
   unsettled = λ t. ((λ c. (h.unsettled t).0 (subst (λ (l : List ℕ). Contains l t) e c)), (λ u. subst (λ (l : List ℕ). Contains l t) (sym e) ((h.unsettled t).1 u)));
   sent = h.sent;
@@ -82,7 +82,7 @@ other_room o log m us room e h = record {
   packets = h.packets;
 }
 
-pub other_room_for_sent : (o : Outline) (log : Log) (m : Moving) (room : ℕ) → IsMoversOf o log m → IsMoversOf o log (record m { room_for_sent = room })
+pub other_room_for_sent : (o : Outline) (log : Log) (m : MoversState) (room : ℕ) → IsMoversOf o log m → IsMoversOf o log (record m { room_for_sent = room })
 other_room_for_sent o log m room h = record {
   unsettled = h.unsettled;
   sent = h.sent;

@@ -16,8 +16,8 @@ use Rattle.mp_stamps.specs.Seen.{seen_at}
 use Rattle.mp_bins.specs.Notes.{Notes}
 use Rattle.mp_bins.specs.Leaving.{IsAfter}
 use Rattle.mp_handoff.specs.declared.sent.Sent.{Sent}
-use Rattle.mp_handoff.specs.Due.{AreInformed, IsLeastDue}
-use Rattle.mp_handoff.specs.Moving.{Moving, is_after}
+use Rattle.mp_handoff.specs.Due.{MoversMatchLogAndSeen, IsLeastDue}
+use Rattle.mp_handoff.specs.MoversState.{MoversState, is_after}
 use Rattle.mp_handoff.specs.MoversOf.{IsMoversOf}
 use Rattle.mp_handoff.proofs.After.{after_connected, after_from, after_is, after_less, after_trans, never_itself, no_later}
 use Rattle.mp_handoff.proofs.Leaving.{after_unsent, unsent_after}
@@ -27,7 +27,7 @@ use Rattle.mp_handoff.proofs.Same.{In_last, filter_put_in, has_other}
 same_packet : (j a s b t : ℕ) → Packet j a s ≡ Packet j b t → (a ≡ b) × (s ≡ t)
 same_packet j a s b t e = (cc, cc)
 
-module _ (o : Outline) (log : Log) (notes : Notes) (seen : Seen) (m : Moving) (i : AreInformed o log notes seen m) (c u : ℕ) (least : IsLeastDue o log seen m c u) where
+module _ (o : Outline) (log : Log) (notes : Notes) (seen : Seen) (m : MoversState) (i : MoversMatchLogAndSeen o log notes seen m) (c u : ℕ) (least : IsLeastDue o log seen m c u) where
   -- the packet is owed, and comes after the last one
   comes_next : IsAfter m.last u c
   comes_next = unsent_after o log m i.0 c u least.0.0.1 least.0.0.2

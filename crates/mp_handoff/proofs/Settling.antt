@@ -22,8 +22,8 @@ use Rattle.mp_stamps.specs.Seen.{seen_at}
 use Rattle.mp_bins.specs.Notes.{Notes}
 use Rattle.mp_job.proofs.Members.{Contains-cases, Contains-here, Contains-later, nothing_in_nil}
 use Rattle.mp_ordered.specs.InOrder.{InOrder}
-use Rattle.mp_handoff.specs.Due.{AreInformed, CanSettle, LeavesBy, MaySettleHere}
-use Rattle.mp_handoff.specs.Moving.{Moving, Rises}
+use Rattle.mp_handoff.specs.Due.{MoversMatchLogAndSeen, CanSettle, LeavesBy, MaySettleHere}
+use Rattle.mp_handoff.specs.MoversState.{MoversState, Rises}
 use Rattle.mp_handoff.specs.MoversOf.{IsMoversOf}
 use Rattle.mp_handoff.proofs.Leaving.{after_unsent, leaving_is_owed, owed_is_leaving, unsent_after}
 use Rattle.mp_handoff.proofs.Same.{In_last, has_other}
@@ -45,7 +45,7 @@ settled_less j s t h = ⊎_elim (λ (e : 5 < 5). absurd (omega arith)) (λ (e : 
 less_settled : (j s t : ℕ) → s < t → Less (Settled j s) (Settled j t)
 less_settled j s t l = inr (refl, inl l)
 
-module _ (o : Outline) (log : Log) (notes : Notes) (seen : Seen) (m : Moving) (i : AreInformed o log notes seen m) where
+module _ (o : Outline) (log : Log) (notes : Notes) (seen : Seen) (m : MoversState) (i : MoversMatchLogAndSeen o log notes seen m) where
   -- where no time is unsettled none may be settled
   pub none_unsettled : m.unsettled ≡ [] → (t : ℕ) → MaySettleHere o log seen m t → ⊥
   none_unsettled e t y = nothing_in_nil t (subst (λ (l : List ℕ). Contains l t) e ((i.0.unsettled t).1 y.least.0))

@@ -11,7 +11,7 @@ use Rattle.mp_model.specs.Ascending.{placed}
 use Rattle.mp_job.proofs.Members.{Contains-cases, Contains-here, Contains-later}
 use Rattle.mp_ordered.specs.InOrder.{InOrder, put_in_order}
 use Rattle.mp_ordered.proofs.Placing.{pairs_head, pairs_tail}
-use Rattle.mp_handoff.specs.Moving.{Rises}
+use Rattle.mp_handoff.specs.MoversState.{Rises}
 
 -- what follows where a call answers `Ok`
 pub ok_then : {T E P Q : Type 0} (r : Result T E) → OnOk r P → (P → Q) → OnOk r Q

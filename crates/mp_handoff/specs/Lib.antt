@@ -1,6 +1,6 @@
 -- What the contracts of this crate cite.
 pub mod Keys
-pub mod Moving
+pub mod MoversState
 pub mod MoversOf
 pub mod Due
 pub mod Laws

@@ -12,14 +12,14 @@ use Rattle.mp_stamps.specs.declared.seen.Seen.{Seen}
 use Rattle.mp_stamps.specs.Seen.{seen_at}
 use Rattle.mp_bins.specs.Notes.{Notes, owner_at as noted_owner_at, owner_before as noted_owner_before}
 use Rattle.mp_handoff.specs.declared.sent.Sent.{Sent}
-use Rattle.mp_handoff.specs.Moving.{Moving, is_after}
+use Rattle.mp_handoff.specs.MoversState.{MoversState, is_after}
 
 -- the names of packets of a stage
 abbrev pub packets_of : ℕ → List Sent → List Name
 packets_of j = map (λ s. Packet j s.bin s.time)
 
 -- The movers hold just what the log says of their stage
-pub record IsMoversOf (o : Outline) (log : Log) (m : Moving) : Type 0 where
+pub record IsMoversOf (o : Outline) (log : Log) (m : MoversState) : Type 0 where
   -- the times that are noted and not settled
   pub unsettled : (t : ℕ) → (Contains m.unsettled t ↔ IsUnsettled o log m.stage (Settled m.stage t))
   -- of the packets that the worker owes those up to the last are sent, and no others
@@ -32,7 +32,7 @@ pub record IsMoversOf (o : Outline) (log : Log) (m : Moving) : Type 0 where
   pub packets : packets_of m.stage m.sent ≡ filter (is_packet m.stage) log.sent
 
 -- A control record of the stage of the movers and of this time, which their worker hasn't taken by the log, has this index
-pub record IsNewControl (o : Outline) (log : Log) (m : Moving) (t i : ℕ) : Type 0 where
+pub record IsNewControl (o : Outline) (log : Log) (m : MoversState) (t i : ℕ) : Type 0 where
   pub listed : i < length o.controls
   pub of_stage : (control_at o i).stage ≡ m.stage
   pub of_time : (control_at o i).time ≡ t

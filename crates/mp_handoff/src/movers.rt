@@ -8,7 +8,7 @@ ghost use Rattle.mp_stamps.specs.declared.seen.Seen.{Seen};
 ghost use Rattle.mp_bins.specs.Notes.{Notes};
 ghost use Rattle.mp_model.specs.Ascending.{placed};
 ghost use Rattle.mp_outline.specs.JobOutline.{outline_of};
-ghost use Rattle.mp_handoff.specs.Due.{AreInformed, CanLeave, CanSettle, IsLeastDue, IsMoveAway, LeavesBy, MayLeaveHere, MaySettleHere};
+ghost use Rattle.mp_handoff.specs.Due.{MoversMatchLogAndSeen, CanLeave, CanSettle, IsLeastDue, IsMoveAway, LeavesBy, MayLeaveHere, MaySettleHere};
 ghost use Rattle.mp_handoff.specs.Keys.{HasKeys, SentHasKeys};
 ghost use Rattle.mp_handoff.specs.MoversOf.{IsMoversOf, IsNewControl};
 
@@ -42,9 +42,9 @@ impl<Q: Query, J: Naming> Model for Movers<Q, J> {
     ghost use Rattle.std.specs.Prelude.{◌<◌, ◌-◌, All, length};
     ghost use Rattle.std.specs.Vec.{vec_capacity};
     ghost use Rattle.mp_handoff.specs.Keys.{SentHasKeys};
-    ghost use Rattle.mp_handoff.specs.Moving.{Moving, Rises};
+    ghost use Rattle.mp_handoff.specs.MoversState.{MoversState, Rises};
 
-    ghost Value = { Moving };
+    ghost Value = { MoversState };
 
     ghost view = { λ m. record {
       stage = m.stage;
@@ -88,7 +88,7 @@ impl<Q: Query, J: Naming> Movers<Q, J> {
         ensures same { self.new ≡ record self.old { room = self.new.room } }
         ensures held { (log : Log) → let o = outline_of (Q.facts J.job.rules) J.job in
             IsMoversOf o log self.old → IsMoversOf o log self.new }
-        ensures refused { OnErr result (self.new ≡ self.old) }
+        ensures unchanged { OnErr result (self.new ≡ self.old) }
     {
         self.unsettled.make_room(count)
     }
@@ -99,7 +99,7 @@ impl<Q: Query, J: Naming> Movers<Q, J> {
         ensures same { self.new ≡ record self.old { room_for_sent = self.new.room_for_sent } }
         ensures held { (log : Log) → let o = outline_of (Q.facts J.job.rules) J.job in
             IsMoversOf o log self.old → IsMoversOf o log self.new }
-        ensures refused { OnErr result (self.new ≡ self.old) }
+        ensures unchanged { OnErr result (self.new ≡ self.old) }
     {
         self.sent.reserve(1)
     }
@@ -111,7 +111,7 @@ impl<Q: Query, J: Naming> Movers<Q, J> {
         ensures same { self.new ≡ record self.old { unsettled = self.new.unsettled; room = self.new.room } }
         ensures there { Contains self.old.unsettled time → self.new ≡ self.old }
         ensures room { OnOk result (self.old.room ≤ self.new.room + 1) }
-        ensures refused { OnErr result (self.new ≡ self.old) }
+        ensures unchanged { OnErr result (self.new ≡ self.old) }
         ensures never_refused_with_room { 0 < self.old.room → IsOk result }
         ensures held { OnOk result ((log : Log) (i : ℕ) → let o = outline_of (Q.facts J.job.rules) J.job in
             IsMoversOf o log self.old
@@ -141,11 +141,11 @@ impl<Q: Query, J: Naming> Movers<Q, J> {
     pub fn due(&self, seen: &Seen, owners: &Owners) -> Option<Move>
         requires { owners.now.shape ≡ J.job.shape }
         ensures away { IfSome result (λ m. (log : Log) → let o = outline_of (Q.facts J.job.rules) J.job in
-            AreInformed o log owners.now seen.now self.now → IsMoveAway o self.now.stage self.now.worker m) }
+            MoversMatchLogAndSeen o log owners.now seen.now self.now → IsMoveAway o self.now.stage self.now.worker m) }
         ensures may_leave { IfSome result (λ m. (log : Log) → let o = outline_of (Q.facts J.job.rules) J.job in
-            AreInformed o log owners.now seen.now self.now → MayLeaveHere o log seen.now self.now m.bin m.time) }
+            MoversMatchLogAndSeen o log owners.now seen.now self.now → MayLeaveHere o log seen.now self.now m.bin m.time) }
         ensures none_may { IfNone result ((log : Log) (b t : ℕ) → let o = outline_of (Q.facts J.job.rules) J.job in
-            AreInformed o log owners.now seen.now self.now → MayLeaveHere o log seen.now self.now b t → ⊥) }
+            MoversMatchLogAndSeen o log owners.now seen.now self.now → MayLeaveHere o log seen.now self.now b t → ⊥) }
     {
         let Some(moved) = owners.next_leaving(self.stage, self.worker, self.last) else {
             return None;
@@ -175,7 +175,7 @@ impl<Q: Query, J: Naming> Movers<Q, J> {
           room_for_sent = self.new.room_for_sent;
         } }
         ensures held { (log : Log) (notes : Notes) (seen : Seen) → let o = outline_of (Q.facts J.job.rules) J.job in
-            AreInformed o log notes seen self.old
+            MoversMatchLogAndSeen o log notes seen self.old
             → IsLeastDue o log seen self.old moved.bin moved.time
             → IsMoversOf o (with_sent log (Packet self.old.stage moved.bin moved.time)) self.new }
     {
@@ -207,12 +207,12 @@ impl<Q: Query, J: Naming> Movers<Q, J> {
         ensures first { IfSome result (λ t. self.old.unsettled ≡ t ∷ self.new.unsettled) }
         ensures same { IfSome result (λ t. self.new ≡ record self.old { unsettled = self.new.unsettled; room = self.old.room + 1 }) }
         ensures may_settle { IfSome result (λ t. (log : Log) → let o = outline_of (Q.facts J.job.rules) J.job in
-            AreInformed o log owners.now seen.now self.old → MaySettleHere o log seen.now self.old t) }
+            MoversMatchLogAndSeen o log owners.now seen.now self.old → MaySettleHere o log seen.now self.old t) }
         ensures held { IfSome result (λ t. (log : Log) → let o = outline_of (Q.facts J.job.rules) J.job in
-            AreInformed o log owners.now seen.now self.old
+            MoversMatchLogAndSeen o log owners.now seen.now self.old
             → IsMoversOf o (with_settled log (Settled self.old.stage t)) self.new) }
         ensures none_may { IfNone result ((log : Log) (t : ℕ) → let o = outline_of (Q.facts J.job.rules) J.job in
-            AreInformed o log owners.now seen.now self.old → MaySettleHere o log seen.now self.old t → ⊥) }
+            MoversMatchLogAndSeen o log owners.now seen.now self.old → MaySettleHere o log seen.now self.old t → ⊥) }
         ensures unchanged { IfNone result (self.new ≡ self.old) }
     {
         let Some(time) = self.unsettled.first().copied() else {

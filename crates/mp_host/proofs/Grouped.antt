@@ -4,7 +4,7 @@ use Rattle.std.proofs.lemmas.Bool.{and_parts, eqb-true}
 use Rattle.std.proofs.lemmas.List.{set_split}
 use Rattle.std.proofs.lemmas.List.Elements.{All-contains, All-cons, All-contains_itself, All-get_or, All-nil, All-set, All-weaker}
 use Rattle.mp_bins.specs.Bins.{bin_of_key}
-use Rattle.mp_model.specs.declared.limits.TheConstants.{LAST_TIME}
+use Rattle.mp_names.specs.Limits.{last_time}
 use Rattle.mp_model.specs.declared.record.Rec.{Rec}
 use Rattle.mp_model.specs.Entry.{Entry}
 use Rattle.mp_model.specs.Facts.{JobFacts, QueryFacts}
@@ -44,7 +44,7 @@ module _ {Cell : Type 0} (q : QueryFacts Cell) (later : PostsAreLater q) (nothin
   -- the posts of a record of a stage are later than it
   posts_after : (j : ℕ) (r : Rec) → Contains (stage_records q job.events j) r → All (λ u. r.time < u) (q.posts j r)
   posts_after zero r i =
-      rises_above r.time LAST_TIME (q.posts 0 r) (later r (All-contains RecordIsLegal (input_records q job.events) r (input_records_legal q job.events legal) i))
+      rises_above r.time last_time (q.posts 0 r) (later r (All-contains RecordIsLegal (input_records q job.events) r (input_records_legal q job.events legal) i))
   posts_after (suc j) r i = rw (nothing j r) (All-nil (λ (u : ℕ). r.time < u))
 
   -- so those of a group are later than it
@@ -105,18 +105,18 @@ module _ {Cell : Type 0} (q : QueryFacts Cell) (job its : JobFacts) (h : Hosted 
   changed_fits order kept =
       let fits = one_fits in
       record {
-        stands = record {
-          bin = fits.stands.bin;
+        denotes = record {
+          bin = fits.denotes.bin;
           order = order;
           own = record {
             cells = λ l c i.
                 ⊎_elim
-                (λ (old : Contains one.state.cells (l, c)). fits.stands.own.cells l c old)
+                (λ (old : Contains one.state.cells (l, c)). fits.denotes.own.cells l c old)
                 (λ (new : (l ≡ k) × (c ≢ q.fresh h.stage)). (subst (λ (m : ℕ). bin_of_key m job.shape.bins ≡ one.bin) (sym new.0) (sym its_bin), new.1))
                 (kept l c i);
             wakes = λ u l i.
                 ⊎_elim
-                (λ (old : Has one.state.wakes u l × (IsWake t k (u, l) → ⊥)). fits.stands.own.wakes u l old.0)
+                (λ (old : Has one.state.wakes u l × (IsWake t k (u, l) → ⊥)). fits.denotes.own.wakes u l old.0)
                 (λ (new : (l ≡ k) × Contains (posts_here q h t k) u). subst (λ (m : ℕ). bin_of_key m job.shape.bins ≡ one.bin) (sym new.0) (sym its_bin))
                 ((wakes u l).0 i);
           };

@@ -47,7 +47,7 @@ module _ {Cell : Type 0} (q : QueryFacts Cell) (job its : JobFacts) where
   states_fit h hosted =
       All-each (MayBeHeld q job h.stage) h.held
       (λ s i. record {
-        stands = All-contains (StateStands q job h.stage) h.held s hosted.order.states i;
+        denotes = All-contains (StateStands q job h.stage) h.held s hosted.order.states i;
         posted = All-contains (WakesArePosted q job h.stage) h.held s hosted.posted i;
       })
 
@@ -60,7 +60,7 @@ module _ {Cell : Type 0} (q : QueryFacts Cell) (job its : JobFacts) where
     legal = hosted.legal;
     stage = hosted.stage;
     worker = hosted.worker;
-    order = record { content = content; records = order; states = All-weaker (MayBeHeld q job h.stage) (StateStands q job h.stage) (λ s f. f.stands) held fit };
+    order = record { content = content; records = order; states = All-weaker (MayBeHeld q job h.stage) (StateStands q job h.stage) (λ s f. f.denotes) held fit };
     posted = All-weaker (MayBeHeld q job h.stage) (WakesArePosted q job h.stage) (λ s f. f.posted) held fit;
   }
 
@@ -81,7 +81,7 @@ none_sorted cmp = tt
 module _ {Cell : Type 0} (q : QueryFacts Cell) (job : JobFacts) (j w : ℕ) where
   empty_fits : (b : ℕ) → b < job.shape.bins → MayBeHeld q job j (record { bin = b; since = None; state = empty_state })
   empty_fits b l = record {
-    stands = record {
+    denotes = record {
       bin = l;
       order = record { cells = none_sorted nat_cmp; wakes = none_sorted wake_cmp };
       own = record { cells = λ k c i. absurd (nothing_in_nil (k, c) i); wakes = λ u k i. absurd (nothing_in_nil (u, k) i) };
@@ -109,7 +109,7 @@ new_hosted q job its h same legal stage worker new =
       order = record {
         content = rw new.records (All-nil (IsRecordOf q job h.stage));
         records = rw new.records (none_in_order group_rank);
-        states = All-weaker (MayBeHeld q job h.stage) (StateStands q job h.stage) (λ s f. f.stands) h.held fit;
+        states = All-weaker (MayBeHeld q job h.stage) (StateStands q job h.stage) (λ s f. f.denotes) h.held fit;
       };
       posted = All-weaker (MayBeHeld q job h.stage) (WakesArePosted q job h.stage) (λ s f. f.posted) h.held fit;
     }

@@ -76,7 +76,7 @@ module _ {Cell : Type 0} (q : QueryFacts Cell) (job its : JobFacts) (h : Hosted 
 -- what a packet brings may be held
 pub packet_fits : {Cell : Type 0} (q : QueryFacts Cell) → LaterStagesPostNothing q → (job : JobFacts) → OutlineIsSound (outline_of q job) → (j b t : ℕ) (s : BinContent Cell) → IsPacketOf q job j b t s → MayBeHeld q job j (brought b t s)
 packet_fits q nothing job sound j b t s is = record {
-  stands = record { bin = (move_in_shape (outline_of q job) sound j b t is.0).1; order = is.1.order; own = is.1.own };
+  denotes = record { bin = (move_in_shape (outline_of q job) sound j b t is.0).1; order = is.1.order; own = is.1.own };
   posted = λ u k i.
       let p = (is.1.wakes u k (is.1.own.wakes u k i)).0 i in
       let a = record_named q job j (RecName j p.1 k p.3.0) p.3.1 in

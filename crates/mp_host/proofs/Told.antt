@@ -10,7 +10,7 @@ use Rattle.mp_names.specs.Keeping.{IsWaiting}
 use Rattle.mp_stamps.specs.declared.seen.Seen.{Seen}
 use Rattle.mp_bins.specs.Bins.{bin_of_key}
 use Rattle.mp_bins.specs.Notes.{Notes}
-use Rattle.mp_model.specs.declared.limits.TheConstants.{LAST_TIME}
+use Rattle.mp_names.specs.Limits.{last_time}
 use Rattle.mp_model.specs.declared.record.Rec.{Rec}
 use Rattle.mp_model.specs.Facts.{JobFacts, QueryFacts}
 use Rattle.mp_model.specs.QueryLaws.{HasStages, LaterStagesPostNothing, PostsAreLater, SumsFit}
@@ -26,7 +26,7 @@ use Rattle.mp_host_laws.specs.declared.held.Held.{Held}
 use Rattle.mp_host_laws.specs.Hosted.{Hosted, first_group, is_of, records_of, state_before}
 use Rattle.mp_host_laws.specs.Applying.{IsApplied, IsReceived, woken_by}
 use Rattle.mp_host_laws.specs.Moving.{IsPutIn, IsTakenOut, brought}
-use Rattle.mp_host_laws.specs.HostOf.{IsInformed, IsReadyAt, KnowsOwners}
+use Rattle.mp_host_laws.specs.HostOf.{HostMatchesLogAndSeen, IsReadyAt, OwnersAreCurrent}
 use Rattle.mp_host_laws.specs.Laws.{FirstIsWhole, IsWholeHere}
 use Rattle.mp_host_laws.proofs.Applied.{groups_are_held, woken_are_told}
 use Rattle.mp_host_laws.proofs.Firsts.{first_waits}
@@ -87,20 +87,20 @@ module _ {Cell : Type 0} (q : QueryFacts Cell) (keeps : QueryKeeps q) (job its :
         All-weaker (Contains h.records) (λ (r : Rec). ComesNoLater (t, k) (r.time, r.key)) (λ r i. least.1 r.time r.key (record_waits h r.time r.key r i refl refl)) h.records (All-contains_itself h.records)
 
     -- no record is too late
-    pub records_are_in_time : All (λ r. r.time ≤ LAST_TIME) h.records
+    pub records_are_in_time : All (λ r. r.time ≤ last_time) h.records
     records_are_in_time =
         let early = records_in_time q keeps.later keeps.nothing job.events hosted.legal.events h.stage in
-        All-weaker (IsRecordOf q job h.stage) (λ (r : Rec). r.time ≤ LAST_TIME) (λ r is. All-contains (λ (r : Rec). r.time ≤ LAST_TIME) (stage_records q job.events h.stage) r early is.1) h.records hosted.order.content
+        All-weaker (IsRecordOf q job h.stage) (λ (r : Rec). r.time ≤ last_time) (λ r is. All-contains (λ (r : Rec). r.time ≤ last_time) (stage_records q job.events h.stage) r early is.1) h.records hosted.order.content
 
-    pub group_is_in_time : (t k : ℕ) → All (λ r. r.time ≤ LAST_TIME) (records_of h t k)
-    group_is_in_time t k = All-filter (is_of t k) (λ (r : Rec). r.time ≤ LAST_TIME) h.records records_are_in_time
+    pub group_is_in_time : (t k : ℕ) → All (λ r. r.time ≤ last_time) (records_of h t k)
+    group_is_in_time t k = All-filter (is_of t k) (λ (r : Rec). r.time ≤ last_time) h.records records_are_in_time
 
     module _ (seen : Seen) (notes : Notes) where
       -- a group that is ready here is whole
-      pub whole_here : (t k : ℕ) → IsReadyHere job seen notes h t k → (log : Log) × IsInformed q job log seen h × KnowsOwners q job notes seen h.stage → IsWholeHere q job h t k
+      pub whole_here : (t k : ℕ) → IsReadyHere job seen notes h t k → (log : Log) × HostMatchesLogAndSeen q job log seen h × OwnersAreCurrent q job notes seen h.stage → IsWholeHere q job h t k
       whole_here t k ready told = (whole_law hosted.legal told.0 seen h t k hosted.order told.1 hosted.stage hosted.worker ready.first ready.mail ready.state).1
 
-      ready_by_log : (log : Log) → IsInformed q job log seen h → (t k : ℕ) → IsReadyHere job seen notes h t k → IsReadyAt q job log seen h t k
+      ready_by_log : (log : Log) → HostMatchesLogAndSeen q job log seen h → (t k : ℕ) → IsReadyHere job seen notes h t k → IsReadyAt q job log seen h t k
       ready_by_log log informed t k ready = (whole_law hosted.legal log seen h t k hosted.order informed hosted.stage hosted.worker ready.first ready.mail ready.state).0
 
 -- of two groups of a stage the first by time, and then by key, is the lesser
@@ -134,7 +134,7 @@ one_least q job log j t k u l a b =
     ap2 : t ≡ u → k ≡ l → ◌≡◌ {A = ℕ × ℕ} (u, l) (t, k)
     ap2 e f = cc
 
-module _ {Cell : Type 0} (q : QueryFacts Cell) (keeps : QueryKeeps q) (job its : JobFacts) (h : Hosted Cell) (hosted : IsHosted q job its h) (seen : Seen) (notes : Notes) (log : Log) (informed : IsInformed q job log seen h) where
+module _ {Cell : Type 0} (q : QueryFacts Cell) (keeps : QueryKeeps q) (job its : JobFacts) (h : Hosted Cell) (hosted : IsHosted q job its h) (seen : Seen) (notes : Notes) (log : Log) (informed : HostMatchesLogAndSeen q job log seen h) where
   -- the least group that waits by the log is the first here
   least_first : (t k : ℕ) → IsLeast (IsWaiting (outline_of q job) log h.stage) (Group h.stage t k) → first_group h ≡ Some (t, k)
   least_first t k least = found (first_group h) refl
@@ -146,7 +146,7 @@ module _ {Cell : Type 0} (q : QueryFacts Cell) (keeps : QueryKeeps q) (job its :
       found None e = absurd (law.1 e t k least.0)
       found (Some g) e = e ∙ ap (λ (p : ℕ × ℕ). Some p) (one_least q job log h.stage t k g.0 g.1 least (law.0 g.0 g.1 e))
 
-  ready_by_host : KnowsOwners q job notes seen h.stage → (t k : ℕ) → IsReadyAt q job log seen h t k → IsReadyHere job seen notes h t k
+  ready_by_host : OwnersAreCurrent q job notes seen h.stage → (t k : ℕ) → IsReadyAt q job log seen h t k → IsReadyHere job seen notes h t k
   ready_by_host knows t k ready = record {
     first = least_first t k ready.least;
     mail = ready.mail;
@@ -155,7 +155,7 @@ module _ {Cell : Type 0} (q : QueryFacts Cell) (keeps : QueryKeeps q) (job its :
   }
 
   -- a group that is ready here is just the one that is ready by the log
-  pub ready_exact : KnowsOwners q job notes seen h.stage → (r : Option (ℕ × ℕ))
+  pub ready_exact : OwnersAreCurrent q job notes seen h.stage → (r : Option (ℕ × ℕ))
       → IfSome r (λ g. IsReadyHere job seen notes h g.0 g.1) → IfNone r ((t k : ℕ) → IsReadyHere job seen notes h t k → ⊥)
       → (t k : ℕ) → (r ≡ Some (t, k)) ↔ IsReadyAt q job log seen h t k
   ready_exact knows None some none t k = ((λ e. absurd (no_group e)), (λ ready. absurd (none t k (ready_by_host knows t k ready))))

@@ -27,12 +27,12 @@ module _ {Cell : Type 0} (t k b : ℕ) where
   only_its_bins (s ∷ ss) h = rw (only_its_bin s (All-head IsOwn s ss h), only_its_bins ss (All-tail IsOwn s ss h)) refl
 
 -- the states of a host are such: each has wakes of keys of its bin
-module _ {Cell : Type 0} (q : QueryFacts Cell) (job : JobFacts) (h : Hosted Cell) (stands : StandsInOrder q job h) (t k : ℕ) where
+module _ {Cell : Type 0} (q : QueryFacts Cell) (job : JobFacts) (h : Hosted Cell) (denotes : StandsInOrder q job h) (t k : ℕ) where
   pub wakes_are_own : All (IsOwn t k (bin_of_key k job.shape.bins)) h.held
   wakes_are_own =
       All-weaker (StateStands q job h.stage) (IsOwn t k (bin_of_key k job.shape.bins))
       (λ s own e. sym (own.own.wakes t k (wake_in (wakes_in s) t k e)))
-      h.held stands.states
+      h.held denotes.states
 
 -- one of two tests
 pub by_first : (r a b : Bool) → r ≡ a → r ≡ true → r ≡ (a || b)

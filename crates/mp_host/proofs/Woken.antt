@@ -13,7 +13,7 @@ use Rattle.std.proofs.lemmas.Map.Keys.{sorted_head, sorted_tail}
 use Rattle.std.proofs.lemmas.Map.Made.{IsDistinct-from_AllPairs, length-le_from_is_member}
 use Rattle.std.proofs.lemmas.Map.Views.{Contains-from_any, list_any-from_Contains}
 use Rattle.std.proofs.Math.Seq.{drop-cons}
-use Rattle.mp_model.specs.declared.limits.TheConstants.{MAX_EVENTS}
+use Rattle.mp_names.specs.Limits.{most_events}
 use Rattle.mp_model.specs.declared.record.Event.{Event}
 use Rattle.mp_model.specs.declared.record.Rec.{Rec}
 use Rattle.mp_model.specs.Facts.{JobFacts, QueryFacts}
@@ -143,7 +143,7 @@ module _ {Cell : Type 0} (t : ℕ) where
 
 -- the states of a host are in order
 pub in_order : {Cell : Type 0} (q : QueryFacts Cell) (job : JobFacts) (h : Hosted Cell) → StandsInOrder q job h → (t : ℕ) → All (InOrder t) h.held
-in_order q job h stands t = All-weaker (StateStands q job h.stage) (InOrder t) (λ s own. own.order.wakes) h.held stands.states
+in_order q job h denotes t = All-weaker (StateStands q job h.stage) (InOrder t) (λ s own. own.order.wakes) h.held denotes.states
 
 -- the keys that wait at a time: those to be woken, and the others
 pub waiting_counted : {Cell : Type 0} (h : Hosted Cell) (t : ℕ) → IsInOrder group_rank h.records → All (InOrder t) h.held
@@ -190,7 +190,7 @@ module _ {Cell : Type 0} (q : QueryFacts Cell) (nothing : LaterStagesPostNothing
       let a = passing (has_wake_in t k) ss (woken_is t ss k i) in
       All-contains (WakesArePosted q job j) ss a.0 posted a.1 t k (wake_in (wakes_in a.0) t k a.2)
 
-  pub woken_few : (j : ℕ) → All (InOrder t) ss → All (WakesArePosted q job j) ss → length (woken_keys t ss) ≤ MAX_EVENTS
+  pub woken_few : (j : ℕ) → All (InOrder t) ss → All (WakesArePosted q job j) ss → length (woken_keys t ss) ≤ most_events
   woken_few zero order posted =
       let rs = input_records q job.events in
       let within = length_within (woken_keys t ss) (map (λ r. r.key) rs) (woken_once t ss order) (λ k i. let a = record_of_key zero posted k i in map-Contains (λ (r : Rec). r.key) rs k (found_there (λ (r : Rec). r.key ≡ k) rs a.0 a.1 a.2)) in
@@ -210,6 +210,6 @@ woken_step {Cell} t ss i s l is =
     ap (λ (rs : List (Held Cell)). length (woken_keys t rs)) from ∙ length-append (new_keys t s (drop (i + 1) ss)) (woken_keys t (drop (i + 1) ss))
 
 -- what stands in a host is few
-pub hosted_few : {Cell : Type 0} (q : QueryFacts Cell) → LaterStagesPostNothing q → (job its : JobFacts) (h : Hosted Cell) → IsHosted q job its h → (t : ℕ) → length (woken_keys t h.held) ≤ MAX_EVENTS
+pub hosted_few : {Cell : Type 0} (q : QueryFacts Cell) → LaterStagesPostNothing q → (job its : JobFacts) (h : Hosted Cell) → IsHosted q job its h → (t : ℕ) → length (woken_keys t h.held) ≤ most_events
 hosted_few q nothing job its h hosted t =
     woken_few q nothing job hosted.legal.events t h.held h.stage (in_order q job h hosted.order t) hosted.posted

@@ -27,7 +27,7 @@ module _ {Cell : Type 0} (q : QueryFacts Cell) (job : JobFacts) where
 
   -- a state that a host of the stage may have in hand
   pub record MayBeHeld (j : ℕ) (s : Held Cell) : Type 0 where
-    pub stands : StateStands q job j s
+    pub denotes : StateStands q job j s
     pub posted : WakesArePosted j s
 
 -- it is of the job that it was made for, which is legal, on a worker and of a stage that the job has, its records and states stand in order, and records posted its wakes

@@ -8,7 +8,7 @@ ghost use Rattle.mp_model.specs.Stages.{stage_records};
 ghost use Rattle.mp_outline.specs.Laws.{group_at};
 ghost use Rattle.mp_host_laws.specs.Applying.{IsApplied, group_here, posts_here, woken_by};
 ghost use Rattle.mp_host_laws.specs.Hosted.{cell_at, first_group, state_at, waits_at};
-ghost use Rattle.mp_host_laws.specs.HostOf.{IsInformed, KnowsOwners};
+ghost use Rattle.mp_host_laws.specs.HostOf.{HostMatchesLogAndSeen, OwnersAreCurrent};
 ghost use Rattle.mp_host.specs.Ready.{IsReadyHere};
 ghost use Rattle.mp_host.specs.Telling.{AppliesGroup, IfDid};
 
@@ -33,7 +33,7 @@ impl<'a, Q: Query, J: Naming> Host<'a, Q, J> {
     ) -> Result<Option<Applied>, AllocError>
         requires shape { owners.now.shape ≡ J.job.shape }
         requires informed { let q = Q.facts J.job.rules in
-            (log : Log) × IsInformed q J.job log seen.now self.old × KnowsOwners q J.job owners.now seen.now self.old.stage }
+            (log : Log) × HostMatchesLogAndSeen q J.job log seen.now self.old × OwnersAreCurrent q J.job owners.now seen.now self.old.stage }
 
         // Which group, and what became of the host.
         ensures ready { IfDid result (λ a. IsReadyHere J.job seen.now owners.now self.old a.time a.key) }
@@ -47,13 +47,13 @@ impl<'a, Q: Query, J: Naming> Host<'a, Q, J> {
 
         // Whatever the log is.
         ensures held { let q = Q.facts J.job.rules in
-            IfDid result (λ a. (log : Log) → IsInformed q J.job log seen.now self.old
+            IfDid result (λ a. (log : Log) → HostMatchesLogAndSeen q J.job log seen.now self.old
             → AppliesGroup q J.job log seen.now self.old self.new a.time a.key a.woke.items) }
 
         // Otherwise.
         ensures none { IfOk result (λ o. IfNone o ((t k : ℕ) → ¬ IsReadyHere J.job seen.now owners.now self.old t k)) }
-        ensures unchanged { IfOk result (λ o. IfNone o (self.new ≡ self.old)) }
-        ensures refused { OnErr result (self.new ≡ self.old) }
+        ensures idle { IfOk result (λ o. IfNone o (self.new ≡ self.old)) }
+        ensures unchanged { OnErr result (self.new ≡ self.old) }
     {
         let Some((time, key)) = self.first_ready(seen, owners) else {
             return Ok(None);
@@ -77,7 +77,7 @@ impl<'a, Q: Query, J: Naming> Host<'a, Q, J> {
         ensures outputs { let q = Q.facts J.job.rules in let h = self.old in
             IfOk result (λ a. a.outputs.items ≡ q.gives h.stage (cell_at (q.fresh h.stage) J.job.shape.bins h time key) (group_here h time key)) }
         ensures woke { IfOk result (λ a. a.woke.items ≡ woken_by (Q.facts J.job.rules) self.old time key) }
-        ensures refused { OnErr result (self.new ≡ self.old) }
+        ensures unchanged { OnErr result (self.new ≡ self.old) }
     {
         let posts = self.posts(alloc, time, key)?;
         let woke = self.not_waiting(alloc, key, posts.as_slice())?;
@@ -129,7 +129,7 @@ impl<'a, Q: Query, J: Naming> Host<'a, Q, J> {
         ensures applied { OnOk result (IsApplied (Q.facts J.job.rules) J.job time key self.old self.new) }
         ensures outputs { let q = Q.facts J.job.rules in let h = self.old in
             IfOk result (λ v. v.items ≡ q.gives h.stage (cell_at (q.fresh h.stage) J.job.shape.bins h time key) (group_here h time key)) }
-        ensures refused { OnErr result (self.new ≡ self.old) }
+        ensures unchanged { OnErr result (self.new ≡ self.old) }
     {
         let woken = self.is_woken(time, key);
         let Some(at) = self.place_at(time, key) else {

@@ -27,7 +27,7 @@ pub fn step_in<Q: Query>(
         → (get nat_cmp cells.old l ≡ Some c) ⊎ ((l ≡ group.now.key) × (c ≢ q.fresh stage))) }
     ensures outputs { let q = Q.facts (Q.rules query.now) in
         IfOk result (λ v. v.items ≡ q.gives stage (cell_of (q.fresh stage) cells.old group.now.key) group.now) }
-    ensures refused { OnErr result (cells.new.entries ≡ cells.old.entries) }
+    ensures unchanged { OnErr result (cells.new.entries ≡ cells.old.entries) }
     ensures ordered { IsOrdered nat_cmp cells.new }
 {
     let key = group.key();

@@ -10,7 +10,7 @@ ghost use Rattle.mp_outline.specs.JobOutline.{outline_of};
 ghost use Rattle.mp_outline.specs.Laws.{group_at};
 ghost use Rattle.mp_host_laws.specs.Applying.{group_here, posts_here, woken_by};
 ghost use Rattle.mp_host_laws.specs.Hosted.{cell_at, keys_at, state_at};
-ghost use Rattle.mp_host_laws.specs.HostOf.{IsHostOf, IsInformed, KnowsOwners};
+ghost use Rattle.mp_host_laws.specs.HostOf.{IsHostOf, HostMatchesLogAndSeen, OwnersAreCurrent};
 ghost use Rattle.mp_host.specs.Hosts.{IsHosted};
 ghost use Rattle.mp_host.specs.Ready.{IsReadyHere};
 ghost use Rattle.mp_host.specs.Waiting.{begins_unwoken, is_new, new_keys, unwoken_keys, woken_keys};
@@ -106,7 +106,7 @@ impl<'a, Q: Query, J: Naming> Host<'a, Q, J> {
     pub fn most(&self, alloc: Global, seen: &Seen, owners: &Owners) -> u64
         requires shape { owners.now.shape ≡ J.job.shape }
         requires informed { let q = Q.facts J.job.rules in
-            (log : Log) × IsInformed q J.job log seen.now self.now × KnowsOwners q J.job owners.now seen.now self.now.stage }
+            (log : Log) × HostMatchesLogAndSeen q J.job log seen.now self.now × OwnersAreCurrent q J.job owners.now seen.now self.now.stage }
         ensures ready { let q = Q.facts J.job.rules in let h = self.now in
             (t k : ℕ) → IsReadyHere J.job seen.now owners.now h t k
             → result ≡ min (q.most h.stage (cell_at (q.fresh h.stage) J.job.shape.bins h t k) (group_here h t k) + length (posts_here q h t k)) (2 ^ 64 - 1) }

@@ -90,7 +90,7 @@ impl<'a, Q: Query, J: Naming> Host<'a, Q, J> {
         ensures held { OnOk result (TakesRecord (Q.facts J.job.rules) J.job rec self.old self.new) }
         ensures room { OnOk result (self.old.room ≤ self.new.room + 1) }
         ensures for_bins { self.new.room_for_bins ≡ self.old.room_for_bins }
-        ensures refused { OnErr result (self.new ≡ self.old) }
+        ensures unchanged { OnErr result (self.new ≡ self.old) }
         ensures never_refused_with_room { 0 < self.old.room → IsOk result }
     {
         self.records.insert(rec)

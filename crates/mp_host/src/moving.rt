@@ -33,7 +33,7 @@ impl<'a, Q: Query, J: Naming> Host<'a, Q, J> {
             → AreNumbersOf (not_waiting new one.state) v.items) }
         ensures none { IfOk result (λ v. state_before self.now bin time ≡ None → v.items ≡ []) }
         ensures few { IfOk result (λ v. All (λ n. n.1 < 2 ^ 63) v.items) }
-        ensures stands { StandsInOrder (Q.facts J.job.rules) J.job self.now }
+        ensures denotes { StandsInOrder (Q.facts J.job.rules) J.job self.now }
     {
         let mut numbers = Vec::new(alloc);
         let Some(at) = place_before(&self.held, bin, u128::from(time)) else {
@@ -75,7 +75,7 @@ impl<'a, Q: Query, J: Naming> Host<'a, Q, J> {
         requires room { length (ascending (map (λ w. w.0) state.now.wakes)) ≤ vec_capacity numbers.old }
         ensures told { AreNumbersOf (not_waiting self.now state.now) numbers.new.items }
         ensures few { All (λ n. n.1 < 2 ^ 63) numbers.new.items }
-        ensures stands { StandsInOrder (Q.facts J.job.rules) J.job self.now }
+        ensures denotes { StandsInOrder (Q.facts J.job.rules) J.job self.now }
     {
         let _ = &self.held;
         let _ = self.count_waiting(&state.wakes, 0, 0, numbers);

@@ -1,7 +1,7 @@
 //! The times at which the records of a group wake their key.
 ghost use Rattle.std.specs.Prelude.{◌≡◌, ◌≤◌, ◌-◌, ◌^◌, All, IfOk, length, min};
 ghost use Rattle.std.specs.List.{flat_map};
-ghost use Rattle.mp_model.specs.declared.limits.TheConstants.{LAST_TIME};
+ghost use Rattle.mp_names.specs.Limits.{last_time};
 ghost use Rattle.mp_model.specs.Ascending.{ascending};
 
 use mp_model::{Query, Rec, Time};
@@ -14,7 +14,7 @@ pub fn posts_of<Q: Query>(
     stage: u32,
     recs: &[Rec],
 ) -> Result<Vec<Time>, AllocError>
-    requires { All (λ r. r.time ≤ LAST_TIME) recs.now }
+    requires { All (λ r. r.time ≤ last_time) recs.now }
     ensures { IfOk result (λ v. v.items ≡ flat_map ((Q.facts (Q.rules query.now)).posts stage) recs.now) }
 {
     let mut times = Vec::new(alloc);
@@ -34,7 +34,7 @@ pub fn put_in_order(times: &mut Vec<Time>)
 
 /// How many times records post, each time of each of them counted; 2^64 - 1 where there are more.
 pub fn count_posts<Q: Query>(query: &Q, stage: u32, recs: &[Rec]) -> u64
-    requires { All (λ r. r.time ≤ LAST_TIME) recs.now }
+    requires { All (λ r. r.time ≤ last_time) recs.now }
     ensures { result ≡ min (length (flat_map ((Q.facts (Q.rules query.now)).posts stage) recs.now)) (2 ^ 64 - 1) }
 {
     let mut count: u64 = 0;

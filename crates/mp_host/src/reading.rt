@@ -4,7 +4,7 @@ ghost use Rattle.mp_names.specs.Logs.{Log};
 ghost use Rattle.mp_bins.specs.Bins.{bin_of_key};
 ghost use Rattle.mp_bins.specs.Notes.{owner_at};
 ghost use Rattle.mp_host_laws.specs.Hosted.{first_group, is_held_before};
-ghost use Rattle.mp_host_laws.specs.HostOf.{IsInformed, IsReadyAt, KnowsOwners};
+ghost use Rattle.mp_host_laws.specs.HostOf.{HostMatchesLogAndSeen, IsReadyAt, OwnersAreCurrent};
 ghost use Rattle.mp_host.specs.Hosts.{IsHosted};
 ghost use Rattle.mp_host.specs.Ready.{IsReadyHere};
 
@@ -24,7 +24,7 @@ impl<'a, Q: Query, J: Naming> Host<'a, Q, J> {
         ensures some { IfSome result (λ g. IsReadyHere J.job seen.now owners.now self.now g.0 g.1) }
         ensures none { IfNone result ((t k : ℕ) → ¬ IsReadyHere J.job seen.now owners.now self.now t k) }
         ensures exact { let q = Q.facts J.job.rules in
-            (log : Log) → IsInformed q J.job log seen.now self.now → KnowsOwners q J.job owners.now seen.now self.now.stage
+            (log : Log) → HostMatchesLogAndSeen q J.job log seen.now self.now → OwnersAreCurrent q J.job owners.now seen.now self.now.stage
             → (t k : ℕ) → ((result ≡ Some (t, k)) ↔ IsReadyAt q J.job log seen.now self.now t k) }
     {
         self.first_ready(seen, owners)

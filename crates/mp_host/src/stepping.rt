@@ -35,7 +35,7 @@ pub fn step_state<Q: Query>(
         → Contains state.old.cells (l, c) ⊎ ((l ≡ group.now.key) × (c ≢ q.fresh stage))) }
     ensures outputs { let q = Q.facts (Q.rules query.now) in
         IfOk result (λ v. v.items ≡ q.gives stage (cell_in (q.fresh stage) state.old.cells group.now.key) group.now) }
-    ensures refused { OnErr result (state.new ≡ state.old) }
+    ensures unchanged { OnErr result (state.new ≡ state.old) }
     ensures in_order { IsInOrder state.new }
 {
     let key = group.key();

@@ -120,7 +120,7 @@ taken_same log j t k (Some m) u l quiet =
     (cases_lt u m)
 
 module _ {Cell : Type 0} (q : QueryFacts Cell) (nothing : LaterStagesPostNothing q) (job : JobFacts) (sound : OutlineIsSound (outline_of q job)) (log : Log) (h : Hosted Cell) (t k : ℕ)
-    (host : IsHostOf q job log h) (legal : LogIsLegal (outline_of q job) h.worker log) (stands : StandsInOrder q job h) (below : h.stage < job.shape.stages)
+    (host : IsHostOf q job log h) (legal : LogIsLegal (outline_of q job) h.worker log) (denotes : StandsInOrder q job h) (below : h.stage < job.shape.stages)
     (full : GroupIsWhole (outline_of q job) h.worker log h.stage t k) (unapplied : has log.applied (Group h.stage t k) ≡ false) (group : In (Group h.stage t k) (groups_of (outline_of q job) h.stage)) where
   -- What the group's records post
 
@@ -151,7 +151,7 @@ module _ {Cell : Type 0} (q : QueryFacts Cell) (nothing : LaterStagesPostNothing
       let own = same_parts j j r.time t r.key k r.tag g a.2 in
       let posts = post_named q nothing job j r u a.1 (subst (λ (x : Name). is_posted o x u ≡ true) (sym a.2) p.2) in
       let here = in_group q job j t k r a.1 own.0 own.1 in
-      let whole = records_are_whole q nothing job sound log h t k host legal stands below full unapplied group in
+      let whole = records_are_whole q nothing job sound log h t k host legal denotes below full unapplied group in
       let there = subst (λ (rs : List Rec). Contains rs r) (sym whole) here in
       flat_map-Contains (q.posts j) (records_of h t k) u (found_there (λ (r : Rec). Contains (q.posts j r) u) (records_of h t k) r there posts)
 
@@ -165,7 +165,7 @@ module _ {Cell : Type 0} (q : QueryFacts Cell) (nothing : LaterStagesPostNothing
   post_unapplied : (u : ℕ) → Contains (posts_here q h t k) u → has (with_applied log (Group h.stage t k)).applied (Group h.stage u k) ≡ false
   post_unapplied u i =
       let later : t < u = posted_later t k u (post_is_posted u i) in
-      still_unapplied log h.stage t k u k (λ e. let s : t ≡ u = e.0 in omega arith) ∙ later_unapplied q nothing job sound log h t k host legal stands below full unapplied group u (omega arith)
+      still_unapplied log h.stage t k u k (λ e. let s : t ≡ u = e.0 in omega arith) ∙ later_unapplied q nothing job sound log h t k host legal denotes below full unapplied group u (omega arith)
 
   -- The records afterwards
 
@@ -239,9 +239,9 @@ module _ {Cell : Type 0} (q : QueryFacts Cell) (nothing : LaterStagesPostNothing
         let j = h.stage in
         let after = with_applied log (Group j t k) in
         let timeline = timeline_of q job j k in
-        let cell = state_cell q nothing job sound log h t k host legal stands below full unapplied group a stays one there bin since in
-        let whole = group_is_whole q nothing job sound log h t k host legal stands below full unapplied group in
-        let upto = fold_upto (λ (e : Entry). e.time) (q.step j) (q.fresh j) (λ (e : Entry). is_taken_in after j a e.time k) t (group_at q job j t k) timeline (timeline_rises q j k (stage_records q job.events j)) (on_timeline q nothing job sound log h t k host legal stands below full unapplied group) refl early late in
+        let cell = state_cell q nothing job sound log h t k host legal denotes below full unapplied group a stays one there bin since in
+        let whole = group_is_whole q nothing job sound log h t k host legal denotes below full unapplied group in
+        let upto = fold_upto (λ (e : Entry). e.time) (q.step j) (q.fresh j) (λ (e : Entry). is_taken_in after j a e.time k) t (group_at q job j t k) timeline (timeline_rises q j k (stage_records q job.events j)) (on_timeline q nothing job sound log h t k host legal denotes below full unapplied group) refl early late in
         ap (λ (c : Cell). q.step j c (group_here h t k)) cell ∙ ap (q.step j (cell_before q j (stage_records q job.events j) k t)) whole ∙ sym upto
       where
         early : (e : Entry) → Contains (timeline_of q job h.stage k) e → e.time ≤ t → is_taken_in (with_applied log (Group h.stage t k)) h.stage a e.time k ≡ true
@@ -250,7 +250,7 @@ module _ {Cell : Type 0} (q : QueryFacts Cell) (nothing : LaterStagesPostNothing
             (λ (s : e.time ≡ t). taken_now log h.stage t k a e.time k s refl)
             (λ (s : (e.time < t) ⊎ (t < e.time)).
             ⊎_elim
-            (λ (m : e.time < t). taken_still log h.stage (Group h.stage t k) a e.time k (earlier_taken q nothing job sound log h t k host legal stands below full unapplied group a stays e i m))
+            (λ (m : e.time < t). taken_still log h.stage (Group h.stage t k) a e.time k (earlier_taken q nothing job sound log h t k host legal denotes below full unapplied group a stays e i m))
             (λ (m : t < e.time). absurd (omega arith))
             s)
             (cases_order e.time t)
@@ -258,7 +258,7 @@ module _ {Cell : Type 0} (q : QueryFacts Cell) (nothing : LaterStagesPostNothing
         late : (e : Entry) → Contains (timeline_of q job h.stage k) e → t < e.time → is_taken_in (with_applied log (Group h.stage t k)) h.stage a e.time k ≡ false
         late e i l =
             sym (taken_same log h.stage t k a e.time k (λ s. let same : t ≡ e.time = s.0 in absurd (omega arith)))
-            ∙ later_not_taken q nothing job sound log h t k host legal stands below full unapplied group a (stay_began (outline_of q job) log h.stage (bin_of_key k job.shape.bins) (suc t) a stays) e.time (omega arith)
+            ∙ later_not_taken q nothing job sound log h t k host legal denotes below full unapplied group a (stay_began (outline_of q job) log h.stage (bin_of_key k job.shape.bins) (suc t) a stays) e.time (omega arith)
 
     cells_after : (l : ℕ) → bin_of_key l job.shape.bins ≡ one.bin
         → cell_in (q.fresh h.stage) changed.state.cells l ≡ fold_of q h.stage (q.fresh h.stage) (filter (λ e. is_taken_in (with_applied log (Group h.stage t k)) h.stage one.since e.time l) (timeline_of q job h.stage l))
@@ -334,7 +334,7 @@ module _ {Cell : Type 0} (q : QueryFacts Cell) (nothing : LaterStagesPostNothing
     other_after : (s : Held Cell) → Contains h.held s → ((s.bin ≡ applied.held.one.bin) × (s.since ≡ applied.held.one.since) → ⊥) → IsStateOf q job (with_applied log (Group h.stage t k)) h.stage s
     other_after s i apart =
         let b = bin_of_key k job.shape.bins in
-        let there = (state_here q nothing job sound log h t k host legal stands below full unapplied group).2 in
+        let there = (state_here q nothing job sound log h t k host legal denotes below full unapplied group).2 in
         let one = there.only applied.held.one one_there applied.held.found in
         other_is s (All-contains (IsStateOf q job log h.stage) h.held s host.states i) (λ bin. false_from_ne_true (began_before (suc t) s.since) (λ began.
         let own = there.only s i (and_from (s.bin == b) (began_before (suc t) s.since) (eq-eqb s.bin b bin) began) in
@@ -343,7 +343,7 @@ module _ {Cell : Type 0} (q : QueryFacts Cell) (nothing : LaterStagesPostNothing
     states_after : All (IsStateOf q job (with_applied log (Group h.stage t k)) h.stage) new.held
     states_after =
         let c = applied.held in
-        let here = state_here q nothing job sound log h t k host legal stands below full unapplied group in
+        let here = state_here q nothing job sound log h t k host legal denotes below full unapplied group in
         let own = here.2.only c.one one_there c.found in
         let back : (z : Held Cell) → Contains (c.front ++ c.one ∷ c.rest) z → Contains h.held z = λ z i. subst (λ (l : List (Held Cell)). Contains l z) (sym c.was) i in
         subst (All (IsStateOf q job (with_applied log (Group h.stage t k)) h.stage)) (sym c.is)
@@ -391,7 +391,7 @@ module _ {Cell : Type 0} (q : QueryFacts Cell) (nothing : LaterStagesPostNothing
       let j = h.stage in
       let b = o.bin_of k in
       let p = post_is_posted u i in
-      let still = false_from_ne_true (left_since log j b t) (λ e. let r = left_at log j b t e in none_sent q nothing job sound log h t k host legal stands below full unapplied group r.0 r.1 r.2) in
+      let still = false_from_ne_true (left_since log j b t) (λ e. let r = left_at log j b t e in none_sent q nothing job sound log h t k host legal denotes below full unapplied group r.0 r.1 r.2) in
       here_wake o (with_applied log (Group j t k)) j u k (t, p.0, p.1, p.2, inl (push_has log.applied (Group j t k), still))
 
   -- a wake of the key that is here then was here before, or they post it
@@ -418,7 +418,7 @@ module _ {Cell : Type 0} (q : QueryFacts Cell) (nothing : LaterStagesPostNothing
       let after = with_applied log (Group j t k) in
       let posts = posts_here q h t k in
       let quiet : ℕ → Bool = λ u. not (waits_at h u k) in
-      let waits = waits_is_pending q job sound log h host legal stands u k in (
+      let waits = waits_is_pending q job sound log h host legal denotes u k in (
         (λ i.
             let a = Contains-filter quiet posts u (Contains-ascending (filter quiet posts) u i) in
             (wake_pends o after j u k (post_unapplied u a.0) (post_wakes u a.0), sym waits ∙ not-true (waits_at h u k) a.1)),
@@ -439,15 +439,15 @@ module _ {Cell : Type 0} (q : QueryFacts Cell) (nothing : LaterStagesPostNothing
 
 module _ {Cell : Type 0} (q : QueryFacts Cell) (nothing : LaterStagesPostNothing q) (job : JobFacts) (sound : OutlineIsSound (outline_of q job)) where
   pub groups_are_held : GroupsAreHeld q job
-  groups_are_held log seen old new t k stands informed below inside first mail state applied =
-      let full = full_here q job sound log seen old t k stands informed below first mail state in
-      let least = least_here q job sound log seen old t k stands informed below first mail state in
-      let unapplied = unapplied_here q job sound log seen old t k stands informed below first mail state in
-      applied_held q nothing job sound log old t k informed.host informed.legal stands below full unapplied least.0.0 new applied
+  groups_are_held log seen old new t k denotes informed below inside first mail state applied =
+      let full = full_here q job sound log seen old t k denotes informed below first mail state in
+      let least = least_here q job sound log seen old t k denotes informed below first mail state in
+      let unapplied = unapplied_here q job sound log seen old t k denotes informed below first mail state in
+      applied_held q nothing job sound log old t k informed.host informed.legal denotes below full unapplied least.0.0 new applied
 
   pub woken_are_told : WokenAreTold q job
-  woken_are_told log seen h t k u stands informed below inside first mail state =
-      let full = full_here q job sound log seen h t k stands informed below first mail state in
-      let least = least_here q job sound log seen h t k stands informed below first mail state in
-      let unapplied = unapplied_here q job sound log seen h t k stands informed below first mail state in
-      woken_told q nothing job sound log h t k informed.host informed.legal stands below full unapplied least.0.0 u
+  woken_are_told log seen h t k u denotes informed below inside first mail state =
+      let full = full_here q job sound log seen h t k denotes informed below first mail state in
+      let least = least_here q job sound log seen h t k denotes informed below first mail state in
+      let unapplied = unapplied_here q job sound log seen h t k denotes informed below first mail state in
+      woken_told q nothing job sound log h t k informed.host informed.legal denotes below full unapplied least.0.0 u

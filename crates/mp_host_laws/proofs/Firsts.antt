@@ -136,7 +136,7 @@ module _ {Cell : Type 0} where
       (wakes_first (wakes_in s) (h s (Contains-here s ss)))
       (states_first ss (λ r i. h r (Contains-later s r ss i))))
 
-module _ {Cell : Type 0} (q : QueryFacts Cell) (job : JobFacts) (h : Hosted Cell) (stands : StandsInOrder q job h) where
+module _ {Cell : Type 0} (q : QueryFacts Cell) (job : JobFacts) (h : Hosted Cell) (denotes : StandsInOrder q job h) where
   -- the first group that waits is the first of all that wait
   first_is_first : IsFirst (λ u l. waits_at h u l ≡ true) (first_group h)
   first_is_first =
@@ -149,8 +149,8 @@ module _ {Cell : Type 0} (q : QueryFacts Cell) (job : JobFacts) (h : Hosted Cell
       (λ u l i. or_cases (list_any (is_of u l) h.records) (has_wake_at h u l) i)
       (first_group h)
       (earlier_is (λ u l. list_any (is_of u l) h.records ≡ true) (λ u l. has_wake_at h u l ≡ true) (first_record h) (first_wake_of h.held)
-      (records_first h.records stands.records)
-      (states_first h.held (λ s i. (All-contains (StateStands q job h.stage) h.held s stands.states i).order.wakes)))
+      (records_first h.records denotes.records)
+      (states_first h.held (λ s i. (All-contains (StateStands q job h.stage) h.held s denotes.states i).order.wakes)))
 
   -- it waits, and what waits isn't before it
   pub first_waits : (t k : ℕ) → first_group h ≡ Some (t, k) → (waits_at h t k ≡ true) × ((u l : ℕ) → waits_at h u l ≡ true → ComesNoLater (t, k) (u, l))

@@ -147,11 +147,11 @@ module _ {Cell : Type 0} (q : QueryFacts Cell) (job : JobFacts) (sound : Outline
 
     -- so a state of the stay is what the bin has just before the move
     left_state : (s : Held Cell) → Contains h.held s → s.bin ≡ b → StaysSince (outline_of q job) log h.stage b t s.since → StateStands q job h.stage s → IsStateBefore q job h.stage b t s.state
-    left_state s here bin stays stands =
+    left_state s here bin stays denotes =
         let st = All-contains (IsStateOf q job log h.stage) h.held s host.states here in
         record {
-          order = stands.order;
-          own = subst (λ (c : ℕ). IsOfBin q job h.stage c s.state) bin stands.own;
+          order = denotes.order;
+          own = subst (λ (c : ℕ). IsOfBin q job h.stage c s.state) bin denotes.own;
           cells = left_cells s bin stays st;
           wakes = left_wakes s bin stays st;
         }

@@ -76,7 +76,7 @@ module _ {Cell : Type 0} (q : QueryFacts Cell) (job : JobFacts) (log : Log) (h :
   pub state_is : (s : Held Cell) → Contains h.held s → IsStateOf q job log h.stage s
   state_is s i = All-contains (IsStateOf q job log h.stage) h.held s host.states i
 
-module _ {Cell : Type 0} (q : QueryFacts Cell) (job : JobFacts) (sound : OutlineIsSound (outline_of q job)) (log : Log) (h : Hosted Cell) (host : IsHostOf q job log h) (legal : LogIsLegal (outline_of q job) h.worker log) (stands : StandsInOrder q job h) where
+module _ {Cell : Type 0} (q : QueryFacts Cell) (job : JobFacts) (sound : OutlineIsSound (outline_of q job)) (log : Log) (h : Hosted Cell) (host : IsHostOf q job log h) (legal : LogIsLegal (outline_of q job) h.worker log) (denotes : StandsInOrder q job h) where
   -- a wake by the log, of a group that isn't applied, is one of a state that is here
   pub log_wake_here : (t k : ℕ) → has_wake (outline_of q job) log h.stage t k ≡ true → has log.applied (Group h.stage t k) ≡ false → has_wake_at h t k ≡ true
   log_wake_here t k e unapplied =
@@ -89,7 +89,7 @@ module _ {Cell : Type 0} (q : QueryFacts Cell) (job : JobFacts) (sound : Outline
 
   -- the bin of a wake's key is its state's
   pub wake_bin : (s : Held Cell) (t k : ℕ) → Contains h.held s → Has (wakes_in s) t k → bin_of_key k job.shape.bins ≡ s.bin
-  wake_bin s t k i w = (All-contains (StateStands q job h.stage) h.held s stands.states i).own.wakes t k w
+  wake_bin s t k i w = (All-contains (StateStands q job h.stage) h.held s denotes.states i).own.wakes t k w
 
   -- and the other way round
   pub wake_in_log : (t k : ℕ) → has_wake_at h t k ≡ true → (has_wake (outline_of q job) log h.stage t k ≡ true) × (has log.applied (Group h.stage t k) ≡ false)

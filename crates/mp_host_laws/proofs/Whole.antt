@@ -36,7 +36,7 @@ use Rattle.mp_msg.specs.States.{cell_in}
 use Rattle.mp_host_laws.specs.declared.held.Held.{Held}
 use Rattle.mp_host_laws.specs.Hosted.{Hosted, StandsInOrder, began_before, cell_at, first_group, group_rank, has_wake_at, is_of, records_of}
 use Rattle.mp_host_laws.specs.Applying.{group_here}
-use Rattle.mp_host_laws.specs.HostOf.{IsHostOf, IsInformed, IsReadyAt, IsStateOf, is_taken_in}
+use Rattle.mp_host_laws.specs.HostOf.{IsHostOf, HostMatchesLogAndSeen, IsReadyAt, IsStateOf, is_taken_in}
 use Rattle.mp_host_laws.specs.Laws.{FirstIsWhole, IsWholeHere}
 use Rattle.mp_host_laws.proofs.Groups.{in_group, of_group}
 use Rattle.mp_host_laws.proofs.Least.{first_least}
@@ -97,7 +97,7 @@ fits_at q j cell e (f ∷ es) h i fits =
     (Contains-cases f e es i)
 
 module _ {Cell : Type 0} (q : QueryFacts Cell) (nothing : LaterStagesPostNothing q) (job : JobFacts) (sound : OutlineIsSound (outline_of q job)) (log : Log) (h : Hosted Cell) (t k : ℕ)
-    (host : IsHostOf q job log h) (legal : LogIsLegal (outline_of q job) h.worker log) (stands : StandsInOrder q job h) (below : h.stage < job.shape.stages)
+    (host : IsHostOf q job log h) (legal : LogIsLegal (outline_of q job) h.worker log) (denotes : StandsInOrder q job h) (below : h.stage < job.shape.stages)
     (full : GroupIsWhole (outline_of q job) h.worker log h.stage t k) (unapplied : has log.applied (Group h.stage t k) ≡ false) (group : In (Group h.stage t k) (groups_of (outline_of q job) h.stage)) where
   -- The records
 
@@ -130,7 +130,7 @@ module _ {Cell : Type 0} (q : QueryFacts Cell) (nothing : LaterStagesPostNothing
 
   -- those that are here stand apart and in the order of their ranks
   here_stands : Pairs (λ r s. (is_before (group_rank s) (group_rank r) ≡ false) × (r ≢ s)) h.records
-  here_stands = Pairs-AllPairs (λ (r s : Rec). (is_before (group_rank s) (group_rank r) ≡ false) × (r ≢ s)) h.records (λ i j d l m. (stands.records i j d l m, host.once i j d l m))
+  here_stands = Pairs-AllPairs (λ (r s : Rec). (is_before (group_rank s) (group_rank r) ≡ false) × (r ≢ s)) h.records (λ i j d l m. (denotes.records i j d l m, host.once i j d l m))
 
   here_in_order : Pairs (λ r s. TagIsBefore r.tag s.tag) (records_of h t k)
   here_in_order =
@@ -152,7 +152,7 @@ module _ {Cell : Type 0} (q : QueryFacts Cell) (nothing : LaterStagesPostNothing
   -- The wake
 
   wake_is_known : has_wake_at h t k ≡ (group_at q job h.stage t k).woken
-  wake_is_known = same_test (has_wake_at h t k) (has_wake (outline_of q job) log h.stage t k) (λ e. (wake_in_log q job sound log h host legal stands t k e).0) (λ e. log_wake_here q job sound log h host legal stands t k e unapplied) ∙ full.wake_known ∙ wakes_are q nothing job h.stage t k below
+  wake_is_known = same_test (has_wake_at h t k) (has_wake (outline_of q job) log h.stage t k) (λ e. (wake_in_log q job sound log h host legal denotes t k e).0) (λ e. log_wake_here q job sound log h host legal denotes t k e unapplied) ∙ full.wake_known ∙ wakes_are q nothing job h.stage t k below
 
   pub group_is_whole : group_here h t k ≡ group_at q job h.stage t k
   group_is_whole =
@@ -246,10 +246,10 @@ module _ {Cell : Type 0} (q : QueryFacts Cell) (nothing : LaterStagesPostNothing
   }
 
 module _ {Cell : Type 0} (q : QueryFacts Cell) (job : JobFacts) (sound : OutlineIsSound (outline_of q job)) (log : Log) (seen : Seen) (h : Hosted Cell) (t k : ℕ)
-    (stands : StandsInOrder q job h) (informed : IsInformed q job log seen h) (below : h.stage < job.shape.stages) (first : first_group h ≡ Some (t, k))
+    (denotes : StandsInOrder q job h) (informed : HostMatchesLogAndSeen q job log seen h) (below : h.stage < job.shape.stages) (first : first_group h ≡ Some (t, k))
     (mail : HasPassed (seen_at seen (Mail h.stage)) t) (state : HasPassed (seen_at seen (State h.stage)) t) where
   pub least_here : IsLeast (IsWaiting (outline_of q job) log h.stage) (Group h.stage t k)
-  least_here = first_least q job sound log h informed.host informed.legal stands t k first
+  least_here = first_least q job sound log h informed.host informed.legal denotes t k first
 
   pub full_here : GroupIsWhole (outline_of q job) h.worker log h.stage t k
   full_here = whole (outline_of q job) sound h.worker log informed.legal h.stage t k least_here (informed.done (Mail h.stage) t below mail) (informed.done (State h.stage) t below state)
@@ -262,8 +262,8 @@ module _ {Cell : Type 0} (q : QueryFacts Cell) (job : JobFacts) (sound : Outline
 
 module _ {Cell : Type 0} (q : QueryFacts Cell) (nothing : LaterStagesPostNothing q) (fit : SumsFit q) (job : JobFacts) (legal : JobIsLegal q job) (sound : OutlineIsSound (outline_of q job)) where
   pub first_is_whole : FirstIsWhole q job
-  first_is_whole log seen h t k stands informed below inside first mail state =
-      let full = full_here q job sound log seen h t k stands informed below first mail state in
-      let least = least_here q job sound log seen h t k stands informed below first mail state in
-      let unapplied = unapplied_here q job sound log seen h t k stands informed below first mail state in
-      (ready_here q job sound log seen h t k stands informed below first mail state, is_whole_here q nothing job sound log h t k informed.host informed.legal stands below full unapplied least.0.0 fit legal)
+  first_is_whole log seen h t k denotes informed below inside first mail state =
+      let full = full_here q job sound log seen h t k denotes informed below first mail state in
+      let least = least_here q job sound log seen h t k denotes informed below first mail state in
+      let unapplied = unapplied_here q job sound log seen h t k denotes informed below first mail state in
+      (ready_here q job sound log seen h t k denotes informed below first mail state, is_whole_here q nothing job sound log h t k informed.host informed.legal denotes below full unapplied least.0.0 fit legal)

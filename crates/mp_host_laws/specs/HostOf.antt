@@ -63,13 +63,13 @@ module _ {Cell : Type 0} (q : QueryFacts Cell) (job : JobFacts) where
     pub states : All (IsStateOf log h.stage) h.held
 
   -- What a host is asked by: it holds what a legal log of its worker says, and in that log all is done that was seen to be over
-  pub record IsInformed (log : Log) (seen : Seen) (h : Hosted Cell) : Type 0 where
+  pub record HostMatchesLogAndSeen (log : Log) (seen : Seen) (h : Hosted Cell) : Type 0 where
     pub host : IsHostOf log h
     pub legal : LogIsLegal (outline_of q job) h.worker log
     pub done : (at : Loc) (t : ℕ) → HasLoc job.shape.stages at → HasPassed (seen_at seen at) t → IsClosedForOne (outline_of q job) h.worker log at t
 
   -- every control record whose time the frontier of packets has passed is noted: up to there the owners are the job's
-  pub record KnowsOwners (notes : Notes) (seen : Seen) (stage : ℕ) : Type 0 where
+  pub record OwnersAreCurrent (notes : Notes) (seen : Seen) (stage : ℕ) : Type 0 where
     pub shape : notes.shape ≡ job.shape
     pub owners : (t b : ℕ) → HasPassed (seen_at seen (State stage)) t → noted_owner notes stage b t ≡ owner_at (outline_of q job) stage b t
 

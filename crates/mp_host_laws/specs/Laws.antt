@@ -22,7 +22,7 @@ use Rattle.mp_host_laws.specs.declared.held.Held.{Held}
 use Rattle.mp_host_laws.specs.Hosted.{Hosted, IsNew, StandsInOrder, cell_at, first_group, keys_at, state_at, state_before}
 use Rattle.mp_host_laws.specs.Applying.{IsApplied, IsReceived, group_here, woken_by}
 use Rattle.mp_host_laws.specs.Moving.{IsPutIn, IsTakenOut, brought, not_waiting}
-use Rattle.mp_host_laws.specs.HostOf.{IsHostOf, IsInformed, IsReadyAt}
+use Rattle.mp_host_laws.specs.HostOf.{IsHostOf, HostMatchesLogAndSeen, IsReadyAt}
 
 module _ {Cell : Type 0} (q : QueryFacts Cell) (job : JobFacts) where
   -- a new host holds what the empty log says
@@ -63,7 +63,7 @@ module _ {Cell : Type 0} (q : QueryFacts Cell) (job : JobFacts) where
   FirstIsWhole =
       (log : Log) (seen : Seen) (h : Hosted Cell) (t k : ℕ)
       → StandsInOrder q job h
-      → IsInformed q job log seen h
+      → HostMatchesLogAndSeen q job log seen h
       → h.stage < job.shape.stages
       → h.worker < job.shape.workers
       → first_group h ≡ Some (t, k)
@@ -76,7 +76,7 @@ module _ {Cell : Type 0} (q : QueryFacts Cell) (job : JobFacts) where
   GroupsAreHeld =
       (log : Log) (seen : Seen) (old new : Hosted Cell) (t k : ℕ)
       → StandsInOrder q job old
-      → IsInformed q job log seen old
+      → HostMatchesLogAndSeen q job log seen old
       → old.stage < job.shape.stages
       → old.worker < job.shape.workers
       → first_group old ≡ Some (t, k)
@@ -90,7 +90,7 @@ module _ {Cell : Type 0} (q : QueryFacts Cell) (job : JobFacts) where
   WokenAreTold =
       (log : Log) (seen : Seen) (h : Hosted Cell) (t k u : ℕ)
       → StandsInOrder q job h
-      → IsInformed q job log seen h
+      → HostMatchesLogAndSeen q job log seen h
       → h.stage < job.shape.stages
       → h.worker < job.shape.workers
       → first_group h ≡ Some (t, k)

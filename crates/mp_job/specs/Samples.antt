@@ -2,7 +2,7 @@
 use Rattle.std.specs.Prelude.{ℕ, zero, suc, ◌+◌, ◌≤◌, true, Option, None, Some, IsSome, List, [], ◌∷◌}
 use Rattle.std.proofs.Common.{refl, arith}
 use Rattle.std.proofs.lemmas.List.Elements.{All-nil}
-use Rattle.mp_model.specs.declared.limits.TheConstants.{MAX_TIME}
+use Rattle.mp_names.specs.Limits.{greatest_time}
 use Rattle.mp_model.specs.declared.record.Rec.{Rec}
 use Rattle.mp_model.specs.declared.value.Value.{Value}
 use Rattle.mp_model.specs.declared.value.Value.TheVariants.{Bid}
@@ -41,7 +41,7 @@ bids_have_stages = (omega arith, omega arith)
 
 -- ten later is later, and not too late
 pub bids_post_later : PostsAreLater waking_bids
-bids_post_later r h = let early : r.time ≤ MAX_TIME = h.in_time in (omega arith, omega arith, tt)
+bids_post_later r h = let early : r.time ≤ greatest_time = h.in_time in (omega arith, omega arith, tt)
 
 -- later stages post nothing
 pub bids_post_once : LaterStagesPostNothing waking_bids

@@ -4,7 +4,6 @@
 
 mod job;
 mod laws;
-pub mod limits;
 mod records;
 mod shares;
 #[cfg(test)]

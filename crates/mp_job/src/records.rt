@@ -1,6 +1,6 @@
 //! The record of an event.
 ghost use Rattle.std.specs.Prelude.{◌≡◌, ◌≤◌, ℕ, IfOk, is_some};
-ghost use Rattle.mp_model.specs.declared.limits.TheConstants.{LAST_TIME};
+ghost use Rattle.mp_names.specs.Limits.{last_time};
 ghost use Rattle.mp_model.specs.Stages.{record_of};
 
 use mp_model::{Event, Query, Rec, Tag};
@@ -8,7 +8,7 @@ use std::alloc::AllocError;
 
 /// The record of the event of this index, if its value has a key in stage 0. `AllocError`: no memory for its value.
 pub fn record_of<Q: Query>(query: &Q, index: u32, event: &Event) -> Result<Option<Rec>, AllocError>
-    requires { event.now.time ≤ LAST_TIME }
+    requires { event.now.time ≤ last_time }
     ensures { IfOk result (λ rec. rec ≡ record_of (Q.facts (Q.rules query.now)) index event.now) }
 {
     match query.key(0, event.time, &event.value) {
@@ -24,7 +24,7 @@ pub fn record_of<Q: Query>(query: &Q, index: u32, event: &Event) -> Result<Optio
 
 /// Whether the event has a record, whatever its index.
 pub fn makes_record<Q: Query>(query: &Q, event: &Event) -> bool
-    requires { event.now.time ≤ LAST_TIME }
+    requires { event.now.time ≤ last_time }
     ensures { (index : ℕ) → result ≡ is_some (record_of (Q.facts (Q.rules query.now)) index event.now) }
 {
     query.key(0, event.time, &event.value).is_some()

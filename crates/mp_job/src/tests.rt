@@ -1,8 +1,7 @@
 //! The worked values, each call that allocates once with ample memory.
 ghost use Rattle.std.specs.Prelude.{◌≡◌, ◌≤◌, ◌<◌, [], IfOk, length, refl};
-ghost use Rattle.mp_model.specs.declared.limits.TheConstants.{MAX_EVENTS};
+ghost use Rattle.mp_names.specs.Limits.{most_controls, most_events};
 ghost use Rattle.mp_model.specs.Legal.{EventIsLegal, EventsAreLegal};
-ghost use Rattle.mp_job.specs.declared.limits.TheConstants.{MAX_CONTROLS};
 ghost use Rattle.mp_job.specs.Legal.{ControlFits, ControlsFit};
 ghost use Rattle.mp_job.specs.Samples.{bids_fit, bids_give_nothing, bids_have_keys, bids_have_stages};
 ghost use Rattle.mp_job.specs.Samples.{bids_post_later, bids_post_once, bids_stay_fresh, waking_bids};
@@ -113,7 +112,7 @@ fn event_at(time: u32, is_bid: bool) -> Event
 }
 
 fn events_of(alloc: Global, table: &[(u32, bool)]) -> Result<Vec<Event>, AllocError>
-    requires { length table.now ≤ MAX_EVENTS }
+    requires { length table.now ≤ most_events }
     ensures { IfOk result (λ v. EventsAreLegal v.items) }
 {
     let mut events = Vec::new(alloc);
@@ -124,7 +123,7 @@ fn events_of(alloc: Global, table: &[(u32, bool)]) -> Result<Vec<Event>, AllocEr
 }
 
 fn controls_at(alloc: Global, times: &[u32]) -> Result<Vec<Control>, AllocError>
-    requires { length times.now ≤ MAX_CONTROLS }
+    requires { length times.now ≤ most_controls }
     ensures { IfOk result (λ v. ControlsFit SHAPE v.items) }
 {
     let mut controls = Vec::new(alloc);
@@ -144,8 +143,8 @@ fn job_of(
     table: &[(u32, bool)],
     control_times: &[u32],
 ) -> Result<Job<WakingBids>, AllocError>
-    requires events { length table.now ≤ MAX_EVENTS }
-    requires controls { length control_times.now ≤ MAX_CONTROLS }
+    requires events { length table.now ≤ most_events }
+    requires controls { length control_times.now ≤ most_controls }
     ensures { IfOk result (λ job. job.shape ≡ SHAPE) }
 {
     let events = events_of(alloc, table)?;

@@ -1,6 +1,6 @@
 //! The times at which something happens.
 ghost use Rattle.std.specs.Prelude.{◌≡◌, ◌≤◌, ◌++◌, ◌∷◌, IfOk, OnOk, option_to_list};
-ghost use Rattle.mp_model.specs.declared.limits.TheConstants.{LAST_TIME};
+ghost use Rattle.mp_names.specs.Limits.{last_time};
 ghost use Rattle.mp_model.specs.Ascending.{ascending};
 ghost use Rattle.mp_model.specs.Folds.{times_in};
 ghost use Rattle.mp_model.specs.Legal.{EventsAreLegal};
@@ -52,7 +52,7 @@ fn add_times_of<Q: Query>(
     event: &Event,
     times: &mut Vec<Time>,
 ) -> Result<(), AllocError>
-    requires { event.now.time ≤ LAST_TIME }
+    requires { event.now.time ≤ last_time }
     ensures { let q = Q.facts (Q.rules query.now) in
         OnOk result (times.new.items ≡ times.old.items ++ times_in q 0 (option_to_list (record_of q index event.now))) }
 {
@@ -64,7 +64,7 @@ fn add_times_of<Q: Query>(
 
 // Adds the time of a record and those of its posts.
 fn add_record_times<Q: Query>(query: &Q, rec: Rec, times: &mut Vec<Time>) -> Result<(), AllocError>
-    requires { rec.time ≤ LAST_TIME }
+    requires { rec.time ≤ last_time }
     ensures { let q = Q.facts (Q.rules query.now) in
         OnOk result (times.new.items ≡ times.old.items ++ rec.time ∷ q.posts 0 rec) }
 {

@@ -6,8 +6,8 @@ use native.Mathlib.Decide.{dec_le, ℕ_discrete}
 use Rattle.std.proofs.lemmas.List.{map-set, get_or-map, get_or-set_same, get_or-set_other, get_or-replicate, length-map}
 use Rattle.std.proofs.lemmas.List.Elements.{All-push, All-head, All-tail, All-nil}
 use Rattle.mp_mailbox.specs.Names.{Distinct, names_of, OnEdge}
-use Rattle.mp_mailbox.specs.Standing.{Stands, AddsPushed, AddsPopped, PopsNew, KeepsEdge, KeepsOthers}
-use Rattle.mp_mailbox.specs.Queues.{Queues, queue_between, PlainStands, empty_queues}
+use Rattle.mp_mailbox.specs.Standing.{Denotes, AddsPushed, AddsPopped, PopsNew, KeepsEdge, KeepsOthers}
+use Rattle.mp_mailbox.specs.Queues.{Queues, queue_between, PlainDenotes, empty_queues}
 use Rattle.mp_mailbox.proofs.NameLists.{Distinct-begin, Distinct-nil, names_of-push}
 
 -- two edges have two places
@@ -45,10 +45,10 @@ module _ {M E : Type 0} (f : E → List M) (w d : ℕ) where
 
   module _ {N : Type 0} (names : M → List N) (message_from message_to : M → ℕ) (es : List E) (from to at : ℕ) (old new : E) where
     abbrev Old : ℕ → ℕ → List N → List N → Type 0
-    Old = PlainStands names message_from message_to (post_of es)
+    Old = PlainDenotes names message_from message_to (post_of es)
 
     abbrev New : ℕ → ℕ → List N → List N → Type 0
-    New = PlainStands names message_from message_to (post_of (set es at new))
+    New = PlainDenotes names message_from message_to (post_of (set es at new))
 
     pub others : at ≡ from * w + to → to < w → KeepsOthers Old New from to
     others is to_in g u other pushed popped h =
@@ -102,7 +102,7 @@ module _ {M E : Type 0} (f : E → List M) (w d : ℕ) where
           edge = subst (λ q. OnEdge message_from message_to from to q) (sym now) (All-tail (λ x. (message_from x ≡ from) × (message_to x ≡ to)) m (f new) one.1);
         }
 
-    pub pops_edge : (m : M) → at ≡ from * w + to → at < length es → old ≡ get_or es at old → f old ≡ m ∷ f new → Stands Old from to → (message_from m ≡ from) × (message_to m ≡ to)
+    pub pops_edge : (m : M) → at ≡ from * w + to → at < length es → old ≡ get_or es at old → f old ≡ m ∷ f new → Denotes Old from to → (message_from m ≡ from) × (message_to m ≡ to)
     pops_edge m is inside read leaves (pushed, popped, h) = All-head (λ x. (message_from x ≡ from) × (message_to x ≡ to)) m (f new) (pops_one m is inside read leaves pushed popped h).1
 
     pub pops_new : (m : M) → at ≡ from * w + to → at < length es → old ≡ get_or es at old → f old ≡ m ∷ f new → PopsNew Old from to (names m)
@@ -110,7 +110,7 @@ module _ {M E : Type 0} (f : E → List M) (w d : ℕ) where
         Distinct-begin (popped ++ names m) (names_of names (f new)) (subst (λ l. Distinct l) (pops_one m is inside read leaves pushed popped h).0 h.once)
 
 -- queues in which nothing waits
-pub empty_stands : {M N : Type 0} (names : M → List N) (message_from message_to : M → ℕ) (w d from to : ℕ) → from < w → to < w → PlainStands names message_from message_to (empty_queues w d) from to [] []
+pub empty_stands : {M N : Type 0} (names : M → List N) (message_from message_to : M → ℕ) (w d from to : ℕ) → from < w → to < w → PlainDenotes names message_from message_to (empty_queues w d) from to [] []
 empty_stands names message_from message_to w d from to from_in to_in =
     let none = get_or-replicate (w * w) (from * w + to) [] [] (place_inside w from to from_in to_in) in record {
       sender = from_in;

@@ -27,7 +27,7 @@ module _ {M : Type 0} where
   WasEmpty p from to = queue_between p from to ≡ []
 
   -- what was pushed is what was popped and then what is queued, each name once, and each message that is queued goes along this edge
-  pub record PlainStands {N : Type 0} (names : M → List N) (message_from message_to : M → ℕ) (p : Queues M) (from to : ℕ) (pushed popped : List N) : Type 0 where
+  pub record PlainDenotes {N : Type 0} (names : M → List N) (message_from message_to : M → ℕ) (p : Queues M) (from to : ℕ) (pushed popped : List N) : Type 0 where
     pub sender : from < p.workers
     pub receiver : to < p.workers
     pub whole : pushed ≡ popped ++ names_of names (queue_between p from to)

@@ -3,18 +3,18 @@
 use Rattle.std.specs.Prelude.{◌≢◌, ◌⊎◌, ℕ, List, ◌++◌}
 use Rattle.mp_mailbox.specs.Names.{Distinct}
 
-module _ {N : Type 0} (stands : ℕ → ℕ → List N → List N → Type 0) where
+module _ {N : Type 0} (denotes : ℕ → ℕ → List N → List N → Type 0) where
   -- it stands for some lists on this edge
-  abbrev pub Stands : ℕ → ℕ → Type 0
-  Stands from to = (pushed : List N) × (popped : List N) × stands from to pushed popped
+  abbrev pub Denotes : ℕ → ℕ → Type 0
+  Denotes from to = (pushed : List N) × (popped : List N) × denotes from to pushed popped
 
   -- these names can be pushed on this edge: none of them was pushed there before
   abbrev pub IsFresh : ℕ → ℕ → List N → Type 0
-  IsFresh from to names = (pushed : List N) × (popped : List N) × stands from to pushed popped × Distinct (pushed ++ names)
+  IsFresh from to names = (pushed : List N) × (popped : List N) × denotes from to pushed popped × Distinct (pushed ++ names)
 
   -- none of these names was popped on this edge before
   abbrev pub PopsNew : ℕ → ℕ → List N → Type 0
-  PopsNew from to names = (pushed popped : List N) → stands from to pushed popped → Distinct (popped ++ names)
+  PopsNew from to names = (pushed popped : List N) → denotes from to pushed popped → Distinct (popped ++ names)
 
 module _ {N : Type 0} (old new : ℕ → ℕ → List N → List N → Type 0) where
   -- these names were pushed on this edge

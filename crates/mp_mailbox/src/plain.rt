@@ -1,7 +1,7 @@
 //! Plain queues, for workers that take turns on one thread.
 ghost use Rattle.std.specs.Prelude.{◌≡◌, ◌<◌, ◌≤◌, ◌+◌, ◌*◌, ℕ, [], ◌∷◌, ◌++◌, length, IfOk, OnOk, OnErr, IfErr, IfSome, IfNone};
 ghost use Rattle.std.specs.VecDeque.{deque_capacity};
-ghost use Rattle.mp_mailbox.specs.Queues.{empty_queues, PlainStands};
+ghost use Rattle.mp_mailbox.specs.Queues.{empty_queues, PlainDenotes};
 
 use crate::post::{Full, Named, Post};
 use std::alloc::{AllocError, Global};
@@ -32,7 +32,7 @@ impl<M> Model for PlainPost<M> {
 }
 
 impl<M: Named + Drop> Post<M> for PlainPost<M> {
-    ghost use Rattle.mp_mailbox.specs.Queues.{PlainStands, HadRoom, WasFull, WasEmpty};
+    ghost use Rattle.mp_mailbox.specs.Queues.{PlainDenotes, HadRoom, WasFull, WasEmpty};
 
     ghost workers = { λ p. p.workers };
 
@@ -40,7 +40,7 @@ impl<M: Named + Drop> Post<M> for PlainPost<M> {
 
     ghost serves = { λ p worker. Unit {0} };
 
-    ghost stands = { PlainStands M.names M.from M.to };
+    ghost denotes = { PlainDenotes M.names M.from M.to };
 
     ghost had_room = { HadRoom };
 
@@ -98,7 +98,7 @@ impl<M: Named + Drop> PlainPost<M> {
     /// memory.
     pub fn new(alloc: Global, workers: u32, depth: u32) -> Result<PlainPost<M>, AllocError>
         ensures empty { IfOk result (λ p. p ≡ empty_queues workers depth) }
-        ensures stands { IfOk result (λ p. (from to : ℕ) → from < workers → to < workers → PlainStands M.names M.from M.to p from to [] []) }
+        ensures denotes { IfOk result (λ p. (from to : ℕ) → from < workers → to < workers → PlainDenotes M.names M.from M.to p from to [] []) }
     {
         let count = workers as usize * workers as usize;
         let mut queues = Vec::with_capacity(alloc, count)?;

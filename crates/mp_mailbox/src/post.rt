@@ -1,6 +1,6 @@
 //! What a message and a post are.
 ghost use Rattle.std.specs.Prelude.{◌≡◌, ℕ, ◌<◌, List, OnOk, OnErr, IfErr, IfSome, IfNone};
-ghost use Rattle.mp_mailbox.specs.Standing.{IsFresh, Stands, AddsPushed, AddsPopped, PopsNew, KeepsEdge, KeepsOthers};
+ghost use Rattle.mp_mailbox.specs.Standing.{IsFresh, Denotes, AddsPushed, AddsPopped, PopsNew, KeepsEdge, KeepsOthers};
 
 /// A message has names, and goes along one edge, from one worker to another. Which job it belongs to is
 /// a matter of its type (this project's profile).
@@ -41,7 +41,7 @@ pub trait Post<M: Named> {
     ghost serves: { Self → ℕ → Type 0 };
 
     // From a worker to a worker, these names were pushed with `Ok`, and these were popped.
-    ghost stands: { Self → ℕ → ℕ → List M.Name → List M.Name → Type 0 };
+    ghost denotes: { Self → ℕ → ℕ → List M.Name → List M.Name → Type 0 };
 
     // What `Ok` tells of the queue from a worker to a worker, at the push's step.
     ghost had_room: { Self → ℕ → ℕ → Type 0 };
@@ -58,16 +58,16 @@ pub trait Post<M: Named> {
         requires workers { (from < workers self.old) × (to < workers self.old) }
         requires serves { serves self.old from }
         requires edge { (M.from message ≡ from) × (M.to message ≡ to) }
-        requires fresh { IsFresh (stands self.old) from to (M.names message) }
+        requires fresh { IsFresh (denotes self.old) from to (M.names message) }
 
         ensures room { OnOk result (had_room self.old from to) }
-        ensures ok { OnOk result (AddsPushed (stands self.old) (stands self.new) from to (M.names message)) }
+        ensures ok { OnOk result (AddsPushed (denotes self.old) (denotes self.new) from to (M.names message)) }
 
         ensures full { OnErr result (was_full self.old from to) }
         ensures back { IfErr result (λ f. f.message ≡ message) }
-        ensures err { OnErr result (KeepsEdge (stands self.old) (stands self.new) from to) }
+        ensures unchanged { OnErr result (KeepsEdge (denotes self.old) (denotes self.new) from to) }
 
-        ensures others { KeepsOthers (stands self.old) (stands self.new) from to }
+        ensures others { KeepsOthers (denotes self.old) (denotes self.new) from to }
         ensures same_workers { workers self.new ≡ workers self.old }
         ensures same_depth { depth self.new ≡ depth self.old }
         ensures same_ends { (worker : ℕ) → serves self.old worker → serves self.new worker };
@@ -77,16 +77,16 @@ pub trait Post<M: Named> {
     fn pop(&mut self, from: u32, to: u32) -> Option<M>
         requires workers { (from < workers self.old) × (to < workers self.old) }
         requires serves { serves self.old to }
-        requires stands { Stands (stands self.old) from to }
+        requires denotes { Denotes (denotes self.old) from to }
 
         ensures edge { IfSome result (λ m. (M.from m ≡ from) × (M.to m ≡ to)) }
-        ensures some { IfSome result (λ m. AddsPopped (stands self.old) (stands self.new) from to (M.names m)) }
-        ensures once { IfSome result (λ m. PopsNew (stands self.old) from to (M.names m)) }
+        ensures some { IfSome result (λ m. AddsPopped (denotes self.old) (denotes self.new) from to (M.names m)) }
+        ensures once { IfSome result (λ m. PopsNew (denotes self.old) from to (M.names m)) }
 
         ensures empty { IfNone result (was_empty self.old from to) }
-        ensures none { IfNone result (KeepsEdge (stands self.old) (stands self.new) from to) }
+        ensures none { IfNone result (KeepsEdge (denotes self.old) (denotes self.new) from to) }
 
-        ensures others { KeepsOthers (stands self.old) (stands self.new) from to }
+        ensures others { KeepsOthers (denotes self.old) (denotes self.new) from to }
         ensures same_workers { workers self.new ≡ workers self.old }
         ensures same_depth { depth self.new ≡ depth self.old }
         ensures same_ends { (worker : ℕ) → serves self.old worker → serves self.new worker };

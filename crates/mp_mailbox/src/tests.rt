@@ -27,12 +27,12 @@ impl Named for Number {
 // Pushes a number, where there is room, and notes it.
 fn send<P: Post<Number>>(post: &mut P, sent: &mut Vec<u64>, number: u64) -> Result<bool, AllocError>
     requires serves { P.serves post.old 0 × (1 < P.workers post.old) }
-    requires stands { (popped : List ℕ) × P.stands post.old 0 1 sent.old.items popped }
+    requires denotes { (popped : List ℕ) × P.denotes post.old 0 1 sent.old.items popped }
     requires fresh { Distinct (sent.old.items ++ number ∷ []) }
 
     ensures sent { IfOk result (λ pushed. sent.new.items ≡ (if pushed then sent.old.items ++ number ∷ [] else sent.old.items)) }
-    ensures err { OnErr result (sent.new.items ≡ sent.old.items) }
-    ensures stands { (popped : List ℕ) → P.stands post.old 0 1 sent.old.items popped → P.stands post.new 0 1 sent.new.items popped }
+    ensures unchanged { OnErr result (sent.new.items ≡ sent.old.items) }
+    ensures denotes { (popped : List ℕ) → P.denotes post.old 0 1 sent.old.items popped → P.denotes post.new 0 1 sent.new.items popped }
     ensures same { (P.workers post.new ≡ P.workers post.old) × ((worker : ℕ) → P.serves post.old worker → P.serves post.new worker) }
 {
     sent.reserve(1)?;
@@ -48,9 +48,9 @@ fn send<P: Post<Number>>(post: &mut P, sent: &mut Vec<u64>, number: u64) -> Resu
 // Pops a number, where one waits, and notes it.
 fn take<P: Post<Number>>(post: &mut P, took: &mut Vec<u64>) -> Result<bool, AllocError>
     requires serves { P.serves post.old 1 × (1 < P.workers post.old) }
-    requires stands { (pushed : List ℕ) × P.stands post.old 0 1 pushed took.old.items }
+    requires denotes { (pushed : List ℕ) × P.denotes post.old 0 1 pushed took.old.items }
 
-    ensures stands { (pushed : List ℕ) → P.stands post.old 0 1 pushed took.old.items → P.stands post.new 0 1 pushed took.new.items }
+    ensures denotes { (pushed : List ℕ) → P.denotes post.old 0 1 pushed took.old.items → P.denotes post.new 0 1 pushed took.new.items }
     ensures same { (P.workers post.new ≡ P.workers post.old) × ((worker : ℕ) → P.serves post.old worker → P.serves post.new worker) }
 {
     took.reserve(1)?;

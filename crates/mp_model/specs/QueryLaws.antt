@@ -1,6 +1,6 @@
 -- What each query keeps to.
 use Rattle.std.specs.Prelude.{◌≡◌, ℕ, suc, ◌<◌, ◌≤◌, List, [], ◌∷◌, All, IsSome, length}
-use Rattle.mp_model.specs.declared.limits.TheConstants.{LAST_TIME, MAX_STAGES, MAX_TIME}
+use Rattle.mp_names.specs.Limits.{greatest_time, last_time, most_stages}
 use Rattle.mp_model.specs.declared.record.Event.{Event}
 use Rattle.mp_model.specs.declared.record.Rec.{Rec}
 use Rattle.mp_model.specs.Entry.{Entry}
@@ -15,17 +15,17 @@ RisesWithin low high (t ∷ ts) = (low < t) × (t ≤ high) × RisesWithin t hig
 
 -- a record of an event within its limits
 pub record RecordIsLegal (r : Rec) : Type 0 where
-  pub in_time : r.time ≤ MAX_TIME
+  pub in_time : r.time ≤ greatest_time
   pub legal : IsLegalAt r.time r.value
 
 module _ {Cell : Type 0} where
   -- there is a stage, and no more than are allowed
   abbrev pub HasStages : QueryFacts Cell → Type 0
-  HasStages q = (0 < q.stages) × (q.stages ≤ MAX_STAGES)
+  HasStages q = (0 < q.stages) × (q.stages ≤ most_stages)
 
   -- the posts of a record of an event rise, each is later than the record and not too late
   abbrev pub PostsAreLater : QueryFacts Cell → Type 0
-  PostsAreLater q = (r : Rec) → RecordIsLegal r → RisesWithin r.time LAST_TIME (q.posts 0 r)
+  PostsAreLater q = (r : Rec) → RecordIsLegal r → RisesWithin r.time last_time (q.posts 0 r)
 
   -- a record of a later stage posts nothing
   abbrev pub LaterStagesPostNothing : QueryFacts Cell → Type 0

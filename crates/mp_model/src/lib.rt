@@ -4,7 +4,6 @@
 
 mod fields;
 mod group;
-pub mod limits;
 mod naming;
 mod posts;
 mod query;
@@ -16,13 +15,10 @@ mod value;
 
 pub use fields::{Field, Fields};
 pub use group::Group;
-pub use mp_names::{Control, Name, Shape, Tag};
+pub use mp_names::{Control, Name, Shape, Tag, Time};
 pub use naming::Naming;
 pub use posts::PostList;
 pub use query::Query;
 pub use record::{Event, Output, Place, Rec};
 pub use text::Text;
 pub use value::Value;
-
-/// A time of an event, in the units of the event file.
-pub type Time = u64;

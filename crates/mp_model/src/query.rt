@@ -1,6 +1,6 @@
 //! What a query is: its table as functions, and the laws that it keeps.
 ghost use Rattle.std.specs.Prelude.{◌≡◌, ◌≤◌, ℕ, List, true, IsTrue, ◌↔◌, IfOk, OnOk, OnErr};
-ghost use Rattle.mp_model.specs.declared.limits.TheConstants.{LAST_TIME};
+ghost use Rattle.mp_names.specs.Limits.{last_time};
 ghost use Rattle.mp_model.specs.Facts.{QueryFacts};
 ghost use Rattle.mp_model.specs.QueryLaws.{HasStages, PostsAreLater, LaterStagesPostNothing, OutputsHaveKeys, MostIsEnough, FreshStaysFresh, SumsFit};
 
@@ -26,12 +26,12 @@ pub trait Query: Drop + Sync {
 
     /// The key of a value at a time, if it makes a record of this stage. The time is at most 2^47 + 43,200.
     fn key(&self, stage: u32, time: Time, value: &Value) -> Option<u64>
-        requires { time ≤ LAST_TIME }
+        requires { time ≤ last_time }
         ensures { result ≡ (facts (rules self.now)).key stage time value.now };
 
     /// The times at which a record wakes its key. Its time is at most 2^47 + 43,200.
     fn posts(&self, stage: u32, rec: &Rec) -> PostList
-        requires { rec.now.time ≤ LAST_TIME }
+        requires { rec.now.time ≤ last_time }
         ensures { result ≡ (facts (rules self.now)).posts stage rec.now };
 
     /// The cell of a key that has had no group.
@@ -59,7 +59,7 @@ pub trait Query: Drop + Sync {
         requires { (facts (rules self.now)).fits stage cell.old group.now ≡ true }
         ensures cell { OnOk result (cell.new ≡ (facts (rules self.now)).step stage cell.old group.now) }
         ensures outputs { IfOk result (λ v. v.items ≡ (facts (rules self.now)).gives stage cell.old group.now) }
-        ensures kept { OnErr result (cell.new ≡ cell.old) };
+        ensures unchanged { OnErr result (cell.new ≡ cell.old) };
 
     ghost stages_are: { (rs : List ℕ) → (facts rs).stages ≡ STAGES };
 

@@ -1,4 +1,5 @@
 //! What a job is told of its workers and bins.
+use crate::Time;
 
 /// How many workers, bins and stages a job has, each at least 1.
 #[derive(Clone, Copy, PartialEq, Eq, Hash, Debug)]
@@ -12,7 +13,7 @@ pub struct Shape {
 /// the stage, until a later record says otherwise.
 #[derive(Clone, Copy, PartialEq, Eq, Hash, Debug)]
 pub struct Control {
-    pub time: u64,
+    pub time: Time,
     pub stage: u32,
     pub bin: u32,
     pub worker: u32,
@@ -22,7 +23,7 @@ pub struct Control {
 /// them.
 #[derive(Clone, Copy, PartialEq, Eq, PartialOrd, Ord, Hash, Debug)]
 pub struct Move {
-    pub time: u64,
+    pub time: Time,
     pub stage: u32,
     pub bin: u32,
     pub from: u32,

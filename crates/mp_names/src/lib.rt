@@ -6,8 +6,11 @@
 mod controls;
 mod kinds;
 mod laws;
+/// The limits of this version.
+pub mod limits;
 mod locations;
 mod names;
+mod pointstamps;
 
 pub use controls::{Control, Move, Shape};
 pub use kinds::Kind;
@@ -18,3 +21,7 @@ pub use laws::{
 };
 pub use locations::{Frontier, Loc};
 pub use names::{Name, Tag};
+pub use pointstamps::{Change, ControlCursor, Count, Pointstamp, TimedBin, TimedCount, TimedKey};
+
+/// A time of an event, in the units of the event file.
+pub type Time = u64;

@@ -1,4 +1,5 @@
 //! Where outstanding work is counted, and how far it has come.
+use crate::Time;
 
 /// A location of the dataflow, as in Naiad's pointstamps. Those with a number are of that stage.
 #[derive(Clone, Copy, PartialEq, Eq, PartialOrd, Ord, Hash, Debug)]
@@ -30,7 +31,7 @@ pub enum Loc {
 #[derive(Clone, Copy, PartialEq, Eq, PartialOrd, Ord, Hash, Debug)]
 pub enum Frontier {
     /// Something may still come at this time; nothing before it.
-    At(u64),
+    At(Time),
     /// Nothing comes any more.
     Done,
 }

@@ -1,4 +1,5 @@
 //! The names of what a job sends, takes, applies and writes.
+use crate::Time;
 
 /// What tells the records of one stage and time apart, and orders them. In stage 0 it is (0, the
 /// event's index); later it is (the key of the group that gave the record, its place among that
@@ -18,7 +19,7 @@ pub enum Name {
     /// A record of a stage.
     Rec {
         stage: u32,
-        time: u64,
+        time: Time,
         key: u64,
         tag: Tag,
     },
@@ -26,26 +27,26 @@ pub enum Name {
     Packet {
         stage: u32,
         bin: u32,
-        time: u64,
+        time: Time,
     },
     /// An answer row.
     Row {
-        time: u64,
+        time: Time,
         tag: Tag,
     },
     /// All that a stage has to do for a key at a time.
     Group {
         stage: u32,
-        time: u64,
+        time: Time,
         key: u64,
     },
     /// A time of a stage's control records, once a worker has sent all that it has to move then.
     Settled {
         stage: u32,
-        time: u64,
+        time: Time,
     },
     /// A time of answer rows, once its lines are written.
     Written {
-        time: u64,
+        time: Time,
     },
 }

@@ -44,7 +44,7 @@ impl<T: Drop, O: Order<T>> Ordered<T, O> {
         ensures room { OnOk result (count ≤ self.new.room) }
         ensures items { self.new.items ≡ self.old.items }
         ensures no_less { self.old.room ≤ self.new.room }
-        ensures refused { OnErr result (self.new ≡ self.old) }
+        ensures unchanged { OnErr result (self.new ≡ self.old) }
     {
         self.items.reserve(count as usize)
     }
@@ -54,7 +54,7 @@ impl<T: Drop, O: Order<T>> Ordered<T, O> {
     pub fn insert(&mut self, item: T) -> Result<(), AllocError>
         ensures put { OnOk result (self.new.items ≡ put_in_order O.rank item self.old.items) }
         ensures room { OnOk result (self.old.room ≤ self.new.room + 1) }
-        ensures refused { OnErr result (self.new ≡ self.old) }
+        ensures unchanged { OnErr result (self.new ≡ self.old) }
         ensures never_refused_with_room { 0 < self.old.room → IsOk result }
     {
         self.items.reserve(1)?;

@@ -2,7 +2,7 @@
 use Rattle.std.proofs.Common.{◌≡◌, ℕ, zero, suc, ◌<◌, Option, List, [], ◌∷◌, Contains, sym, ap, subst, ⊎_elim, arith}
 use Rattle.std.specs.Option.{option_map_or}
 use Rattle.std.proofs.lemmas.List.Elements.{All-contains}
-use Rattle.mp_model.specs.declared.limits.TheConstants.{LAST_TIME}
+use Rattle.mp_names.specs.Limits.{last_time}
 use Rattle.mp_model.specs.declared.record.Event.{Event}
 use Rattle.mp_model.specs.declared.record.Rec.{Rec}
 use Rattle.mp_model.specs.Facts.{QueryFacts}
@@ -33,5 +33,5 @@ module _ {Cell : Type 0} (q : QueryFacts Cell) (nothing : LaterStagesPostNothing
 module _ {Cell : Type 0} (q : QueryFacts Cell) (later : PostsAreLater q) (nothing : LaterStagesPostNothing q) (events : List Event) (legal : EventsAreLegal events) where
   -- each post is later than its record
   pub post_is_later : (j : ℕ) (r : Rec) (u : ℕ) → Contains (stage_records q events j) r → Contains (q.posts j r) u → r.time < u
-  post_is_later zero r u h i = rises_above r.time LAST_TIME (q.posts 0 r) u (later r (All-contains RecordIsLegal (input_records q events) r (input_records_legal q events legal) h)) i
+  post_is_later zero r u h i = rises_above r.time last_time (q.posts 0 r) u (later r (All-contains RecordIsLegal (input_records q events) r (input_records_legal q events legal) h)) i
   post_is_later (suc j) r u h i = absurd (nothing_in_nil u (subst (λ (ts : List ℕ). Contains ts u) (nothing j r) i))

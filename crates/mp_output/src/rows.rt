@@ -78,7 +78,7 @@ impl<Q: Query, J: Naming> Rows<Q, J> {
     pub fn make_room(&mut self, count: u64) -> Result<(), AllocError>
         ensures room { OnOk result (count ≤ self.new.room) }
         ensures rows { self.new.rows ≡ self.old.rows }
-        ensures refused { OnErr result (self.new ≡ self.old) }
+        ensures unchanged { OnErr result (self.new ≡ self.old) }
     {
         self.rows.make_room(count)
     }
@@ -101,7 +101,7 @@ impl<Q: Query, J: Naming> Rows<Q, J> {
             → has log.took (RowName time tag) ≡ false → has log.settled (Written time) ≡ false
             → HoldsUnwritten (with_took log (RowName time tag)) self.new.rows) }
         ensures room { OnOk result (self.old.room ≤ self.new.room + 1) }
-        ensures refused { OnErr result (self.new ≡ self.old) }
+        ensures unchanged { OnErr result (self.new ≡ self.old) }
         ensures never_refused_with_room { 0 < self.old.room → IsOk result }
     {
         self.rows.insert(Output {
@@ -124,9 +124,9 @@ impl<Q: Query, J: Naming> Rows<Q, J> {
             S.written sink.new ≡ grown (S.written sink.old) (lines_of (rows_at t self.old.rows))) }
 
         ensures none_due { IfNothing result ((t : ℕ) → ¬ IsDue (seen_at seen.now OutMail) self.old.rows t) }
-        ensures unchanged { IfNothing result ((self.new ≡ self.old) × (sink.new ≡ sink.old)) }
+        ensures idle { IfNothing result ((self.new ≡ self.old) × (sink.new ≡ sink.old)) }
 
-        ensures kept { OnErr result (self.new ≡ self.old) }
+        ensures unchanged { OnErr result (self.new ≡ self.old) }
         ensures part { OnErr result ((t k : ℕ) × IsDue (seen_at seen.now OutMail) self.old.rows t
             × (k ≤ length (lines_of (rows_at t self.old.rows)))
             × (S.written sink.new ≡ grown (S.written sink.old) (take k (lines_of (rows_at t self.old.rows))))) }
@@ -135,7 +135,7 @@ impl<Q: Query, J: Naming> Rows<Q, J> {
             → IsLeast (IsUnwritten log) (Written t) × (IsClosedForOne (outline_of q J.job) 0 log OutMail t
             → lines_of (rows_at t self.old.rows) ≡ answer_at q J.job.events t)) }
         ensures failed { result ≡ Err WriteFault → Rose (S.faults sink.old) (S.faults sink.new) }
-        ensures beside { S.beside sink.new ≡ S.beside sink.old }
+        ensures frame { S.frame sink.new ≡ S.frame sink.old }
         ensures writes { S.faults sink.old ≤ S.faults sink.new }
 
         ensures next { IfTime result (λ t. (log : Log) → HoldsUnwritten log self.old.rows

@@ -45,7 +45,7 @@ impl<Q: Query, J: Naming> Unsent<Q, J> {
     pub fn make_room(&mut self, count: u64) -> Result<(), AllocError>
         ensures room { OnOk result (count ≤ self.new.room) }
         ensures rows { self.new.rows ≡ self.old.rows }
-        ensures refused { OnErr result (self.new ≡ self.old) }
+        ensures unchanged { OnErr result (self.new ≡ self.old) }
     {
         self.rows.make_room(count)
     }
@@ -56,7 +56,7 @@ impl<Q: Query, J: Naming> Unsent<Q, J> {
         requires { Contains (answer_rows (Q.facts J.job.rules) J.job.events) row }
         ensures put { OnOk result (self.new.rows ≡ put_in_order place_rank row self.old.rows) }
         ensures room { OnOk result (self.old.room ≤ self.new.room + 1) }
-        ensures refused { OnErr result (self.new ≡ self.old) }
+        ensures unchanged { OnErr result (self.new ≡ self.old) }
         ensures never_refused_with_room { 0 < self.old.room → IsOk result }
     {
         self.rows.insert(row)

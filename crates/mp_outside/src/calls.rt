@@ -32,7 +32,7 @@ impl Calls {
     // Makes the call of this number fail. One that was made already stays as it was.
     pub fn fail(&mut self, nth: u64) -> Result<(), AllocError>
         ensures ok { OnOk result (self.new ≡ with_failure self.old nth) }
-        ensures err { OnErr result (self.new ≡ self.old) }
+        ensures unchanged { OnErr result (self.new ≡ self.old) }
         ensures faults { faults_of self.new ≡ faults_of self.old }
     {
         if nth > self.made {

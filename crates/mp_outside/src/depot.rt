@@ -52,7 +52,7 @@ pub trait Depot {
     /// Makes the name there with no bytes, whether it was there or not.
     fn begin(&mut self, name: &str) -> Result<(), Fault>
         ensures begun { OnOk result (files self.new ≡ with_file (files self.old) name.now []) }
-        ensures kept { OnErr result (files self.new ≡ files self.old) }
+        ensures unchanged { OnErr result (files self.new ≡ files self.old) }
 
         ensures failed { result ≡ Err Failed → Rose (write_faults self.old) (write_faults self.new) }
         ensures writes { write_faults self.old ≤ write_faults self.new }
@@ -67,7 +67,7 @@ pub trait Depot {
         ensures some { IfOk result (λ n. 0 < length piece.now → 0 < n) }
         ensures appended { IfOk result (λ n.
             files self.new ≡ with_more (files self.old) name.now (take n piece.now)) }
-        ensures kept { OnErr result (files self.new ≡ files self.old) }
+        ensures unchanged { OnErr result (files self.new ≡ files self.old) }
 
         ensures failed { result ≡ Err Failed → Rose (write_faults self.old) (write_faults self.new) }
         ensures writes { write_faults self.old ≤ write_faults self.new }

@@ -32,7 +32,7 @@ impl<'a, D: Depot> Sink for DepotSink<'a, D> {
 
     ghost faults = { λ sink. D.write_faults sink.depot.now };
 
-    ghost beside = { λ sink. record {
+    ghost frame = { λ sink. record {
       lender = sink.depot.ghost_name;
       name = sink.name.now;
       others = without (D.files sink.depot.now) sink.name.now;

@@ -35,7 +35,7 @@ impl Failures {
         ensures planned { OnOk result (calls_for self.new op ≡ with_failure (calls_for self.old op) nth) }
         ensures others { (other : Method) → other ≢ op →
             calls_for self.new other ≡ calls_for self.old other }
-        ensures err { OnErr result (calls_for self.new op ≡ calls_for self.old op) }
+        ensures unchanged { OnErr result (calls_for self.new op ≡ calls_for self.old op) }
         ensures faults { (any : Method) →
             faults_of (calls_for self.new any) ≡ faults_of (calls_for self.old any) }
     {

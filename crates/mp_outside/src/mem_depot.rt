@@ -35,7 +35,7 @@ impl MemDepot {
     pub fn put(&mut self, name: &str, bytes: &[u8]) -> Result<(), AllocError>
         ensures ok { OnOk result
             (depot_files self.new ≡ with_file (depot_files self.old) name.now bytes.now) }
-        ensures err { OnErr result (depot_files self.new ≡ depot_files self.old) }
+        ensures unchanged { OnErr result (depot_files self.new ≡ depot_files self.old) }
         ensures calls { (op : Method) → depot_calls self.new op ≡ depot_calls self.old op }
     {
         self.shelf.put(name, bytes)
@@ -56,7 +56,7 @@ impl MemDepot {
             (depot_calls self.new op ≡ with_failure (depot_calls self.old op) nth) }
         ensures others { (other : Method) → other ≢ op →
             depot_calls self.new other ≡ depot_calls self.old other }
-        ensures err { OnErr result (depot_calls self.new op ≡ depot_calls self.old op) }
+        ensures unchanged { OnErr result (depot_calls self.new op ≡ depot_calls self.old op) }
 
         ensures files { depot_files self.new ≡ depot_files self.old }
         ensures reads { depot_read_faults self.new ≡ depot_read_faults self.old }

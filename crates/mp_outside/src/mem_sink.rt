@@ -43,7 +43,7 @@ impl MemSink {
             (sink_calls self.new op ≡ with_failure (sink_calls self.old op) nth) }
         ensures others { (other : Method) → other ≢ op →
             sink_calls self.new other ≡ sink_calls self.old other }
-        ensures err { OnErr result (sink_calls self.new op ≡ sink_calls self.old op) }
+        ensures unchanged { OnErr result (sink_calls self.new op ≡ sink_calls self.old op) }
 
         ensures bytes { sink_bytes self.new ≡ sink_bytes self.old }
         ensures writes { sink_faults self.new ≡ sink_faults self.old }

@@ -31,7 +31,7 @@ impl NeverFails {
     pub fn put(&mut self, name: &str, bytes: &[u8]) -> Result<(), AllocError>
         ensures ok { OnOk result
             (unfailing_files self.new ≡ with_file (unfailing_files self.old) name.now bytes.now) }
-        ensures err { OnErr result (unfailing_files self.new ≡ unfailing_files self.old) }
+        ensures unchanged { OnErr result (unfailing_files self.new ≡ unfailing_files self.old) }
         ensures bytes { unfailing_bytes self.new ≡ unfailing_bytes self.old }
     {
         self.shelf.put(name, bytes)

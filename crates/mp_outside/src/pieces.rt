@@ -12,7 +12,7 @@ pub fn write_piece<S: Sink>(sink: &mut S, piece: &[u8]) -> Result<(), Fault>
     ensures whole { OnOk result (S.written sink.new ≡ grown (S.written sink.old) piece.now) }
     ensures part { OnErr result ((k : ℕ) × (k ≤ length piece.now)
         × (S.written sink.new ≡ grown (S.written sink.old) (take k piece.now))) }
-    ensures beside { S.beside sink.new ≡ S.beside sink.old }
+    ensures frame { S.frame sink.new ≡ S.frame sink.old }
 
     ensures failed { result ≡ Err Failed → Rose (S.faults sink.old) (S.faults sink.new) }
     ensures writes { S.faults sink.old ≤ S.faults sink.new }

@@ -25,7 +25,7 @@ impl Shelf {
     pub fn put(&mut self, name: &str, bytes: &[u8]) -> Result<(), AllocError>
         ensures ok { OnOk result
             (files_on self.new ≡ with_file (files_on self.old) name.now bytes.now) }
-        ensures err { OnErr result (files_on self.new ≡ files_on self.old) }
+        ensures unchanged { OnErr result (files_on self.new ≡ files_on self.old) }
     {
         let held = bytes.to_vec(self.alloc)?;
         self.files
@@ -59,7 +59,7 @@ impl Shelf {
         requires { IsThere (files_on self.old) name.now }
         ensures ok { OnOk result
             (files_on self.new ≡ with_more (files_on self.old) name.now piece.now) }
-        ensures err { OnErr result (files_on self.new ≡ files_on self.old) }
+        ensures unchanged { OnErr result (files_on self.new ≡ files_on self.old) }
     {
         if let Some(bytes) = self.files.get_mut(name) {
             bytes.extend_from_slice(piece)?;

@@ -18,7 +18,7 @@ pub trait Sink {
 
     /// What else is known of the sink, none of which a write changes: for a depot's name seen as a
     /// sink the depot's other files.
-    ghost beside: { Self → Beside } = { λ _. nothing_beside };
+    ghost frame: { Self → Beside } = { λ _. nothing_beside };
 
     /// Writes a part of the piece, from its front, and answers its length: at least one byte of a
     /// piece that isn't empty.
@@ -26,8 +26,8 @@ pub trait Sink {
         ensures within { IfOk result (λ n. n ≤ length piece.now) }
         ensures some { IfOk result (λ n. 0 < length piece.now → 0 < n) }
         ensures grew { IfOk result (λ n. written self.new ≡ grown (written self.old) (take n piece.now)) }
-        ensures kept { OnErr result (written self.new ≡ written self.old) }
-        ensures beside { beside self.new ≡ beside self.old }
+        ensures unchanged { OnErr result (written self.new ≡ written self.old) }
+        ensures frame { frame self.new ≡ frame self.old }
 
         ensures failed { result ≡ Err Failed → Rose (faults self.old) (faults self.new) }
         ensures writes { faults self.old ≤ faults self.new };

@@ -44,7 +44,7 @@ impl Wakes {
         ensures added { OnOk result (self.new ≡ with_wake self.old time key) }
         ensures exact { OnOk result ((t k : ℕ) → Has self.new t k ↔ (Has self.old t k ⊎ IsWake time key (t, k))) }
         ensures ascending { IsAscending self.new }
-        ensures refused { OnErr result (self.new ≡ self.old) }
+        ensures unchanged { OnErr result (self.new ≡ self.old) }
     {
         self.set.insert((time, key))?;
         Ok(())
@@ -56,7 +56,7 @@ impl Wakes {
         requires { All (λ t. ¬ Has self.old t key) times.now }
         ensures exact { OnOk result ((t k : ℕ) → Has self.new t k ↔ (Has self.old t k ⊎ IsAmongWakes times.now key (t, k))) }
         ensures ascending { IsAscending self.new }
-        ensures refused { OnErr result (self.new ≡ self.old) }
+        ensures unchanged { OnErr result (self.new ≡ self.old) }
     {
         let _ = &self.set;
         if let Err(refused) = self.add_each(key, times) {

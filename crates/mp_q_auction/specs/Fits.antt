@@ -6,7 +6,7 @@ use Rattle.std.proofs.lemmas.Bool.{and_from, lt-ltb}
 use Rattle.std.proofs.lemmas.List.{length-append}
 use Rattle.std.proofs.lemmas.List.Elements.{All-head, All-tail}
 use Rattle.std.proofs.lemmas.List.Sums.{sum_by-cons}
-use Rattle.mp_model.specs.declared.limits.TheConstants.{MAX_PRICE}
+use Rattle.mp_names.specs.Limits.{greatest_price}
 use Rattle.mp_model.specs.declared.record.Rec.{Rec}
 use Rattle.mp_model.specs.Entry.{Entry}
 use Rattle.mp_model.specs.Folds.{FitsAlong, timeline}
@@ -22,12 +22,12 @@ use Rattle.mp_q_auction.specs.Q4.{category_of, q4_facts, tallies}
 use Rattle.mp_q_auction.specs.Sales.{price_of, prices_of}
 
 -- one more price
-sum_option : (o : Option ℕ) (prices : List ℕ) → IsFair o → sum (cons_option o prices) ≤ MAX_PRICE + sum prices
+sum_option : (o : Option ℕ) (prices : List ℕ) → IsFair o → sum (cons_option o prices) ≤ greatest_price + sum prices
 sum_option None prices h = omega arith
 sum_option (Some p) prices h = omega (arith, sum_by-cons (λ x. x) p prices, h)
 
 -- fair prices have no great sum
-sum_of_fair : (rs : List Rec) → All (λ r. IsFair (price_of r.value)) rs → sum (prices_of rs) ≤ length rs * MAX_PRICE
+sum_of_fair : (rs : List Rec) → All (λ r. IsFair (price_of r.value)) rs → sum (prices_of rs) ≤ length rs * greatest_price
 sum_of_fair [] h = omega arith
 sum_of_fair (r ∷ rs) h =
     let F = λ (r : Rec). IsFair (price_of r.value) in
@@ -35,7 +35,7 @@ sum_of_fair (r ∷ rs) h =
 
 -- a tally with room for so many sales more
 abbrev HasRoom : Tally → ℕ → Type 0
-HasRoom tally n = (tally.total + n * MAX_PRICE < 2 ^ 64) × (tally.count + n < 2 ^ 64)
+HasRoom tally n = (tally.total + n * greatest_price < 2 ^ 64) × (tally.count + n < 2 ^ 64)
 
 -- nothing is summed or counted in stage 0
 auctions_fit : (cell : Kept Tally) (es : List Entry) → FitsAlong q4_facts 0 cell es

@@ -5,7 +5,7 @@ use Rattle.std.proofs.Common.{◌∙◌, ap, arith}
 use Rattle.std.proofs.lemmas.Bool.{ne_eqb}
 use Rattle.std.proofs.lemmas.List.Elements.{All-nil, All-cons}
 use Rattle.mp_model.specs.declared.fields.Field.TheVariants.{Number}
-use Rattle.mp_model.specs.declared.limits.TheConstants.{LAST_TIME}
+use Rattle.mp_names.specs.Limits.{last_time}
 use Rattle.mp_model.specs.declared.record.Rec.{Rec}
 use Rattle.mp_model.specs.declared.value.Value.{Value}
 use Rattle.mp_model.specs.declared.value.Value.TheVariants.{Auction, Row, Sale}
@@ -18,7 +18,7 @@ use Rattle.mp_q_auction.specs.Sales.{SalesFacts, prices_of}
 use Rattle.mp_q_auction.specs.Counting.{length_option}
 
 -- an auction closes after its record, and not too late
-closes_later : (t : ℕ) (v : Value) → IsLegalAt t v → RisesWithin t LAST_TIME (closing_of v)
+closes_later : (t : ℕ) (v : Value) → IsLegalAt t v → RisesWithin t last_time (closing_of v)
 closes_later t (Auction id seller category reserve expires) legal = (legal.4, omega (arith, legal.5), tt)
 closes_later t _ legal = tt
 

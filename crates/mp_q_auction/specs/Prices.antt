@@ -5,7 +5,7 @@ use Rattle.std.specs.Option.{option_map, option_to_list, unwrap_or}
 use Rattle.std.proofs.Common.{arith}
 use Rattle.std.proofs.lemmas.Bool.{cond_both}
 use Rattle.std.proofs.lemmas.List.Elements.{All-nil, All-cons, All-head, All-tail, All-weaker}
-use Rattle.mp_model.specs.declared.limits.TheConstants.{MAX_PRICE}
+use Rattle.mp_names.specs.Limits.{greatest_price}
 use Rattle.mp_model.specs.declared.record.Event.{Event}
 use Rattle.mp_model.specs.declared.record.Output.{Output}
 use Rattle.mp_model.specs.declared.record.Rec.{Rec}
@@ -27,10 +27,10 @@ use Rattle.mp_q_auction.specs.Sales.{SalesFacts, price_of}
 
 -- a price is within its limit, if it is there
 abbrev pub IsFair : Option ℕ → Type 0
-IsFair o = IfSome o (λ p. p ≤ MAX_PRICE)
+IsFair o = IfSome o (λ p. p ≤ greatest_price)
 
 -- the greater of two fair prices is fair
-greater_is_fair : (best : Option ℕ) (price : ℕ) → IsFair best → price ≤ MAX_PRICE → max (unwrap_or best 0) price ≤ MAX_PRICE
+greater_is_fair : (best : Option ℕ) (price : ℕ) → IsFair best → price ≤ greatest_price → max (unwrap_or best 0) price ≤ greatest_price
 greater_is_fair None price h legal = omega arith
 greater_is_fair (Some best) price h legal = omega (arith, h)
 
@@ -47,14 +47,14 @@ records_keep t b (r ∷ rs) legal h =
     records_keep t (after_value t b r.value) rs (All-tail RecordIsLegal r rs legal) (value_keeps t r.time b r.value (All-head RecordIsLegal r rs legal).legal h)
 
 -- so is the price of a sale
-sold_is_fair : (t : ℕ) (lot : Option Lot) (best : Option ℕ) → IsFair best → IfSome (sold_at t lot best) (λ s. s.1 ≤ MAX_PRICE)
+sold_is_fair : (t : ℕ) (lot : Option Lot) (best : Option ℕ) → IsFair best → IfSome (sold_at t lot best) (λ s. s.1 ≤ greatest_price)
 sold_is_fair t None best h = tt
 sold_is_fair t (Some lot) None h = tt
 sold_is_fair t (Some lot) (Some best) h =
-    cond_both (lot.expires == t && nat_le lot.reserve best) (Some (lot, best)) None (λ (o : Option (Lot × ℕ)). IfSome o (λ s. s.1 ≤ MAX_PRICE)) (λ _. h) (λ _. tt)
+    cond_both (lot.expires == t && nat_le lot.reserve best) (Some (lot, best)) None (λ (o : Option (Lot × ℕ)). IfSome o (λ s. s.1 ≤ greatest_price)) (λ _. h) (λ _. tt)
 
 -- whatever it is of
-sale_is_fair : (of : Lot → ℕ) (s : Option (Lot × ℕ)) → IfSome s (λ s. s.1 ≤ MAX_PRICE)
+sale_is_fair : (of : Lot → ℕ) (s : Option (Lot × ℕ)) → IfSome s (λ s. s.1 ≤ greatest_price)
     → All (λ v. IsFair (price_of v)) (option_to_list (option_map (λ s. Sale (of s.0) s.1) s))
 sale_is_fair of None h = All-nil (λ (v : Value). IsFair (price_of v))
 sale_is_fair of (Some s) h =
@@ -86,7 +86,7 @@ module _ {Sales : Type 0} (of : Lot → ℕ) (sales : SalesFacts Sales) (events 
       let rs = stage_records q events 0 in
       let given = outputs_keep q 0 (λ cell. IsFair cell.bidding.best) RecordIsLegal (λ v. IsFair (price_of v)) tt
       (λ cell e h all. records_keep e.time cell.bidding e.recs all h)
-      (λ cell e h. sale_is_fair of (sold_in cell.bidding e) (cond_both e.woken (sold_at e.time cell.bidding.lot cell.bidding.best) None (λ (o : Option (Lot × ℕ)). IfSome o (λ s. s.1 ≤ MAX_PRICE)) (λ _. sold_is_fair e.time cell.bidding.lot cell.bidding.best h) (λ _. tt)))
+      (λ cell e h. sale_is_fair of (sold_in cell.bidding e) (cond_both e.woken (sold_at e.time cell.bidding.lot cell.bidding.best) None (λ (o : Option (Lot × ℕ)). IfSome o (λ s. s.1 ≤ greatest_price)) (λ _. sold_is_fair e.time cell.bidding.lot cell.bidding.best h) (λ _. tt)))
       rs (input_records_legal q events legal) in
       All-filter_map (λ (r : Rec). IsFair (price_of r.value)) (record_of_output q 1) (stage_outputs q 0 rs)
       (All-weaker (λ (o : Output). IsFair (price_of o.value)) (λ (o : Output). IfSome (record_of_output q 1 o) (λ (r : Rec). IsFair (price_of r.value))) (λ o h. record_is_fair (q.key 1 o.time o.value) o h) (stage_outputs q 0 rs) given)

@@ -4,7 +4,7 @@ use Rattle.std.specs.Option.{option_to_list}
 use Rattle.std.proofs.Common.{◌∙◌, ap, arith}
 use Rattle.std.proofs.lemmas.Bool.{ne_eqb}
 use Rattle.std.proofs.lemmas.List.{length-append, length-map}
-use Rattle.mp_model.specs.declared.limits.TheConstants.{LAST_TIME}
+use Rattle.mp_names.specs.Limits.{last_time}
 use Rattle.mp_model.specs.declared.record.Rec.{Rec}
 use Rattle.mp_model.specs.declared.value.Value.{Value}
 use Rattle.mp_model.specs.declared.value.Value.TheVariants.{Auction, Person}
@@ -40,7 +40,7 @@ day_ends_later : (t : ℕ) → (t < end_of_day t) × (end_of_day t ≤ t + 43200
 day_ends_later t = (omega arith, omega arith)
 
 -- a value posts a later time, and not too late
-posts_later : (t : ℕ) (v : Value) → t + 43200 ≤ LAST_TIME → RisesWithin t LAST_TIME (day_of_value t v)
+posts_later : (t : ℕ) (v : Value) → t + 43200 ≤ last_time → RisesWithin t last_time (day_of_value t v)
 posts_later t (Person id name city state) h = ((day_ends_later t).0, omega (arith, (day_ends_later t).1), tt)
 posts_later t (Auction id seller category reserve expires) h = ((day_ends_later t).0, omega (arith, (day_ends_later t).1), tt)
 posts_later t _ h = tt

@@ -52,7 +52,7 @@ impl Joining {
     pub fn apply(&mut self, alloc: Global, recs: &[Rec]) -> Result<Vec<Value>, AllocError>
         ensures cell { OnOk result (self.new ≡ after_records self.old recs.now) }
         ensures rows { IfOk result (λ v. v.items ≡ rows_along self.old recs.now) }
-        ensures kept { OnErr result (self.new ≡ self.old) }
+        ensures unchanged { OnErr result (self.new ≡ self.old) }
     {
         let auctions = auctions_of(alloc, recs)?;
         match &self.home {
@@ -73,7 +73,7 @@ impl Joining {
     ) -> Result<Vec<Value>, AllocError>
         ensures cell { OnOk result (self.new ≡ record { home = Some home; waiting = [] }) }
         ensures rows { IfOk result (λ v. v.items ≡ map (row_of home) (self.old.waiting ++ auctions.now)) }
-        ensures kept { OnErr result (self.new ≡ self.old) }
+        ensures unchanged { OnErr result (self.new ≡ self.old) }
     {
         let rows = rows_of(alloc, &home, self.waiting.as_slice(), auctions)?;
         self.home = Some(home);
@@ -85,7 +85,7 @@ impl Joining {
     fn wait(&mut self, alloc: Global, auctions: &[u64]) -> Result<Vec<Value>, AllocError>
         ensures cell { OnOk result (self.new ≡ record { home = self.old.home; waiting = self.old.waiting ++ auctions.now }) }
         ensures rows { IfOk result (λ v. v.items ≡ []) }
-        ensures kept { OnErr result (self.new ≡ self.old) }
+        ensures unchanged { OnErr result (self.new ≡ self.old) }
     {
         self.waiting.extend_from_slice(auctions)?;
         Ok(Vec::new(alloc))

@@ -1,6 +1,6 @@
 //! The keys and posts of q3 and q8.
 ghost use Rattle.std.specs.Prelude.{◌≡◌, ◌≤◌};
-ghost use Rattle.mp_model.specs.declared.limits.TheConstants.{LAST_TIME};
+ghost use Rattle.mp_names.specs.Limits.{last_time};
 ghost use Rattle.mp_q_join.specs.Keys.{end_of_day, is_asked_for, posts_of, seller_asked_for, seller_of};
 
 use mp_model::{PostList, Rec, Text, Time, Value};
@@ -57,7 +57,7 @@ pub fn seller_of(value: &Value) -> Option<u64>
 
 /// The posts of q8: a person and an auction post the end of the day of their time. The time is at most 2^47 + 43,200.
 pub fn posts_of(stage: u32, rec: &Rec) -> PostList
-    requires { rec.now.time ≤ LAST_TIME }
+    requires { rec.now.time ≤ last_time }
     ensures { result ≡ posts_of stage rec.now }
 {
     let mut posts = PostList::new();
@@ -69,7 +69,7 @@ pub fn posts_of(stage: u32, rec: &Rec) -> PostList
 
 /// The end of the day of a time, which is at most 2^47 + 43,200.
 fn end_of_day(time: Time) -> Time
-    requires { time ≤ LAST_TIME }
+    requires { time ≤ last_time }
     ensures { result ≡ end_of_day time }
 {
     (time / DAY + 1) * DAY

@@ -87,7 +87,7 @@ impl Selling {
     /// it was.
     fn apply(&mut self, value: &Value) -> Result<(), AllocError>
         ensures cell { OnOk result (self.new ≡ after_value self.old value.now) }
-        ensures kept { OnErr result (self.new ≡ self.old) }
+        ensures unchanged { OnErr result (self.new ≡ self.old) }
     {
         match value {
             Value::Person { name, .. } => {

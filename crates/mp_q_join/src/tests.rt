@@ -1,6 +1,6 @@
 //! The worked values, by each query as whatever query it is.
 ghost use Rattle.std.specs.Prelude.{◌≡◌, ◌≤◌, true};
-ghost use Rattle.mp_model.specs.declared.limits.TheConstants.{LAST_TIME};
+ghost use Rattle.mp_names.specs.Limits.{last_time};
 ghost use Rattle.mp_model.specs.Entry.{Entry};
 
 use crate::{Q3, Q8};
@@ -58,7 +58,7 @@ fn key<Q: Query>(query: &Q, value: &Value) -> Option<u64> {
 
 /// The only time that a value of this time posts.
 fn post<Q: Query>(query: &Q, time: Time, value: Value) -> Option<Time>
-    requires { time ≤ LAST_TIME }
+    requires { time ≤ last_time }
 {
     let rec = rec(time, 1, value);
     let posts = query.posts(0, &rec);

@@ -5,7 +5,7 @@ use Rattle.std.specs.Option.{option_to_list}
 use Rattle.std.proofs.Common.{◌∙◌, ap, arith}
 use Rattle.std.proofs.lemmas.Bool.{ne_eqb}
 use Rattle.std.proofs.lemmas.List.Elements.{All-nil, All-cons}
-use Rattle.mp_model.specs.declared.limits.TheConstants.{LAST_TIME, MAX_TIME}
+use Rattle.mp_names.specs.Limits.{greatest_time, last_time}
 use Rattle.mp_model.specs.declared.record.Rec.{Rec}
 use Rattle.mp_model.specs.declared.value.Value.{Value}
 use Rattle.mp_model.specs.declared.value.Value.TheVariants.{Bid, Count}
@@ -16,7 +16,7 @@ use Rattle.mp_q_window.specs.Q5.{bid_ends, count_time, q5_facts}
 use Rattle.mp_q_window.specs.Recent.{after_group, count_in}
 
 -- the ends of windows rise, are later than the bid, and not too late
-ends_later : (t : ℕ) (v : Value) → t ≤ MAX_TIME → RisesWithin t LAST_TIME (bid_ends t v)
+ends_later : (t : ℕ) (v : Value) → t ≤ greatest_time → RisesWithin t last_time (bid_ends t v)
 ends_later t (Bid auction bidder price) h =
     (omega arith, omega arith, (omega arith, omega arith, (omega arith, omega arith, (omega arith, omega arith, (omega arith, omega arith, (omega arith, omega arith, tt))))))
 ends_later t _ h = tt

@@ -3,7 +3,7 @@ use Rattle.std.specs.Prelude.{ℕ, suc, ◌≡◌, ◌==◌, ◌≤◌, Bool, tr
 use Rattle.std.specs.Option.{option_map, option_to_list}
 use Rattle.std.proofs.Common.{◌∙◌, ap, arith}
 use Rattle.std.proofs.lemmas.Bool.{ne_eqb}
-use Rattle.mp_model.specs.declared.limits.TheConstants.{LAST_TIME, MAX_TIME}
+use Rattle.mp_names.specs.Limits.{greatest_time, last_time}
 use Rattle.mp_model.specs.declared.value.Value.{Value}
 use Rattle.mp_model.specs.declared.value.Value.TheVariants.{Bid}
 use Rattle.mp_model.specs.Always.{always_fits}
@@ -13,7 +13,7 @@ use Rattle.mp_q_window.specs.Best.{after_group, row_of, row_with}
 use Rattle.mp_q_window.specs.Q7.{key_of, q7_facts}
 
 -- a window ends later than each of its times, and not too late
-ends_later : (t : ℕ) (v : Value) → t ≤ MAX_TIME → RisesWithin t LAST_TIME (option_to_list (key_of t v))
+ends_later : (t : ℕ) (v : Value) → t ≤ greatest_time → RisesWithin t last_time (option_to_list (key_of t v))
 ends_later t (Bid auction bidder price) h = (omega arith, omega arith, tt)
 ends_later t _ h = tt
 

@@ -1,6 +1,6 @@
 //! The query q5: the auctions with the most bids in each window.
 ghost use Rattle.std.specs.Prelude.{◌≡◌, ◌≤◌};
-ghost use Rattle.mp_model.specs.declared.limits.TheConstants.{LAST_TIME};
+ghost use Rattle.mp_names.specs.Limits.{last_time};
 ghost use Rattle.mp_q_window.specs.Q5.{key_of, posts_of};
 
 use crate::{Recent, counts, outputs, windows};
@@ -98,7 +98,7 @@ fn key(stage: u32, time: Time, value: &Value) -> Option<u64>
 
 /// The ends of the windows that a bid is in.
 fn posts(stage: u32, rec: &Rec) -> PostList
-    requires { rec.now.time ≤ LAST_TIME }
+    requires { rec.now.time ≤ last_time }
     ensures { result ≡ posts_of stage rec.now }
 {
     match &rec.value {

@@ -1,6 +1,6 @@
 //! The query q7: the best bid of each window.
 ghost use Rattle.std.specs.Prelude.{◌≡◌, ◌≤◌};
-ghost use Rattle.mp_model.specs.declared.limits.TheConstants.{LAST_TIME};
+ghost use Rattle.mp_names.specs.Limits.{last_time};
 ghost use Rattle.mp_q_window.specs.Q7.{key_of, posts_of};
 
 use crate::{Best, outputs, windows};
@@ -78,7 +78,7 @@ impl Query for Q7 {
 
 /// The end of the window that a bid of this time is in. Other values make no record.
 fn key(time: Time, value: &Value) -> Option<u64>
-    requires { time ≤ LAST_TIME }
+    requires { time ≤ last_time }
     ensures { result ≡ key_of time value.now }
 {
     match value {
@@ -89,7 +89,7 @@ fn key(time: Time, value: &Value) -> Option<u64>
 
 /// The end of the window that a bid is in.
 fn posts(stage: u32, rec: &Rec) -> PostList
-    requires { rec.now.time ≤ LAST_TIME }
+    requires { rec.now.time ≤ last_time }
     ensures { result ≡ posts_of stage rec.now }
 {
     let mut posts = PostList::new();

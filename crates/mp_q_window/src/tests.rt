@@ -1,6 +1,6 @@
 //! The worked values, by each query as whatever query it is.
 ghost use Rattle.std.specs.Prelude.{◌≡◌, ◌≤◌, true};
-ghost use Rattle.mp_model.specs.declared.limits.TheConstants.{LAST_TIME};
+ghost use Rattle.mp_names.specs.Limits.{last_time};
 ghost use Rattle.mp_model.specs.Entry.{Entry};
 
 use crate::{Q5, Q7};
@@ -62,14 +62,14 @@ fn wakes<Q: Query>(
 
 /// The key of a record in a stage.
 fn key<Q: Query>(query: &Q, stage: u32, rec: &Rec) -> Option<u64>
-    requires { rec.now.time ≤ LAST_TIME }
+    requires { rec.now.time ≤ last_time }
 {
     query.key(stage, rec.time, &rec.value)
 }
 
 /// The times that a record posts.
 fn posts<Q: Query>(query: &Q, stage: u32, rec: &Rec) -> PostList
-    requires { rec.now.time ≤ LAST_TIME }
+    requires { rec.now.time ≤ last_time }
 {
     query.posts(stage, rec)
 }

@@ -1,6 +1,6 @@
 //! The times at which windows end.
 ghost use Rattle.std.specs.Prelude.{◌≡◌, ◌≤◌, All};
-ghost use Rattle.mp_model.specs.declared.limits.TheConstants.{LAST_TIME};
+ghost use Rattle.mp_names.specs.Limits.{last_time};
 ghost use Rattle.mp_q_window.specs.Windows.{IsEndWithin, end_after, ends_after};
 
 use mp_model::{PostList, Time};
@@ -13,7 +13,7 @@ const ENDS: u64 = 6;
 
 /// The first end of a window above a time, which is at most 600 above it.
 pub fn next_end(time: Time) -> Time
-    requires { time ≤ LAST_TIME }
+    requires { time ≤ last_time }
     ensures end { result ≡ end_after time }
     ensures within { IsEndWithin 600 time result }
 {
@@ -22,7 +22,7 @@ pub fn next_end(time: Time) -> Time
 
 /// The six ends of windows above a time and at most 3600 above it, in order.
 pub fn next_ends(time: Time) -> PostList
-    requires { time ≤ LAST_TIME }
+    requires { time ≤ last_time }
     ensures ends { result ≡ ends_after time }
     ensures within { All (IsEndWithin 3600 time) result }
 {

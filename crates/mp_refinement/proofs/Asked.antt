@@ -7,11 +7,11 @@ use Rattle.mp_machine.specs.Worlds.{World, logs_of}
 use Rattle.mp_machine.proofs.Worlds.{WorldIsRight}
 use Rattle.mp_refinement.specs.Ends.{sent_to, took_from}
 use Rattle.mp_refinement.specs.Laws.{StepsMayBeAsked}
-use Rattle.mp_refinement.specs.Together.{AreWorld, Together}
+use Rattle.mp_refinement.specs.SystemState.{Refines, SystemState}
 use Rattle.mp_refinement.proofs.Logs.{listed}
 use Rattle.mp_refinement.proofs.Mailboxes.{at_ends}
 
-module _ (o : Outline) (depth : ℕ) (t : Together) (world : World) (right : WorldIsRight o depth world) (are : AreWorld o depth t world) where
+module _ (o : Outline) (depth : ℕ) (t : SystemState) (world : World) (right : WorldIsRight o depth world) (are : Refines o depth t world) where
   pub may_be_asked : StepsMayBeAsked o t
   may_be_asked =
       record {

@@ -15,7 +15,7 @@ use Rattle.mp_mailbox.proofs.Queued.{empty_stands}
 use Rattle.mp_machine.specs.Worlds.{start_of_machine}
 use Rattle.mp_refinement.specs.Laws.{IsNewWorker, OpeningIsTheStart, OpeningIsTold}
 use Rattle.mp_refinement.specs.State.{WorkerState}
-use Rattle.mp_refinement.specs.Together.{IsWorkerOf, queues_stand}
+use Rattle.mp_refinement.specs.SystemState.{IsWorkerOf, queues_denote}
 use Rattle.mp_refinement.proofs.Exchanges.{frontier_of_logs}
 
 empty_at : (n v : ℕ) → log_at (replicate n empty_log) v ≡ empty_log
@@ -53,5 +53,5 @@ opening_is_the_start o depth t ok all new logs version post =
       version = version;
       all_queues = ap (λ (q : Queues Name). q.workers) post;
       each_depth = ap (λ (q : Queues Name). q.depth) post;
-      mail = λ v w lv lw. subst (λ (q : Queues Name). queues_stand o q v w [] []) (sym post) (empty_stands (λ (x : Name). x ∷ []) (sender o) (receiver o) o.workers depth v w lv lw);
+      mail = λ v w lv lw. subst (λ (q : Queues Name). queues_denote o q v w [] []) (sym post) (empty_stands (λ (x : Name). x ∷ []) (sender o) (receiver o) o.workers depth v w lv lw);
     }

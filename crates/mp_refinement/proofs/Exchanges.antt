@@ -25,7 +25,7 @@ use Rattle.mp_board.specs.Boards.{ShowsFrontiers, exchanged, version_with}
 use Rattle.mp_board.proofs.Recounted.{frontier_of_equal}
 use Rattle.mp_refinement.specs.Laws.{MailFollows}
 use Rattle.mp_refinement.specs.State.{WorkerState}
-use Rattle.mp_refinement.specs.Together.{AreWorld, IsWorkerOf, Together, with_worker}
+use Rattle.mp_refinement.specs.SystemState.{Refines, IsWorkerOf, SystemState, with_worker}
 use Rattle.mp_refinement.proofs.Logs.{listed, next_world}
 
 -- A frontier looks at the logs of the outline's workers alone
@@ -38,7 +38,7 @@ pub frontier_of_logs : (o : Outline) (a b : ℕ → Log) → ((v : ℕ) → v < 
 frontier_of_logs o a b e at f h =
     frontier_of_equal (count_at o a) (count_at o b) (λ loc t. sum_is o.workers (λ v. contribution o v (a v) loc t) (λ v. contribution o v (b v) loc t) (λ v l. ap (λ (log : Log). contribution o v log loc t) (e v l))) at f h
 
-module _ (o : Outline) (ok : OutlineIsSound o) (depth : ℕ) (t : Together) (world : World) (right : WorldIsRight o depth world) (are : AreWorld o depth t world) (w : ℕ) (s : WorkerState) (was : slice_get t.workers w ≡ Some s) where
+module _ (o : Outline) (ok : OutlineIsSound o) (depth : ℕ) (t : SystemState) (world : World) (right : WorldIsRight o depth world) (are : Refines o depth t world) (w : ℕ) (s : WorkerState) (was : slice_get t.workers w ≡ Some s) where
   is : IsWorkerOf o w s (world.worker w)
   is = are.workers w s was
 
@@ -91,7 +91,7 @@ module _ (o : Outline) (ok : OutlineIsSound o) (depth : ℕ) (t : Together) (wor
         (λ l. posted_here ∙ is.log)
         (λ v n l. posted_elsewhere v n ∙ are.posted v l)
 
-    seen_world : (post : Queues Name) → MailFollows o w t.post s s post → AreWorld o depth (record (with_worker t w (record s { seen = seen }) post) { board = exchanged t.board w s.log }) (world_exchanged o world w)
+    seen_world : (post : Queues Name) → MailFollows o w t.post s s post → Refines o depth (record (with_worker t w (record s { seen = seen }) post) { board = exchanged t.board w s.log }) (world_exchanged o world w)
     seen_world post mail =
         next_world o depth t world are w s was (record s { seen = seen }) (having_seen o world w) looked post (exchanged t.board w s.log) (version_after world w) world.mailbox mail.workers mail.depth mail.follows
         (length-set t.board.logs w s.log ∙ are.all_logs) board_is version_is
@@ -108,11 +108,11 @@ module _ (o : Outline) (ok : OutlineIsSound o) (depth : ℕ) (t : Together) (wor
     )
 
     pub saw : (post : Queues Name) → (seen.version ≡ s.seen.version → ⊥) → MailFollows o w t.post s s post
-        → (turn_of_machine o depth world w Exchange ≡ Saw seen.version) × AreWorld o depth (record (with_worker t w (record s { seen = seen }) post) { board = exchanged t.board w s.log }) (step_of_machine o depth world w Exchange)
+        → (turn_of_machine o depth world w Exchange ≡ Saw seen.version) × Refines o depth (record (with_worker t w (record s { seen = seen }) post) { board = exchanged t.board w s.log }) (step_of_machine o depth world w Exchange)
     unfolding turn_of_machine step_of_machine
     saw post new mail =
         let turn = saw_from o depth world w Exchange (can_exchange new) in
-        (turn ∙ ap Saw (sym (version ∙ version_is)), subst (AreWorld o depth (record (with_worker t w (record s { seen = seen }) post) { board = exchanged t.board w s.log })) (sym (ap (after_turn o world w Exchange) turn)) (seen_world post mail))
+        (turn ∙ ap Saw (sym (version ∙ version_is)), subst (Refines o depth (record (with_worker t w (record s { seen = seen }) post) { board = exchanged t.board w s.log })) (sym (ap (after_turn o world w Exchange) turn)) (seen_world post mail))
 
   -- the version that the worker had seen
 

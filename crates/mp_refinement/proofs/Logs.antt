@@ -13,11 +13,11 @@ use Rattle.mp_machine.proofs.Puts.{put_here, put_other}
 use Rattle.mp_board.specs.Boards.{Posted}
 use Rattle.mp_refinement.specs.Ends.{FollowsLog, sent_to, took_from}
 use Rattle.mp_refinement.specs.State.{WorkerState}
-use Rattle.mp_refinement.specs.Together.{AreWorld, IsWorkerOf, Together, queues_stand}
+use Rattle.mp_refinement.specs.SystemState.{Refines, IsWorkerOf, SystemState, queues_denote}
 use Rattle.mp_refinement.proofs.Lists.{of_chosen, set_all}
 use Rattle.mp_refinement.proofs.Mailboxes.{StandFor, follow}
 
-module _ (o : Outline) (depth : ℕ) (t : Together) (world : World) (are : AreWorld o depth t world) (w : ℕ) (s : WorkerState) (was : slice_get t.workers w ≡ Some s) where
+module _ (o : Outline) (depth : ℕ) (t : SystemState) (world : World) (are : Refines o depth t world) (w : ℕ) (s : WorkerState) (was : slice_get t.workers w ≡ Some s) where
   pub listed : w < o.workers
   listed = let l = slice_get_within t.workers w s was in let e = are.all_workers in omega arith
 
@@ -31,16 +31,16 @@ module _ (o : Outline) (depth : ℕ) (t : Together) (world : World) (are : AreWo
     logs_are : (v : ℕ) → put w new.log (logs_of world) v ≡ (put w me world.worker v).log
     logs_are v = ap (λ (l : Log). put w l (logs_of world) v) is.log ∙ of_chosen (λ (k : Worker). k.log) (v == w) me (world.worker v)
 
-    mail_is : (post : Queues Name) → FollowsLog (queues_stand o t.post) (queues_stand o post) o w s.log new.log → StandFor o post (λ v. (put w me world.worker v).log)
+    mail_is : (post : Queues Name) → FollowsLog (queues_denote o t.post) (queues_denote o post) o w s.log new.log → StandFor o post (λ v. (put w me world.worker v).log)
     mail_is post follows a b la lb =
-        subst (λ (l : Log). queues_stand o post a b (sent_to o l b) (took_from o (put w me world.worker b).log a)) (logs_are a)
-        (subst (λ (l : Log). queues_stand o post a b (sent_to o (put w new.log (logs_of world) a) b) (took_from o l a)) (logs_are b)
+        subst (λ (l : Log). queues_denote o post a b (sent_to o l b) (took_from o (put w me world.worker b).log a)) (logs_are a)
+        (subst (λ (l : Log). queues_denote o post a b (sent_to o (put w new.log (logs_of world) a) b) (took_from o l a)) (logs_are b)
         (follow o w (logs_of world) t.post post s.log new.log (are.workers w s was).log follows are.mail a b la lb))
 
     -- the worker of the machine is another one, and the mailboxes follow its log
-    pub next_world : (post : Queues Name) (board : Posted) (version : ℕ) (mailbox : ℕ → ℕ → List Name) → post.workers ≡ t.post.workers → post.depth ≡ t.post.depth → FollowsLog (queues_stand o t.post) (queues_stand o post) o w s.log new.log
+    pub next_world : (post : Queues Name) (board : Posted) (version : ℕ) (mailbox : ℕ → ℕ → List Name) → post.workers ≡ t.post.workers → post.depth ≡ t.post.depth → FollowsLog (queues_denote o t.post) (queues_denote o post) o w s.log new.log
         → length board.logs ≡ o.workers → ((v : ℕ) → v < o.workers → log_at board.logs v ≡ (put w me world.worker v).posted) → board.version ≡ version
-        → AreWorld o depth (record { workers = set t.workers w new; board = board; post = post }) (record { worker = put w me world.worker; version = version; mailbox = mailbox })
+        → Refines o depth (record { workers = set t.workers w new; board = board; post = post }) (record { worker = put w me world.worker; version = version; mailbox = mailbox })
     next_world post board version mailbox each deep follows all_logs posted versions =
         record {
           all_workers = length-set t.workers w new ∙ are.all_workers;

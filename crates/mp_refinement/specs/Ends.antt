@@ -25,13 +25,13 @@ abbrev pub popped_by : Outline → ℕ → Log → ℕ → ℕ → List Name →
 popped_by o w log a b else_popped = cond (b == w) (took_from o log a) else_popped
 
 -- at this worker's ends the post stands for what its log has as sent and taken
-abbrev pub AtEnds : Standing → Outline → ℕ → Log → Type 0
-AtEnds stands o w log =
+abbrev pub PostMatchesLog : Standing → Outline → ℕ → Log → Type 0
+PostMatchesLog denotes o w log =
     (a b : ℕ)
     → a < o.workers
     → b < o.workers
     → (a ≡ w) ⊎ (b ≡ w)
-    → (pushed : List Name) × (popped : List Name) × stands a b (pushed_by o w log a b pushed) (popped_by o w log a b popped)
+    → (pushed : List Name) × (popped : List Name) × denotes a b (pushed_by o w log a b pushed) (popped_by o w log a b popped)
 
 -- as this worker's log changed, so did what the post stands for at its ends, and nothing did at others
 abbrev pub FollowsLog : Standing → Standing → Outline → ℕ → Log → Log → Type 0

@@ -11,56 +11,56 @@ use Rattle.mp_mailbox.specs.Queues.{HadRoom, Queues, WasEmpty, WasFull, empty_qu
 use Rattle.mp_machine.specs.Worlds.{World, start_of_machine}
 use Rattle.mp_machine.specs.Runs.{Did, NotNow, Saw, WorkerIsFinished, run_of_machine, step_of_machine, turn_of_machine}
 use Rattle.mp_board.specs.Boards.{ShowsFrontiers, TellsWorker, exchanged}
-use Rattle.mp_refinement.specs.Ends.{AtEnds, FollowsLog}
-use Rattle.mp_refinement.specs.Mail.{MailHinders, MailLets}
+use Rattle.mp_refinement.specs.Ends.{PostMatchesLog, FollowsLog}
+use Rattle.mp_refinement.specs.Mail.{MailboxBlocks, MailboxAllows}
 use Rattle.mp_refinement.specs.State.{CanMake, Makes, WorkerState}
-use Rattle.mp_refinement.specs.Together.{AreWorld, KnowsTheEnd, Together, queues_stand, with_worker}
+use Rattle.mp_refinement.specs.SystemState.{Refines, KnowsTheEnd, SystemState, queues_denote, with_worker}
 
 -- The mailboxes after a step of a worker: they stand for what they stood for, but that its log may have one name more
 pub record MailFollows (o : Outline) (w : ℕ) (old : Queues Name) (before after : WorkerState) (new : Queues Name) : Type 0 where
   pub workers : new.workers ≡ old.workers
   pub depth : new.depth ≡ old.depth
-  pub follows : FollowsLog (queues_stand o old) (queues_stand o new) o w before.log after.log
+  pub follows : FollowsLog (queues_denote o old) (queues_denote o new) o w before.log after.log
 
 -- What a worker says of its step is the turn of the machine
-pub record StepsAreTurns (o : Outline) (depth : ℕ) (t : Together) (world : World) : Type 0 where
+pub record StepsRefineMachine (o : Outline) (depth : ℕ) (t : SystemState) (world : World) : Type 0 where
   -- a name was put into the log
   pub did : (w : ℕ) (kind : Kind) (x : Name) (old new : WorkerState) (post : Queues Name)
-      → slice_get t.workers w ≡ Some old → Makes o kind old x new → MailLets (HadRoom t.post) o w kind x → MailFollows o w t.post old new post
-      → (turn_of_machine o depth world w kind ≡ Did x) × AreWorld o depth (with_worker t w new post) (step_of_machine o depth world w kind)
+      → slice_get t.workers w ≡ Some old → Makes o kind old x new → MailboxAllows (HadRoom t.post) o w kind x → MailFollows o w t.post old new post
+      → (turn_of_machine o depth world w kind ≡ Did x) × Refines o depth (with_worker t w new post) (step_of_machine o depth world w kind)
   -- no step of this kind could be made, or a mailbox was in the way
   pub not_now : (w : ℕ) (kind : Kind) (s : WorkerState) (post : Queues Name)
-      → slice_get t.workers w ≡ Some s → (kind ≡ Exchange → ⊥) → ((x : Name) → CanMake o kind s x → MailHinders (WasFull t.post) (WasEmpty t.post) o w kind x) → MailFollows o w t.post s s post
-      → (turn_of_machine o depth world w kind ≡ NotNow) × AreWorld o depth (with_worker t w s post) world
+      → slice_get t.workers w ≡ Some s → (kind ≡ Exchange → ⊥) → ((x : Name) → CanMake o kind s x → MailboxBlocks (WasFull t.post) (WasEmpty t.post) o w kind x) → MailFollows o w t.post s s post
+      → (turn_of_machine o depth world w kind ≡ NotNow) × Refines o depth (with_worker t w s post) world
   -- an exchange saw a version that is new to the worker
   pub saw : (w : ℕ) (s : WorkerState) (seen : Seen) (post : Queues Name) → let board = exchanged t.board w s.log in
       slice_get t.workers w ≡ Some s → seen.version ≡ board.version → ShowsFrontiers o board.logs seen → (seen.version ≡ s.seen.version → ⊥) → MailFollows o w t.post s s post
       → (turn_of_machine o depth world w Exchange ≡ Saw seen.version)
-      × AreWorld o depth (record (with_worker t w (record s { seen = seen }) post) { board = board }) (step_of_machine o depth world w Exchange)
+      × Refines o depth (record (with_worker t w (record s { seen = seen }) post) { board = board }) (step_of_machine o depth world w Exchange)
   -- an exchange saw the version that the worker had seen: it changed nothing
   pub saw_nothing : (w : ℕ) (s : WorkerState) (post : Queues Name) → let board = exchanged t.board w s.log in
       slice_get t.workers w ≡ Some s → board.version ≡ s.seen.version → MailFollows o w t.post s s post
-      → (turn_of_machine o depth world w Exchange ≡ NotNow) × (board ≡ t.board) × AreWorld o depth (with_worker t w s post) world
+      → (turn_of_machine o depth world w Exchange ≡ NotNow) × (board ≡ t.board) × Refines o depth (with_worker t w s post) world
 
 -- What a worker may be sure of before its step
-pub record StepsMayBeAsked (o : Outline) (t : Together) : Type 0 where
+pub record StepsMayBeAsked (o : Outline) (t : SystemState) : Type 0 where
   pub fits : (w : ℕ) (s : WorkerState) → slice_get t.workers w ≡ Some s → (w < o.workers) × (s.number ≡ w)
-  pub ends : (w : ℕ) (s : WorkerState) → slice_get t.workers w ≡ Some s → AtEnds (queues_stand o t.post) o w s.log
+  pub ends : (w : ℕ) (s : WorkerState) → slice_get t.workers w ≡ Some s → PostMatchesLog (queues_denote o t.post) o w s.log
   pub posted : (w : ℕ) (s : WorkerState) → slice_get t.workers w ≡ Some s → LogGrows (log_at t.board.logs w) s.log
   pub legal : (w : ℕ) (s : WorkerState) → slice_get t.workers w ≡ Some s → LogIsLegal o w s.log
   -- no worker knows of a later version than the board's
   pub version : (w : ℕ) (s : WorkerState) → slice_get t.workers w ≡ Some s → s.seen.version ≤ t.board.version
 
 -- P holds of workers that take turns, and of the state of the machine that they are in, wherever a run comes
-abbrev pub WhereverTheyAre : (Outline → ℕ → Together → World → Type 0) → Type 0
+abbrev pub WhereverTheyAre : (Outline → ℕ → SystemState → World → Type 0) → Type 0
 WhereverTheyAre P =
-    (o : Outline) (depth : ℕ) (steps : List (ℕ × Kind)) (t : Together)
+    (o : Outline) (depth : ℕ) (steps : List (ℕ × Kind)) (t : SystemState)
     → OutlineIsSound o
-    → AreWorld o depth t (run_of_machine o depth steps)
+    → Refines o depth t (run_of_machine o depth steps)
     → P o depth t (run_of_machine o depth steps)
 
-abbrev pub StepsAreAlwaysTurns : Type 0
-StepsAreAlwaysTurns = WhereverTheyAre StepsAreTurns
+abbrev pub StepsAlwaysRefine : Type 0
+StepsAlwaysRefine = WhereverTheyAre StepsRefineMachine
 
 abbrev pub StepsMayAlwaysBeAsked : Type 0
 StepsMayAlwaysBeAsked = WhereverTheyAre (λ o depth t world. StepsMayBeAsked o t)
@@ -80,19 +80,19 @@ pub record IsNewWorker (o : Outline) (w : ℕ) (s : WorkerState) : Type 0 where
 -- with such workers, an opening board and empty mailboxes the machine begins
 abbrev pub OpeningIsTheStart : Type 0
 OpeningIsTheStart =
-    (o : Outline) (depth : ℕ) (t : Together)
+    (o : Outline) (depth : ℕ) (t : SystemState)
     → OutlineIsSound o
     → length t.workers ≡ o.workers
     → ((w : ℕ) (s : WorkerState) → slice_get t.workers w ≡ Some s → IsNewWorker o w s)
     → t.board.logs ≡ replicate o.workers empty_log
     → t.board.version ≡ 0
     → t.post ≡ empty_queues o.workers depth
-    → AreWorld o depth t (start_of_machine o)
+    → Refines o depth t (start_of_machine o)
 
 -- a worker that knows the end is finished as the machine has it, and one that is finished so knows it
 abbrev pub EndsAreKnown : Type 0
 EndsAreKnown =
-    (o : Outline) (depth : ℕ) (t : Together) (world : World) (w : ℕ) (s : WorkerState)
-    → AreWorld o depth t world
+    (o : Outline) (depth : ℕ) (t : SystemState) (world : World) (w : ℕ) (s : WorkerState)
+    → Refines o depth t world
     → slice_get t.workers w ≡ Some s
     → (KnowsTheEnd o s ↔ WorkerIsFinished o world w)

@@ -2,5 +2,5 @@
 pub mod State
 pub mod Ends
 pub mod Mail
-pub mod Together
+pub mod SystemState
 pub mod Laws

@@ -1,9 +1,9 @@
 //! The laws of workers that take turns, each the contract of a function that does nothing.
-ghost use Rattle.mp_refinement.specs.Laws.{EndsAreKnown, OpeningIsTheStart, OpeningIsTold, StepsAreAlwaysTurns, StepsMayAlwaysBeAsked};
+ghost use Rattle.mp_refinement.specs.Laws.{EndsAreKnown, OpeningIsTheStart, OpeningIsTold, StepsAlwaysRefine, StepsMayAlwaysBeAsked};
 
 /// What each worker says of its step is the turn that the machine has there, and what it asks for before is so.
 pub fn steps_are_turns()
-    ensures turns { StepsAreAlwaysTurns }
+    ensures turns { StepsAlwaysRefine }
     ensures asked { StepsMayAlwaysBeAsked }
 {}
 

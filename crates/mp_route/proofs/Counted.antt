@@ -82,7 +82,7 @@ module _ {Cell : Type 0} (q : QueryFacts Cell) (job : JobFacts) where
       let at_time : Name → Bool = λ x. is_held o w log x && time_of o x == t in
       ap pos
       (sym (count_named (name_of_record h.stage) at_time (λ r. r.time == t) h.held (λ r i. under_true (is_held o w log (name_of_record h.stage r)) (r.time == t) (held (name_of_record h.stage r) (named_In (name_of_record h.stage) h.held r i))))
-      ∙ sym (same_count at_time (names_held h) (record_names q job h.stage) u.once (names_once h.stage) listed stands))
+      ∙ sym (same_count at_time (names_held h) (record_names q job h.stage) u.once (names_once h.stage) listed denotes))
     where
       held : (x : Name) → In x (names_held h) → is_held (outline_of q job) w log x ≡ true
       held x i =
@@ -92,8 +92,8 @@ module _ {Cell : Type 0} (q : QueryFacts Cell) (job : JobFacts) where
       listed : (x : Name) → In x (names_held h) → (is_held (outline_of q job) w log x && time_of (outline_of q job) x == t) ≡ true → In x (record_names q job h.stage)
       listed x i e = let a = (u.unsent x).0 i in owed_listed (outline_of q job) h.stage x a.0 a.1
 
-      stands : (x : Name) → In x (record_names q job h.stage) → (is_held (outline_of q job) w log x && time_of (outline_of q job) x == t) ≡ true → In x (names_held h)
-      stands x i e =
+      denotes : (x : Name) → In x (record_names q job h.stage) → (is_held (outline_of q job) w log x && time_of (outline_of q job) x == t) ≡ true → In x (names_held h)
+      denotes x i e =
           let o = outline_of q job in
           let p = and_parts (is_held o w log x) (time_of o x == t) e in
           let g = and_parts (is_given o w log x) (not (has log.sent x)) p.0 in

@@ -59,7 +59,7 @@ impl<Q: Query, J: Naming> Router<Q, J> {
         ensures room { OnOk result (n ≤ self.new.room) }
         ensures held { self.new.held ≡ self.old.held }
         ensures stage { self.new.stage ≡ self.old.stage }
-        ensures refused { OnErr result (self.new ≡ self.old) }
+        ensures unchanged { OnErr result (self.new ≡ self.old) }
     {
         self.held.make_room(n)
     }
@@ -71,7 +71,7 @@ impl<Q: Query, J: Naming> Router<Q, J> {
         ensures held { OnOk result (self.new.held ≡ put_in_order tag_rank rec self.old.held) }
         ensures stage { self.new.stage ≡ self.old.stage }
         ensures room { OnOk result (self.old.room ≤ self.new.room + 1) }
-        ensures refused { OnErr result (self.new ≡ self.old) }
+        ensures unchanged { OnErr result (self.new ≡ self.old) }
         ensures never_refused_with_room { 0 < self.old.room → IsOk result }
         ensures unsent { OnOk result ((w : ℕ) (old new : Log) → let q = Q.facts J.job.rules in
             HoldsUnsent q J.job w old self.old

@@ -1,6 +1,6 @@
 //! Three records through a router, with ample memory.
 ghost use Rattle.std.specs.Prelude.{◌≡◌, ◌≤◌, [], IfOk, length, refl};
-ghost use Rattle.mp_model.specs.declared.limits.TheConstants.{MAX_EVENTS};
+ghost use Rattle.mp_names.specs.Limits.{most_events};
 ghost use Rattle.mp_model.specs.Legal.{EventIsLegal, EventsAreLegal};
 ghost use Rattle.mp_job.specs.Samples.{bids_fit, bids_give_nothing, bids_have_keys, bids_have_stages};
 ghost use Rattle.mp_job.specs.Samples.{bids_post_later, bids_post_once, bids_stay_fresh, waking_bids};
@@ -104,7 +104,7 @@ fn bid_at(time: u32) -> Event
 }
 
 fn bids_at(alloc: Global, times: &[u32]) -> Result<Vec<Event>, AllocError>
-    requires { length times.now ≤ MAX_EVENTS }
+    requires { length times.now ≤ most_events }
     ensures { IfOk result (λ v. EventsAreLegal v.items) }
 {
     let mut events = Vec::new(alloc);

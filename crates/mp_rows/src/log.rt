@@ -83,7 +83,7 @@ impl<Q: Query, J: Naming> Log<Q, J> {
           room_for_names = self.old.room_for_names - 1;
           room_for_changes = self.old.room_for_changes - length changes.now;
         }) }
-        ensures refused { OnErr result (self.new ≡ self.old) }
+        ensures unchanged { OnErr result (self.new ≡ self.old) }
         ensures ready { 1 ≤ self.old.room_for_names → length changes.now ≤ self.old.room_for_changes → IsOk result }
     {
         self.lists.reserve(1)?;
@@ -102,7 +102,7 @@ impl<Q: Query, J: Naming> Log<Q, J> {
           room_for_names = max self.old.room_for_names n;
           room_for_changes = max self.old.room_for_changes n;
         }) }
-        ensures refused { OnErr result (self.new ≡ self.old) }
+        ensures unchanged { OnErr result (self.new ≡ self.old) }
     {
         self.lists.reserve(n as usize)?;
         self.contributions.reserve(n as usize)?;

@@ -36,7 +36,7 @@ impl<M: Named + Drop, R: Wait> Post<M> for RuledPost<M, R> {
 
     ghost serves = { λ p worker. worker ≡ p.worker };
 
-    ghost stands = { RuledStands M.names };
+    ghost denotes = { RuledStands M.names };
 
     ghost had_room = { SenderHadRoom };
 

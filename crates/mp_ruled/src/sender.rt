@@ -45,7 +45,7 @@ impl<M: Named + Drop> SenderEnd<M> {
         ensures ok { OnOk result (self.new ≡ with_sent self.old message) }
         ensures room { OnOk result (HadRoom self.old) }
 
-        ensures err { OnErr result (self.new ≡ self.old) }
+        ensures unchanged { OnErr result (self.new ≡ self.old) }
         ensures back { IfErr result (λ f. f.message ≡ message) }
         ensures full { OnErr result (WasFull self.old) }
     {

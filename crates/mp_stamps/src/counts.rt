@@ -7,7 +7,7 @@ ghost use Rattle.mp_names.specs.declared.locations.Loc.{Loc};
 ghost use Rattle.mp_stamps.specs.Counts.{count_in, is_of, is_open, open_times};
 
 use crate::reaching::reaches;
-use mp_names::{Frontier, Loc};
+use mp_names::{Frontier, Loc, Time};
 use std::alloc::{AllocError, Global};
 use std::marker::Model;
 
@@ -15,7 +15,7 @@ use std::marker::Model;
 #[derive(Clone, Copy, Debug, Drop)]
 pub struct Count {
     pub loc: Loc,
-    pub time: u64,
+    pub time: Time,
     pub count: i64,
 }
 
@@ -51,11 +51,11 @@ impl Counts {
 
     /// Adds to the count of a location at a time. The sum fits an `i64`. `AllocError`: no memory, and
     /// nothing changes.
-    pub fn add(&mut self, loc: Loc, time: u64, by: i64) -> Result<(), AllocError>
+    pub fn add(&mut self, loc: Loc, time: Time, by: i64) -> Result<(), AllocError>
         requires { FitsSigned w64 (count_in self.old loc time +ℤ by) }
         ensures counted { OnOk result (count_in self.new loc time ≡ count_in self.old loc time +ℤ by) }
         ensures others { OnOk result ((at : Loc) (t : ℕ) → ¬ ((at ≡ loc) × (t ≡ time)) → count_in self.new at t ≡ count_in self.old at t) }
-        ensures refused { OnErr result (self.new ≡ self.old) }
+        ensures unchanged { OnErr result (self.new ≡ self.old) }
     {
         match index_of(&self.entries, loc, time) {
             Some(index) => self.entries[index].count += by,
@@ -69,7 +69,7 @@ impl Counts {
     }
 
     /// The count of a location at a time.
-    pub fn at(&self, loc: Loc, time: u64) -> i64
+    pub fn at(&self, loc: Loc, time: Time) -> i64
         ensures { result ≡ count_in self.now loc time }
     {
         match index_of(&self.entries, loc, time) {
@@ -91,13 +91,13 @@ impl Counts {
 }
 
 // The index of the entry of a location and time.
-fn index_of(entries: &[Count], loc: Loc, time: u64) -> Option<usize>
+fn index_of(entries: &[Count], loc: Loc, time: Time) -> Option<usize>
     ensures { result ≡ position (is_of loc time) entries.now }
 {
     entries.iter().position(|entry| is_of(entry, loc, time))
 }
 
-fn is_of(entry: &Count, loc: Loc, time: u64) -> bool
+fn is_of(entry: &Count, loc: Loc, time: Time) -> bool
     ensures { result ≡ is_of loc time entry.now }
 {
     entry.loc == loc && entry.time == time

@@ -2,11 +2,11 @@
 ghost use Rattle.std.specs.Prelude.{◌≡◌, ◌↔◌, IsTrue};
 ghost use Rattle.mp_names.specs.Frontiers.{HasPassed};
 
-use mp_names::Frontier;
+use mp_names::{Frontier, Time};
 
 /// Whether a frontier has passed a time: nothing of that time comes any more. It hasn't passed the time
 /// at which it stands.
-pub fn passed(frontier: Frontier, time: u64) -> bool
+pub fn passed(frontier: Frontier, time: Time) -> bool
     ensures { IsTrue result ↔ HasPassed frontier time }
 {
     match frontier {

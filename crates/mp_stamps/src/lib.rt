@@ -13,4 +13,4 @@ pub use counts::Counts;
 pub use frontiers::passed;
 pub use mp_names::{Frontier, Loc};
 pub use reaching::reaches;
-pub use seen::{MAX_STAGES, Seen};
+pub use seen::Seen;

@@ -1,15 +1,13 @@
 //! What a worker saw at its last exchange.
 ghost use Rattle.std.specs.Prelude.{◌≡◌, ◌≤◌, ◌<◌, ◌+◌, ◌*◌};
 ghost use Rattle.mp_names.specs.Frontiers.{IsFrontierOf};
+ghost use Rattle.mp_names.specs.Limits.{most_stages_seen};
 ghost use Rattle.mp_names.specs.declared.locations.Loc.{Loc};
 ghost use Rattle.mp_stamps.specs.Counts.{count_in};
 ghost use Rattle.mp_stamps.specs.Seen.{HasLoc, place_of, seen_at};
 
 use crate::counts::Counts;
 use mp_names::{Frontier, Loc};
-
-/// The most stages that a job may have for its frontiers to be seen.
-pub const MAX_STAGES: u32 = 4;
 
 // Five locations have no stage, and five are of each stage.
 const PLACES: usize = 25;
@@ -24,9 +22,9 @@ pub struct Seen {
 }
 
 impl Seen {
-    /// The frontiers that the counts show, of a job of that many stages, at most `MAX_STAGES`.
+    /// The frontiers that the counts show, of a job of that many stages, at most `MAX_STAGES_SEEN`.
     pub fn of(stages: u32, version: u64, counts: &Counts) -> Seen
-        requires { stages ≤ MAX_STAGES }
+        requires { stages ≤ most_stages_seen }
         ensures version { result.version ≡ version }
         ensures stages { result.stages ≡ stages }
         ensures frontiers { (at : Loc) → HasLoc stages at → IsFrontierOf (count_in counts.now) at (seen_at result at) }
@@ -56,7 +54,7 @@ impl Seen {
         self.stages
     }
 
-    /// The frontier of a location; `Done` of one that the job hasn't.
+    /// The frontier of a location of the job.
     pub fn frontier(&self, loc: Loc) -> Frontier
         ensures { result ≡ seen_at self.now loc }
     {

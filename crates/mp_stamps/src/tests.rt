@@ -1,5 +1,5 @@
 //! The worked values, with ample memory.
-use crate::{Counts, Frontier, Loc, MAX_STAGES, Seen, passed, reaches};
+use crate::{Counts, Frontier, Loc, Seen, passed, reaches};
 use std::test::Fail;
 
 #[test]
@@ -32,7 +32,7 @@ fn seen_at_each_location(rt: HostRuntime) -> Result<(), Fail> {
     let mut counts = Counts::new(rt.alloc());
     counts.add(Loc::Host(3), 7, 1)?;
     counts.add(Loc::Move(1), 4, 2)?;
-    let seen = Seen::of(MAX_STAGES, 9, &counts);
+    let seen = Seen::of(9, &counts);
     assert_eq!(rt; seen.version(), 9);
     assert_eq!(rt; seen.stages(), 4);
     assert_eq!(rt; seen.frontier(Loc::CtlMail), Frontier::Done);

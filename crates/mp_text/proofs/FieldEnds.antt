@@ -83,19 +83,19 @@ start_from-take n held ends zero same low = refl
 start_from-take n held ends (suc i) same low = ap (λ es. get_or es i 0 + 1) same ∙ ap (λ k. k + 1) (get_or-take n ends i 0 (omega (arith, low)))
 
 -- each part stands from its start up to its end
-stands-join : (parts : List (List ℕ)) (line : List ℕ) (c place i : ℕ) → place ≤ length line → drop place line ≡ join_with_byte c parts → i < length parts
+denotes-join : (parts : List (List ℕ)) (line : List ℕ) (c place i : ℕ) → place ≤ length line → drop place line ≡ join_with_byte c parts → i < length parts
     → StandsAt line (start_from place (ends_from place parts) i) (get_or (ends_from place parts) i 0) (get_or parts i [])
 unfolding start_from
-stands-join [] line c place i inside same low = absurd (omega (arith, low))
-stands-join (part ∷ []) line c place zero inside same low =
+denotes-join [] line c place i inside same low = absurd (omega (arith, low))
+denotes-join (part ∷ []) line c place zero inside same low =
     let long : length line - place ≡ length part = sym (length-drop place line) ∙ ap length same in
     record {
       order = omega arith;
       within = omega arith;
       bytes = take_all _ _ (omega (arith, length-drop place line)) ∙ same;
     }
-stands-join (part ∷ []) line c place (suc i) inside same low = absurd (omega (arith, low))
-stands-join (part ∷ next ∷ more) line c place zero inside same low =
+denotes-join (part ∷ []) line c place (suc i) inside same low = absurd (omega (arith, low))
+denotes-join (part ∷ next ∷ more) line c place zero inside same low =
     let long : length line - place ≡ length (part ++ c ∷ join_with_byte c (next ∷ more)) = sym (length-drop place line) ∙ ap length same in
     let total = length-append part (c ∷ join_with_byte c (next ∷ more)) in
     record {
@@ -103,7 +103,7 @@ stands-join (part ∷ next ∷ more) line c place zero inside same low =
       within = omega (arith, long, total);
       bytes = ap (take (place + length part - place)) same ∙ take_at part _ _ (omega arith);
     }
-stands-join (part ∷ next ∷ more) line c place (suc i) inside same low =
+denotes-join (part ∷ next ∷ more) line c place (suc i) inside same low =
     let rest : List ℕ = join_with_byte c (next ∷ more) in
     let long : length line - place ≡ length (part ++ c ∷ rest) = sym (length-drop place line) ∙ ap length same in
     let total = length-append part (c ∷ rest) in
@@ -111,18 +111,18 @@ stands-join (part ∷ next ∷ more) line c place (suc i) inside same low =
     sym (drop-drop 1 (length part) (part ++ c ∷ rest)) ∙ ap (drop 1) (drop_at part (c ∷ rest) (length part) refl) in
     let later : drop (place + length part + 1) line ≡ rest =
     ap (λ n. drop n line) (omega arith) ∙ sym (drop-drop (length part + 1) place line) ∙ ap (drop (length part + 1)) same ∙ past in
-    stands-next i (stands-join (next ∷ more) line c (place + length part + 1) i (omega (arith, long, total)) later (omega (arith, low)))
+    denotes-next i (denotes-join (next ∷ more) line c (place + length part + 1) i (omega (arith, long, total)) later (omega (arith, low)))
   where
-    stands-next : (i : ℕ) → StandsAt line (start_from (place + length part + 1) (ends_from (place + length part + 1) (next ∷ more)) i) (get_or (ends_from (place + length part + 1) (next ∷ more)) i 0) (get_or (next ∷ more) i [])
+    denotes-next : (i : ℕ) → StandsAt line (start_from (place + length part + 1) (ends_from (place + length part + 1) (next ∷ more)) i) (get_or (ends_from (place + length part + 1) (next ∷ more)) i 0) (get_or (next ∷ more) i [])
         → StandsAt line (get_or ((place + length part) ∷ ends_from (place + length part + 1) (next ∷ more)) i 0 + 1) (get_or (ends_from (place + length part + 1) (next ∷ more)) i 0) (get_or (next ∷ more) i [])
-    stands-next zero h = h
-    stands-next (suc i) h = h
+    denotes-next zero h = h
+    denotes-next (suc i) h = h
 
 -- a field of a line stands from its start up to its end
-pub stands-fields_of : (line : List ℕ) (i : ℕ) → i < length (fields_of line)
+pub denotes-fields_of : (line : List ℕ) (i : ℕ) → i < length (fields_of line)
     → StandsAt line (start_from 0 (ends_from 0 (fields_of line)) i) (get_or (ends_from 0 (fields_of line)) i 0) (get_or (fields_of line) i [])
 unfolding fields_of
-stands-fields_of line i low = stands-join (fields_of line) line 124 0 i (omega arith) (sym (join_with_byte-slice_split 124 line)) low
+denotes-fields_of line i low = denotes-join (fields_of line) line 124 0 i (omega arith) (sym (join_with_byte-slice_split 124 line)) low
 
 -- the first n of a list that is cut to n and grows
 pub take-held : {X : Type 0} (n : ℕ) (xs : List X) (x : X) → take n (take n xs ++ x ∷ []) ≡ take n (xs ++ x ∷ [])
@@ -131,28 +131,28 @@ take-held (suc n) [] x = refl
 take-held (suc n) (y ∷ ys) x = ap (λ l. y ∷ l) (take-held n ys x)
 
 -- the same of a field whose end is among the first n
-pub stands-held : (n : ℕ) (line ends : List ℕ) (i : ℕ) → ends ≡ take n (ends_from 0 (fields_of line)) → i < length ends
+pub denotes-held : (n : ℕ) (line ends : List ℕ) (i : ℕ) → ends ≡ take n (ends_from 0 (fields_of line)) → i < length ends
     → StandsAt line (start_from 0 ends i) (get_or ends i 0) (get_or (fields_of line) i [])
-stands-held n line ends i same low =
+denotes-held n line ends i same low =
     let all : List ℕ = ends_from 0 (fields_of line) in
     let short : length ends ≡ min n (length all) = ap length same ∙ length-take n all in
     let count = length-ends_from (fields_of line) 0 in
     let here : get_or ends i 0 ≡ get_or all i 0 = ap (λ es. get_or es i 0) same ∙ get_or-take n all i 0 (omega (arith, short, low)) in
     let before : start_from 0 ends i ≡ start_from 0 all i = start_from-take n ends all i same (omega (arith, short, low)) in
-    rw (here, before) (stands-fields_of line i (omega (arith, short, low, count)))
+    rw (here, before) (denotes-fields_of line i (omega (arith, short, low, count)))
 
 -- the first field stands from 0, and a later one from past the end before it
-pub stands-first : (n : ℕ) (line ends : List ℕ) (i start : ℕ) → ends ≡ take n (ends_from 0 (fields_of line)) → i < length ends → i ≡ 0 → start ≡ 0
+pub denotes-first : (n : ℕ) (line ends : List ℕ) (i start : ℕ) → ends ≡ take n (ends_from 0 (fields_of line)) → i < length ends → i ≡ 0 → start ≡ 0
     → StandsAt line start (get_or ends i 0) (get_or (fields_of line) i [])
-stands-first n line ends i start same low first is =
+denotes-first n line ends i start same low first is =
     let at : start_from 0 ends i ≡ start = start_from-zero 0 ends i first ∙ sym is in
-    rw (← at) (stands-held n line ends i same low)
+    rw (← at) (denotes-held n line ends i same low)
 
-pub stands-later : (n : ℕ) (line ends : List ℕ) (i start : ℕ) → ends ≡ take n (ends_from 0 (fields_of line)) → i < length ends → (i ≡ 0 → ⊥)
+pub denotes-later : (n : ℕ) (line ends : List ℕ) (i start : ℕ) → ends ≡ take n (ends_from 0 (fields_of line)) → i < length ends → (i ≡ 0 → ⊥)
     → start ≡ get_or ends (i - 1) 0 + 1 → StandsAt line start (get_or ends i 0) (get_or (fields_of line) i [])
-stands-later n line ends i start same low later is =
+denotes-later n line ends i start same low later is =
     let at : start_from 0 ends i ≡ start = start_from-more 0 ends i later ∙ sym is in
-    rw (← at) (stands-held n line ends i same low)
+    rw (← at) (denotes-held n line ends i same low)
 
 -- a field whose end is among the first n is a field of the line
 pub held-within : (n : ℕ) (line ends : List ℕ) (i : ℕ) → ends ≡ take n (ends_from 0 (fields_of line)) → i < length ends → i < length (fields_of line)

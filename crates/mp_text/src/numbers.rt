@@ -79,7 +79,7 @@ fn value_within(digits: &[u8], max: u64) -> Option<u64>
 /// stays as it was.
 pub fn put_number(out: &mut Vec<u8>, n: u64) -> Result<(), AllocError>
     ensures written { OnOk result (out.new.items ≡ out.old.items ++ decimal n) }
-    ensures kept { OnErr result (out.new.items ≡ out.old.items) }
+    ensures unchanged { OnErr result (out.new.items ≡ out.old.items) }
 {
     let mut buffer = itoa::Buffer::new();
     out.extend_from_slice(buffer.format(n).as_bytes())

@@ -28,10 +28,10 @@ impl Named for Number {
 /// Pushes a number, and hands it back where there is no room. The post stands for what was sent before.
 pub fn send<P: Post<Number>>(post: &mut P, number: u64) -> Result<(), u64>
     requires serves { P.serves post.old 0 × (1 < P.workers post.old) }
-    requires stands { (popped : List ℕ) × P.stands post.old 0 1 (numbers_below number) popped }
+    requires denotes { (popped : List ℕ) × P.denotes post.old 0 1 (numbers_below number) popped }
 
-    ensures sent { IfOk result (λ _. (popped : List ℕ) → P.stands post.old 0 1 (numbers_below number) popped → P.stands post.new 0 1 (numbers_below (number + 1)) popped) }
-    ensures kept { OnErr result ((popped : List ℕ) → P.stands post.old 0 1 (numbers_below number) popped → P.stands post.new 0 1 (numbers_below number) popped) }
+    ensures sent { IfOk result (λ _. (popped : List ℕ) → P.denotes post.old 0 1 (numbers_below number) popped → P.denotes post.new 0 1 (numbers_below (number + 1)) popped) }
+    ensures unchanged { OnErr result ((popped : List ℕ) → P.denotes post.old 0 1 (numbers_below number) popped → P.denotes post.new 0 1 (numbers_below number) popped) }
     ensures room { IfOk result (λ _. P.had_room post.old 0 1) }
     ensures full { OnErr result (P.was_full post.old 0 1) }
     ensures serves { P.serves post.new 0 × (P.workers post.new ≡ P.workers post.old) }
@@ -45,9 +45,9 @@ pub fn send<P: Post<Number>>(post: &mut P, number: u64) -> Result<(), u64>
 /// Pops a number. The post stands for what was received before.
 pub fn receive<P: Post<Number>>(post: &mut P, got: &mut Vec<u64>) -> Result<bool, AllocError>
     requires serves { P.serves post.old 1 × (1 < P.workers post.old) }
-    requires stands { (pushed : List ℕ) × P.stands post.old 0 1 pushed got.old.items }
+    requires denotes { (pushed : List ℕ) × P.denotes post.old 0 1 pushed got.old.items }
 
-    ensures stands { (pushed : List ℕ) → P.stands post.old 0 1 pushed got.old.items → P.stands post.new 0 1 pushed got.new.items }
+    ensures denotes { (pushed : List ℕ) → P.denotes post.old 0 1 pushed got.old.items → P.denotes post.new 0 1 pushed got.new.items }
     ensures serves { P.serves post.new 1 × (P.workers post.new ≡ P.workers post.old) }
 {
     got.reserve(1)?;
@@ -63,8 +63,8 @@ pub fn receive<P: Post<Number>>(post: &mut P, got: &mut Vec<u64>) -> Result<bool
 /// Pushes the numbers below `count` in order, and tries again while the queue is full.
 pub fn send_all<P: Post<Number>, R: Wait>(rt: &R, mut post: P, count: u64) -> P
     requires serves { P.serves post 0 × (1 < P.workers post) }
-    requires stands { (popped : List ℕ) × P.stands post 0 1 [] popped }
-    ensures stands { (popped : List ℕ) → P.stands post 0 1 [] popped → P.stands result 0 1 (numbers_below count) popped }
+    requires denotes { (popped : List ℕ) × P.denotes post 0 1 [] popped }
+    ensures denotes { (popped : List ℕ) → P.denotes post 0 1 [] popped → P.denotes result 0 1 (numbers_below count) popped }
 {
     let mut next = 0;
     for _ in rt.forever() {
@@ -87,8 +87,8 @@ pub fn receive_all<P: Post<Number>, R: Wait>(
     count: usize,
 ) -> (P, Vec<u64>)
     requires serves { P.serves post 1 × (1 < P.workers post) }
-    requires stands { (pushed : List ℕ) × P.stands post 0 1 pushed got.items }
-    ensures stands { (pushed : List ℕ) → P.stands post 0 1 pushed got.items → P.stands result.0 0 1 pushed result.1.items }
+    requires denotes { (pushed : List ℕ) × P.denotes post 0 1 pushed got.items }
+    ensures denotes { (pushed : List ℕ) → P.denotes post 0 1 pushed got.items → P.denotes result.0 0 1 pushed result.1.items }
 {
     for _ in rt.forever() {
         if got.len() >= count {

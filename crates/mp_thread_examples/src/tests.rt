@@ -127,8 +127,8 @@ fn push_and_pop_in_turns<P: Post<Number>, Q: Post<Number>>(
     second: &mut Q,
     got: &mut Vec<u64>,
 ) -> Result<(), AllocError>
-    requires first { P.serves first.old 0 × (1 < P.workers first.old) × ((popped : List ℕ) × P.stands first.old 0 1 [] popped) }
-    requires second { Q.serves second.old 1 × (1 < Q.workers second.old) × ((pushed : List ℕ) × Q.stands second.old 0 1 pushed got.old.items) }
+    requires first { P.serves first.old 0 × (1 < P.workers first.old) × ((popped : List ℕ) × P.denotes first.old 0 1 [] popped) }
+    requires second { Q.serves second.old 1 × (1 < Q.workers second.old) × ((pushed : List ℕ) × Q.denotes second.old 0 1 pushed got.old.items) }
 {
     assert_eq!(rt; send(first, 0), Ok(()));
     assert_eq!(rt; send(first, 1), Err(1));

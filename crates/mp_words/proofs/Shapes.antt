@@ -10,14 +10,14 @@ abbrev pub with_one_more : Shape → Rule → Shape
 with_one_more s rule = record s { rules = s.rules ++ rule ∷ [] }
 
 -- the command is this data, and no argument of it is global
-pub record Stands (s : Shape) (c : Command) : Type 0 where
+pub record Denotes (s : Shape) (c : Command) : Type 0 where
   pub shape : shape_of c ≡ s
   pub local : (out-Command c).has_globals ≡ false
 
 -- one more argument is one more rule
-pub added : (s : Shape) (rule : Rule) (old : Command) (arg : Arg) (new : Command) → Stands s old → AddsArg old arg new
-    → rule_of arg ≡ rule → arg.global ≡ false → Stands (with_one_more s rule) new
-added s rule old arg new stands adds is local = record {
-  shape = ap (λ (a : App). a.top) (adds.shape local) ∙ ap₂ with_one_more stands.shape is;
-  local = adds.globals ∙ ap₂ (λ a b. a || b) stands.local local;
+pub added : (s : Shape) (rule : Rule) (old : Command) (arg : Arg) (new : Command) → Denotes s old → AddsArg old arg new
+    → rule_of arg ≡ rule → arg.global ≡ false → Denotes (with_one_more s rule) new
+added s rule old arg new denotes adds is local = record {
+  shape = ap (λ (a : App). a.top) (adds.shape local) ∙ ap₂ with_one_more denotes.shape is;
+  local = adds.globals ∙ ap₂ (λ a b. a || b) denotes.local local;
 }

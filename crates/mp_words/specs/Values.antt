@@ -5,7 +5,7 @@ use Rattle.std.specs.Result.{result_ok}
 use Rattle.std.specs.Str.{bytes_eq}
 use Rattle.mp_text.specs.Numbers.{number_of}
 use Rattle.clap.specs.Words.{Row, first_of}
-use Rattle.mp_words.specs.declared.limits.TheConstants.{MAX_WORKERS, MAX_BINS, MAX_DEPTH, MAX_SEED}
+use Rattle.mp_names.specs.Limits.{deepest_mailbox, greatest_seed, most_bins, most_workers}
 use Rattle.mp_words.specs.declared.options.QueryName.{QueryName}
 use Rattle.mp_words.specs.declared.options.QueryName.TheVariants.{Q1, Q2, Q3, Q4, Q5, Q6, Q7, Q8}
 use Rattle.mp_words.specs.declared.options.RunOptions.{RunOptions}
@@ -69,7 +69,7 @@ power_up_to most text = option_and_then only_power (positive_up_to most text)
 
 -- the seed that a text says, and 0 where there is no text, as `run` has none
 abbrev pub seed_of : Option (List ℕ) → Option ℕ
-seed_of (Some text) = number_up_to MAX_SEED text
+seed_of (Some text) = number_up_to greatest_seed text
 seed_of None = Some 0
 
 -- all of them, where the answer's name is neither of the two others
@@ -86,7 +86,7 @@ options_of rows = together
     (first_of (codes "events") rows)
     (first_of (codes "config") rows)
     (first_of (codes "out") rows)
-    (option_and_then (positive_up_to MAX_WORKERS) (first_of (codes "workers") rows))
-    (option_and_then (power_up_to MAX_BINS) (first_of (codes "bins") rows))
-    (option_and_then (positive_up_to MAX_DEPTH) (first_of (codes "depth") rows))
+    (option_and_then (positive_up_to most_workers) (first_of (codes "workers") rows))
+    (option_and_then (power_up_to most_bins) (first_of (codes "bins") rows))
+    (option_and_then (positive_up_to deepest_mailbox) (first_of (codes "depth") rows))
     (seed_of (first_of (codes "seed") rows))

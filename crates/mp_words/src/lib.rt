@@ -6,7 +6,6 @@
 #![tactic(auto)]
 
 mod command;
-mod limits;
 mod options;
 mod refused;
 #[cfg(test)]
@@ -14,7 +13,6 @@ mod tests;
 mod values;
 mod words;
 
-pub use limits::{MAX_BINS, MAX_DEPTH, MAX_SEED, MAX_WORKERS};
 pub use options::{QueryName, RunOptions};
 pub use refused::WordsRefused;
 pub use words::parse;

@@ -32,12 +32,12 @@ pub struct RunOptions<'a> {
     pub config: &'a str,
     /// The name that the answer is written to, which is neither of the two others.
     pub out: &'a str,
-    /// How many workers run the dataflow, from 1 to [`MAX_WORKERS`](crate::MAX_WORKERS).
+    /// How many workers run the dataflow, from 1 to [`MAX_WORKERS`](mp_names::limits::MAX_WORKERS).
     pub workers: u32,
-    /// How many bins a keyed state is cut into: a power of two from 1 to [`MAX_BINS`](crate::MAX_BINS).
+    /// How many bins a keyed state is cut into: a power of two from 1 to [`MAX_BINS`](mp_names::limits::MAX_BINS).
     pub bins: u32,
-    /// How many messages a mailbox holds at most, from 1 to [`MAX_DEPTH`](crate::MAX_DEPTH).
+    /// How many messages a mailbox holds at most, from 1 to [`MAX_DEPTH`](mp_names::limits::MAX_DEPTH).
     pub depth: u32,
-    /// The seed of the schedule, from 0 to [`MAX_SEED`](crate::MAX_SEED): what `replay` says, and 0 for `run`.
+    /// The seed of the schedule, from 0 to [`MAX_SEED`](mp_names::limits::MAX_SEED): what `replay` says, and 0 for `run`.
     pub seed: u64,
 }

@@ -2,12 +2,12 @@
 ghost use Rattle.std.specs.Prelude.{◌≡◌, ◌≤◌, IfSome, option_map, option_and_then};
 ghost use Rattle.clap.specs.Words.{first_of, found_of, rows_of};
 ghost use Rattle.mp_words.specs.Limits.{IsPositiveUpTo, IsBinCount, AreWithinLimits};
-ghost use Rattle.mp_words.specs.declared.limits.TheConstants.{MAX_BINS, MAX_SEED};
+ghost use Rattle.mp_names.specs.Limits.{greatest_seed, most_bins};
 ghost use Rattle.mp_words.specs.Values.{query_of, number_up_to, positive_up_to, power_up_to, seed_of, options_in, options_of};
 
-use crate::limits::{MAX_BINS, MAX_DEPTH, MAX_SEED, MAX_WORKERS};
 use crate::options::{QueryName, RunOptions};
 use clap::ArgMatches;
+use mp_names::limits::{MAX_BINS, MAX_DEPTH, MAX_SEED, MAX_WORKERS};
 use mp_text::number;
 
 /// What the options of a command ask for, or `None` where a value isn't allowed.
@@ -78,7 +78,7 @@ fn positive_number(text: &str, most: u32) -> Option<u32>
 
 /// The power of two up to the greatest count of bins that a text says.
 fn bins_named(text: &str) -> Option<u32>
-    ensures value { result ≡ power_up_to MAX_BINS text.now }
+    ensures value { result ≡ power_up_to most_bins text.now }
     ensures within { IfSome result IsBinCount }
 {
     let bins = positive_number(text, MAX_BINS)?;
@@ -92,7 +92,7 @@ fn bins_named(text: &str) -> Option<u32>
 /// The seed that a text says, and 0 where there is no text.
 fn seed_named(text: Option<&str>) -> Option<u64>
     ensures value { result ≡ seed_of (option_map (λ s. s.now) text.entry) }
-    ensures within { IfSome result (λ seed. seed ≤ MAX_SEED) }
+    ensures within { IfSome result (λ seed. seed ≤ greatest_seed) }
 {
     match text {
         Some(text) => number_within(text, MAX_SEED),

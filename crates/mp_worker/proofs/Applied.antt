@@ -15,7 +15,7 @@ use Rattle.mp_names.specs.Outlines.{OutlineIsSound}
 use Rattle.mp_machine.specs.Steps.{IsNext, IsReady}
 use Rattle.mp_stamps.specs.declared.seen.Seen.{Seen}
 use Rattle.mp_bins.specs.Notes.{Notes}
-use Rattle.mp_model.specs.declared.limits.TheConstants.{LAST_TIME}
+use Rattle.mp_names.specs.Limits.{last_time}
 use Rattle.mp_model.specs.declared.value.Value.{Value}
 use Rattle.mp_model.specs.Facts.{JobFacts, QueryFacts}
 use Rattle.mp_model.specs.Folds.{outputs_at}
@@ -30,10 +30,10 @@ use Rattle.mp_outline.proofs.Soundness.{outline_is_sound}
 use Rattle.mp_msg.specs.Contents.{IsRecordOf}
 use Rattle.mp_route.specs.Routed.{Routed}
 use Rattle.mp_route.specs.Unsent.{HoldsAllBut, HoldsUnsent}
-use Rattle.mp_handoff.specs.Moving.{Moving}
+use Rattle.mp_handoff.specs.MoversState.{MoversState}
 use Rattle.mp_output.specs.Unwritten.{Unwritten}
 use Rattle.mp_host_laws.specs.Hosted.{Hosted}
-use Rattle.mp_host_laws.specs.HostOf.{IsHostOf, IsInformed, IsReadyAt, KnowsOwners}
+use Rattle.mp_host_laws.specs.HostOf.{IsHostOf, HostMatchesLogAndSeen, IsReadyAt, OwnersAreCurrent}
 use Rattle.mp_worker_invariant.specs.Given.{values_given}
 use Rattle.mp_worker_invariant.specs.Kept.{IsHostAt, IsRouterAt, PartsAreAsked, StepsKeepParts}
 use Rattle.mp_worker_invariant.specs.Laws.{ConditionsAreTold, GroupsHandOn}
@@ -101,7 +101,7 @@ pub record Fields (Cell : Type 0) : Type 0 where
   pub next : ℕ × ℕ
   pub routers : List Routed
   pub hosts : List (Hosted Cell)
-  pub movers : List Moving
+  pub movers : List MoversState
   pub unsent : Unwritten
   pub unwritten : Unwritten
 
@@ -146,11 +146,11 @@ module _ {Cell : Type 0} (q : QueryFacts Cell) (keeps : AppliesBy q) (job its : 
     host_at = let all = kept.parts.all_hosts in subst (λ (x : Hosted Cell). IsHostAt q job f.log.worker f.log.log j x) (sym is) (kept.parts.hosts j h (omega arith))
 
     -- what it is asked by
-    pub informed : IsInformed q job f.log.log f.seen h
+    pub informed : HostMatchesLogAndSeen q job f.log.log f.seen h
     informed = asked.informed j h host_at
 
-    pub knows : KnowsOwners q job f.notes f.seen h.stage
-    knows = subst (λ (i : ℕ). KnowsOwners q job f.notes f.seen i) (sym host_at.0) (asked.owners j below)
+    pub knows : OwnersAreCurrent q job f.notes f.seen h.stage
+    knows = subst (λ (i : ℕ). OwnersAreCurrent q job f.notes f.seen i) (sym host_at.0) (asked.owners j below)
 
     -- with the same host again its place is as it was
     pub hosts_again : (new : Hosted Cell) → new ≡ h → set f.hosts j new ≡ f.hosts
@@ -180,7 +180,7 @@ module _ {Cell : Type 0} (q : QueryFacts Cell) (keeps : AppliesBy q) (job its : 
       hand_on : GroupsHandOn q job f.log.worker f.log.log j t k
       hand_on = groups_hand_on q keeps.nothing job kept.legal o_sound f.log.worker f.log.log j t k kept.parts.legal waits
 
-      pub in_time : t ≤ LAST_TIME
+      pub in_time : t ≤ last_time
       in_time = group_in_time q keeps.nothing job o_sound j t k below waits.0 keeps.later kept.legal.events
 
       -- what it gives

@@ -14,7 +14,7 @@ use Rattle.mp_outline.specs.JobOutline.{outline_of}
 use Rattle.mp_rows.specs.WorkerLog.{WorkerLog}
 use Rattle.mp_route.specs.Routed.{Routed}
 use Rattle.mp_host_laws.specs.Hosted.{Hosted}
-use Rattle.mp_handoff.specs.Moving.{Moving}
+use Rattle.mp_handoff.specs.MoversState.{MoversState}
 use Rattle.mp_output.specs.Unwritten.{Unwritten}
 use Rattle.mp_worker_invariant.specs.Kept.{AreMoversAt, IsHostAt, IsRouterAt}
 use Rattle.mp_worker_invariant.specs.Parts.{ArePartsOf, AtEach}
@@ -38,7 +38,7 @@ module _ {Cell : Type 0} (q : QueryFacts Cell) (job : JobFacts) (sound : Outline
 
   module _ (w : ℕ) (seen : Seen) (inside : w < job.shape.workers) (opening : ShowsFrontiers (outline_of q job) (replicate job.shape.workers empty_log) seen) where
     pub parts_at_first :
-        (log : WorkerLog) (notes : Notes) (routers : List Routed) (hosts : List (Hosted Cell)) (movers : List Moving) (unsent unwritten : Unwritten)
+        (log : WorkerLog) (notes : Notes) (routers : List Routed) (hosts : List (Hosted Cell)) (movers : List MoversState) (unsent unwritten : Unwritten)
         → log.worker ≡ w
         → log.log ≡ empty_log
         → notes.shape ≡ job.shape

@@ -23,7 +23,7 @@ use Rattle.mp_count_laws.specs.Changes.{control_sent_at, control_taken_at, one_l
 use Rattle.mp_count_laws.proofs.Sent.{control_sent}
 use Rattle.mp_count_laws.proofs.Took.{control_taken}
 use Rattle.mp_msg.specs.Contents.{IsControlOf}
-use Rattle.mp_handoff.specs.Moving.{Moving}
+use Rattle.mp_handoff.specs.MoversState.{MoversState}
 use Rattle.mp_handoff.specs.MoversOf.{IsMoversOf, IsNewControl}
 use Rattle.mp_worker_invariant.specs.Kept.{AreMoversAt}
 use Rattle.mp_worker_invariant.specs.Laws.{CanDo}
@@ -96,7 +96,7 @@ changes_shown : (j t : ℕ) (noted : Bool) (n : ℕ) → n ≡ cond noted 1 2 �
 changes_shown j t true n e = rw e refl
 changes_shown j t false n e = rw e refl
 
-module _ {Cell : Type 0} (q : QueryFacts Cell) (job : JobFacts) (w : ℕ) (log : Log) (i : ℕ) (c : Control) (of_job : IsControlOf job i w c) (fresh : has log.took (Ctrl i w) ≡ false) (m : Moving) (at : AreMoversAt q job w log c.stage m) where
+module _ {Cell : Type 0} (q : QueryFacts Cell) (job : JobFacts) (w : ℕ) (log : Log) (i : ℕ) (c : Control) (of_job : IsControlOf job i w c) (fresh : has log.took (Ctrl i w) ≡ false) (m : MoversState) (at : AreMoversAt q job w log c.stage m) where
   -- it is new to the movers of its stage
   is_new : IsNewControl (outline_of q job) log m c.time i
   is_new = record {
@@ -124,7 +124,7 @@ module _ {Cell : Type 0} (q : QueryFacts Cell) (job : JobFacts) (w : ℕ) (log :
       subst (AreChanges o w log (with_took log (Ctrl i w))) (sym (changes_shown c.stage c.time noted n count)) counted
 
   -- the movers hold it once they have noted its time
-  pub control_held : (new : Moving) → new.stage ≡ m.stage → new.worker ≡ m.worker
+  pub control_held : (new : MoversState) → new.stage ≡ m.stage → new.worker ≡ m.worker
       → ((l : Log) (k : ℕ) → IsMoversOf (outline_of q job) l m → IsNewControl (outline_of q job) l m c.time k → IsMoversOf (outline_of q job) (with_took l (Ctrl k m.worker)) new)
       → AreMoversAt q job w (with_took log (Ctrl i w)) c.stage new
   control_held new stage worker holds =

@@ -10,7 +10,7 @@ use Rattle.mp_names.specs.declared.names.Name.TheVariants.{Group}
 use Rattle.mp_names.specs.Names.{In, Distinct}
 use Rattle.mp_names.specs.Outlines.{OutlineIsSound, groups_of}
 use Rattle.mp_names.proofs.Lists.{In_here, In_later, counted, same_count}
-use Rattle.mp_model.specs.declared.limits.TheConstants.{LAST_TIME}
+use Rattle.mp_names.specs.Limits.{last_time}
 use Rattle.mp_model.specs.declared.record.Rec.{Rec}
 use Rattle.mp_model.specs.declared.value.Value.{Value}
 use Rattle.mp_model.specs.Ascending.{ascending}
@@ -75,9 +75,9 @@ module _ {Cell : Type 0} (q : QueryFacts Cell) (nothing : LaterStagesPostNothing
   values_have_keys keys next = keys j _ (group_at q job j t k) next
 
   -- and no group is too late
-  pub group_in_time : PostsAreLater q → EventsAreLegal job.events → t ≤ LAST_TIME
+  pub group_in_time : PostsAreLater q → EventsAreLegal job.events → t ≤ last_time
   group_in_time later events =
-      All-contains (λ (e : Entry). e.time ≤ LAST_TIME) (timeline_of q job j k) (group_at q job j t k) (groups_in_time q j k (stage_records q job.events j) (stage_in_time q later nothing job.events events j)) ((groups_are_on q nothing job sound j t k below).0 group)
+      All-contains (λ (e : Entry). e.time ≤ last_time) (timeline_of q job j k) (group_at q job j t k) (groups_in_time q j k (stage_records q job.events j) (stage_in_time q later nothing job.events events j)) ((groups_are_on q nothing job sound j t k below).0 group)
 
   -- The records of the next stage that the group's outputs make
 

@@ -23,8 +23,8 @@ use Rattle.mp_host_laws.specs.Hosted.{Hosted}
 use Rattle.mp_host_laws.specs.HostOf.{IsHostOf}
 use Rattle.mp_host_laws.specs.Laws.{MayLeaveNow}
 use Rattle.mp_host_laws.specs.Moving.{IsPutIn, IsTakenOut}
-use Rattle.mp_handoff.specs.Due.{AreInformed, IsDueHere, IsLeastDue, IsMoveAway, MayLeaveHere}
-use Rattle.mp_handoff.specs.Moving.{Moving}
+use Rattle.mp_handoff.specs.Due.{MoversMatchLogAndSeen, IsDueHere, IsLeastDue, IsMoveAway, MayLeaveHere}
+use Rattle.mp_handoff.specs.MoversState.{MoversState}
 use Rattle.mp_handoff.specs.MoversOf.{IsMoversOf}
 use Rattle.mp_worker_invariant.specs.Kept.{AreMoversAt, IsHostAt}
 use Rattle.mp_worker_invariant.specs.Laws.{CanDo}
@@ -41,16 +41,16 @@ use Rattle.mp_worker.proofs.Making.{can_do, can_make, state, told}
 use Rattle.mp_worker.proofs.Movers.{asked, movers_informed}
 
 module _ {Cell : Type 0} {q : QueryFacts Cell} {job its : JobFacts} {number : ℕ} {log : WorkerLog} {p : Parts Cell} (kept : IsKept q job its number log p) (worker : p.number ≡ log.worker) (sound : OutlineIsSound (outline_of q job)) (j : ℕ) (below : j < job.shape.stages)
-    (m : Moving) (at : AreMoversAt q job p.number p.log j m) where
-  informed : AreInformed (outline_of q job) p.log p.notes p.seen m
+    (m : MoversState) (at : AreMoversAt q job p.number p.log j m) where
+  informed : MoversMatchLogAndSeen (outline_of q job) p.log p.notes p.seen m
   informed = movers_informed kept sound j below m at
 
   -- what is told of movers that are asked by a log
   abbrev IfInformed : (Log → Type 0) → Type 0
-  IfInformed P = (l : Log) → AreInformed (outline_of q job) l p.notes p.seen m → P l
+  IfInformed P = (l : Log) → MoversMatchLogAndSeen (outline_of q job) l p.notes p.seen m → P l
 
   -- where none is due, none may be sent
-  pub none_to_extract : ((l : Log) (b t : ℕ) → AreInformed (outline_of q job) l p.notes p.seen m → MayLeaveHere (outline_of q job) l p.seen m b t → ⊥) → (x : Name) → CanMake (outline_of q job) (Extract j) (state kept worker) x → ⊥
+  pub none_to_extract : ((l : Log) (b t : ℕ) → MoversMatchLogAndSeen (outline_of q job) l p.notes p.seen m → MayLeaveHere (outline_of q job) l p.seen m b t → ⊥) → (x : Name) → CanMake (outline_of q job) (Extract j) (state kept worker) x → ⊥
   none_to_extract none x can =
       (told kept worker sound).no_extract j
       (λ b t least reached.
@@ -98,8 +98,8 @@ module _ {Cell : Type 0} {q : QueryFacts Cell} {job its : JobFacts} {number : �
     }
 
     -- the movers know that it is sent, where there is room for it
-    pub movers_sent : (roomy next : Moving) → AreMoversAt q job p.number p.log j roomy → next.stage ≡ roomy.stage → next.worker ≡ roomy.worker
-        → ((l : Log) (notes : Notes) (seen : Seen) → AreInformed (outline_of q job) l notes seen roomy → IsLeastDue (outline_of q job) l seen roomy b t → IsMoversOf (outline_of q job) (with_sent l (Packet roomy.stage b t)) next)
+    pub movers_sent : (roomy next : MoversState) → AreMoversAt q job p.number p.log j roomy → next.stage ≡ roomy.stage → next.worker ≡ roomy.worker
+        → ((l : Log) (notes : Notes) (seen : Seen) → MoversMatchLogAndSeen (outline_of q job) l notes seen roomy → IsLeastDue (outline_of q job) l seen roomy b t → IsMoversOf (outline_of q job) (with_sent l (Packet roomy.stage b t)) next)
         → AreMoversAt q job p.number (with_sent p.log (Packet j b t)) j next
     movers_sent roomy next held stage worker holds =
         let least = subst (λ (i : ℕ). IsLeast (IsDueHere (outline_of q job) p.log p.seen p.number i) (Packet i b t)) (sym held.0) least_here in
@@ -110,7 +110,7 @@ module _ {Cell : Type 0} {q : QueryFacts Cell} {job its : JobFacts} {number : �
         )
 
     -- it was sent
-    pub packet_kept : (h : Hosted Cell) (next : Moving) → IsHostAt q job p.number (with_sent p.log (Packet j b t)) j h → AreMoversAt q job p.number (with_sent p.log (Packet j b t)) j next
+    pub packet_kept : (h : Hosted Cell) (next : MoversState) → IsHostAt q job p.number (with_sent p.log (Packet j b t)) j h → AreMoversAt q job p.number (with_sent p.log (Packet j b t)) j next
         → (new : WorkerLog) → new.worker ≡ p.number → new.log ≡ with_sent p.log (Packet j b t)
         → IsKept q job its number new (record p { number = new.worker; log = new.log; hosts = set p.hosts j h; movers = set p.movers j next })
     packet_kept h next host movers new e f =
@@ -126,12 +126,12 @@ module _ {Cell : Type 0} {q : QueryFacts Cell} {job its : JobFacts} {number : �
       (set p.movers j m) (length-set p.movers j m) (put_at (AreMoversAt q job p.number p.log) p.movers j m at kept.parts.movers))
 
 -- movers in which room is made
-pub with_room : {Cell : Type 0} (q : QueryFacts Cell) (job : JobFacts) (w : ℕ) (log : Log) (j : ℕ) (m roomy : Moving)
+pub with_room : {Cell : Type 0} (q : QueryFacts Cell) (job : JobFacts) (w : ℕ) (log : Log) (j : ℕ) (m roomy : MoversState)
     → AreMoversAt q job w log j m
     → roomy ≡ record m { room_for_sent = roomy.room_for_sent }
     → ((l : Log) → IsMoversOf (outline_of q job) l m → IsMoversOf (outline_of q job) l roomy)
     → AreMoversAt q job w log j roomy
-with_room q job w log j m roomy at same held = (ap (λ (n : Moving). n.stage) same ∙ at.0, ap (λ (n : Moving). n.worker) same ∙ at.1, held log at.2)
+with_room q job w log j m roomy at same held = (ap (λ (n : MoversState). n.stage) same ∙ at.0, ap (λ (n : MoversState). n.worker) same ∙ at.1, held log at.2)
 
 -- a host that gets back what was taken out of it is what it was
 pub host_back : {Cell : Type 0} (q : QueryFacts Cell) (job : JobFacts) (w : ℕ) (log : Log) (j b t : ℕ) (one again : Held Cell) (h out new : Hosted Cell)

@@ -18,7 +18,7 @@ use Rattle.mp_route.specs.Unsent.{MayGo}
 use Rattle.mp_worker_invariant.specs.Kept.{IsRouterAt}
 use Rattle.mp_worker_invariant.specs.Parts.{ArePartsOf, AtEach, HoldsRowsBut, Parts}
 use Rattle.mp_worker_invariant.proofs.Kept.{steps_keep_parts}
-use Rattle.mp_refinement.specs.Ends.{AtEnds, FollowsLog, Standing}
+use Rattle.mp_refinement.specs.Ends.{PostMatchesLog, FollowsLog, Standing}
 use Rattle.mp_refinement.specs.State.{CanMake, Makes, WorkerState}
 use Rattle.mp_worker.specs.Kept.{IsKept}
 use Rattle.mp_worker.proofs.Keeping.{kept_by, other_routers}
@@ -77,9 +77,9 @@ module _ {Cell : Type 0} {q : QueryFacts Cell} {job its : JobFacts} {number : �
     same_names : s.log ≡ p.log
     same_names = ap (λ (t : WorkerState). t.log) (sym view)
 
-    pub ends_asked : (stands : Standing) → AtEnds stands (outline_of q job) s.number s.log → AtEnds stands (outline_of q job) p.number p.log
-    ends_asked stands ends =
-        subst (λ (l : Log). AtEnds stands (outline_of q job) p.number l) same_names (subst (λ (w : ℕ). AtEnds stands (outline_of q job) w s.log) same_number ends)
+    pub ends_asked : (denotes : Standing) → PostMatchesLog denotes (outline_of q job) s.number s.log → PostMatchesLog denotes (outline_of q job) p.number p.log
+    ends_asked denotes ends =
+        subst (λ (l : Log). PostMatchesLog denotes (outline_of q job) p.number l) same_names (subst (λ (w : ℕ). PostMatchesLog denotes (outline_of q job) w s.log) same_number ends)
 
     pub ends_told : (old new : Standing) (after : Log) → FollowsLog old new (outline_of q job) p.number p.log after → FollowsLog old new (outline_of q job) s.number s.log after
     ends_told old new after ends =

@@ -6,7 +6,7 @@ use Rattle.mp_model.specs.Facts.{JobFacts, QueryFacts}
 use Rattle.mp_rows.specs.WorkerLog.{WorkerLog}
 use Rattle.mp_route.specs.Routed.{Routed}
 use Rattle.mp_host_laws.specs.Hosted.{Hosted}
-use Rattle.mp_handoff.specs.Moving.{Moving}
+use Rattle.mp_handoff.specs.MoversState.{MoversState}
 use Rattle.mp_worker_invariant.specs.Kept.{AreMoversAt, IsHostAt, IsRouterAt}
 use Rattle.mp_worker_invariant.specs.Parts.{ArePartsOf, AreTaken, AtEach, Parts}
 use Rattle.mp_worker.specs.Kept.{IsKept}
@@ -98,7 +98,7 @@ module _ {Cell : Type 0} {q : QueryFacts Cell} {job : JobFacts} {p : Parts Cell}
     unwritten = are.unwritten;
   }
 
-  pub other_movers : (movers : List Moving) → length movers ≡ length p.movers → AtEach movers (AreMoversAt q job p.number p.log) → ArePartsOf q job (record p { movers = movers })
+  pub other_movers : (movers : List MoversState) → length movers ≡ length p.movers → AtEach movers (AreMoversAt q job p.number p.log) → ArePartsOf q job (record p { movers = movers })
   other_movers movers all at = record {
     worker = are.worker;
     legal = are.legal;

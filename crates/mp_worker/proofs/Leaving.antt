@@ -31,12 +31,12 @@ taken_of_bin b t one old new taken = eqb-true one.bin b (and_parts (one.bin == b
 
 -- the groups that wait no longer are counted
 module _ {Cell : Type 0} (q : QueryFacts Cell) (job : JobFacts) (sound : OutlineIsSound (outline_of q job)) (log : Log) (b t : ℕ) (one : Held Cell) (h new : Hosted Cell) (ns : List (ℕ × ℕ))
-    (stands : StandsInOrder q job h) (host : IsHostOf q job log h) (legal : LogIsLegal (outline_of q job) h.worker log) (below : h.stage < job.shape.stages)
+    (denotes : StandsInOrder q job h) (host : IsHostOf q job log h) (legal : LogIsLegal (outline_of q job) h.worker log) (below : h.stage < job.shape.stages)
     (may : MayLeaveNow q job log h b t) (taken : IsTakenOut b t one h new) (state : IsStateBefore q job h.stage b t one.state) (told : AreNumbersOf (not_waiting new one.state) ns) where
   more : AreMore (outline_of q job) h.stage (with_sent log (Packet h.stage b t)) log ns
   more = record {
     numbers = λ u.
-        groups_leave (outline_of q job) h.worker log sound legal h.stage b t (not_waiting new one.state) (wakes_once new one.state state.order.wakes) (λ v k. leaving_are_told q job sound log b t one h new v k stands host legal below may taken) u
+        groups_leave (outline_of q job) h.worker log sound legal h.stage b t (not_waiting new one.state) (wakes_once new one.state state.order.wakes) (λ v k. leaving_are_told q job sound log b t one h new v k denotes host legal below may taken) u
         ∙ ap (λ (n : ℕ). waiting_at (outline_of q job) (with_sent log (Packet h.stage b t)) h.stage u + n) (sym (told.numbers u));
     once = told.once;
     none_is_zero = told.none_is_zero;
@@ -61,10 +61,10 @@ module _ {Cell : Type 0} (q : QueryFacts Cell) (job : JobFacts) (w : ℕ) (log :
   module _ (sound : OutlineIsSound (outline_of q job)) (legal : LogIsLegal (outline_of q job) w log) (below : j < job.shape.stages) where
     pub packet_changes : (one : Held Cell) (new : Hosted Cell) (ns : List (ℕ × ℕ)) → StandsInOrder q job h → IsTakenOut b t one h new → IsStateBefore q job h.stage b t one.state → AreNumbersOf (not_waiting new one.state) ns
         → AreChanges (outline_of q job) w log (with_sent log (Packet j b t)) (packet_sent_at j t ns)
-    packet_changes one new ns stands taken state told =
+    packet_changes one new ns denotes taken state told =
         let o = outline_of q job in
         let its_log = subst (λ (v : ℕ). LogIsLegal o v log) (sym at.1) legal in
-        let counted = leaving_counted q job sound log b t one h new ns stands at.2 its_log (subst (λ (i : ℕ). i < job.shape.stages) (sym at.0) below) may taken state told in
+        let counted = leaving_counted q job sound log b t one h new ns denotes at.2 its_log (subst (λ (i : ℕ). i < job.shape.stages) (sym at.0) below) may taken state told in
         subst (λ (v : ℕ). AreChanges o v log (with_sent log (Packet j b t)) (packet_sent_at j t ns)) at.1 (subst (λ (i : ℕ). AreChanges o h.worker log (with_sent log (Packet i b t)) (packet_sent_at i t ns)) at.0 counted)
 
   -- the host without it

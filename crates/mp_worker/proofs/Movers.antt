@@ -6,8 +6,8 @@ use Rattle.mp_model.specs.Facts.{JobFacts, QueryFacts}
 use Rattle.mp_outline.specs.JobOutline.{outline_of}
 use Rattle.mp_rows.specs.WorkerLog.{WorkerLog}
 use Rattle.mp_host_laws.specs.Hosted.{Hosted}
-use Rattle.mp_handoff.specs.Due.{AreInformed}
-use Rattle.mp_handoff.specs.Moving.{Moving}
+use Rattle.mp_handoff.specs.Due.{MoversMatchLogAndSeen}
+use Rattle.mp_handoff.specs.MoversState.{MoversState}
 use Rattle.mp_handoff.specs.MoversOf.{KnowsMoves}
 use Rattle.mp_worker_invariant.specs.Kept.{AreMoversAt, IsHostAt, PartsAreAsked}
 use Rattle.mp_worker_invariant.specs.Parts.{Parts}
@@ -23,11 +23,11 @@ module _ {Cell : Type 0} {q : QueryFacts Cell} {job its : JobFacts} {number : �
   host_at h is = subst (IsHostAt q job p.number p.log j) (sym is) (kept.parts.hosts j h (subst (λ (n : ℕ). j < n) (sym kept.parts.all_hosts) below))
 
   -- the movers of a stage
-  pub movers_at : (m : Moving) → m ≡ get_or p.movers j m → AreMoversAt q job p.number p.log j m
+  pub movers_at : (m : MoversState) → m ≡ get_or p.movers j m → AreMoversAt q job p.number p.log j m
   movers_at m is = subst (AreMoversAt q job p.number p.log j) (sym is) (kept.parts.movers j m (subst (λ (n : ℕ). j < n) (sym kept.parts.all_movers) below))
 
   -- what they are asked by
-  pub movers_informed : (m : Moving) → AreMoversAt q job p.number p.log j m → AreInformed (outline_of q job) p.log p.notes p.seen m
+  pub movers_informed : (m : MoversState) → AreMoversAt q job p.number p.log j m → MoversMatchLogAndSeen (outline_of q job) p.log p.notes p.seen m
   movers_informed m at =
       let knows = asked.moves j in (
         at.2,

@@ -10,8 +10,8 @@ use Rattle.mp_names.specs.Outlines.{Outline, sender}
 use Rattle.mp_names.specs.Logs.{Log, with_took}
 use Rattle.mp_names.proofs.Lists.{In_cases, filter_In}
 use Rattle.mp_mailbox.specs.Names.{Distinct}
-use Rattle.mp_mailbox.specs.Standing.{AddsPopped, KeepsEdge, KeepsOthers, PopsNew, Stands}
-use Rattle.mp_refinement.specs.Ends.{AtEnds, FollowsLog, Standing, popped_by, pushed_by, took_from}
+use Rattle.mp_mailbox.specs.Standing.{AddsPopped, KeepsEdge, KeepsOthers, PopsNew, Denotes}
+use Rattle.mp_refinement.specs.Ends.{PostMatchesLog, FollowsLog, Standing, popped_by, pushed_by, took_from}
 
 -- the place of a name that stands in a list
 name_at : (x : Name) (xs : List Name) → In x xs → (i : ℕ) × (i < length xs) × ((d : Name) → get_or xs i d ≡ x)
@@ -57,13 +57,13 @@ module _ (o : Outline) (w : ℕ) (log : Log) where
       (same_edge a b from w)
 
   -- the post stands for something on an edge to this worker
-  pub stands_here : (stands : Standing) (from : ℕ) → AtEnds stands o w log → from < o.workers → w < o.workers → Stands stands from w
-  stands_here stands from ends in_from in_w = let at = ends from w in_from in_w (inr refl) in (pushed_by o w log from w at.0, popped_by o w log from w at.1, at.2)
+  pub stands_here : (denotes : Standing) (from : ℕ) → PostMatchesLog denotes o w log → from < o.workers → w < o.workers → Denotes denotes from w
+  stands_here denotes from ends in_from in_w = let at = ends from w in_from in_w (inr refl) in (pushed_by o w log from w at.0, popped_by o w log from w at.1, at.2)
 
   module _ (from : ℕ) (x : Name) (sends : sender o x ≡ from) where
     -- a name that wasn't popped before wasn't taken before
-    pub not_taken : (stands : Standing) → AtEnds stands o w log → PopsNew stands from w (x ∷ []) → from < o.workers → w < o.workers → has log.took x ≡ false
-    not_taken stands ends new in_from in_w =
+    pub not_taken : (denotes : Standing) → PostMatchesLog denotes o w log → PopsNew denotes from w (x ∷ []) → from < o.workers → w < o.workers → has log.took x ≡ false
+    not_taken denotes ends new in_from in_w =
         let at = ends from w in_from in_w (inr refl) in
         let once = new (pushed_by o w log from w at.0) (popped_by o w log from w at.1) at.2 in
         let away = not_there (took_from o log from) x (subst (λ (l : List Name). Distinct (l ++ x ∷ [])) (popped_here from at.1) once) in

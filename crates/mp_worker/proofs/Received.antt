@@ -31,7 +31,7 @@ use Rattle.mp_host_laws.specs.Hosted.{Hosted}
 use Rattle.mp_host_laws.specs.HostOf.{IsHostOf}
 use Rattle.mp_host_laws.specs.Applying.{IsReceived}
 use Rattle.mp_host.specs.Telling.{TakesRecord}
-use Rattle.mp_handoff.specs.Moving.{Moving}
+use Rattle.mp_handoff.specs.MoversState.{MoversState}
 use Rattle.mp_output.specs.Holding.{HoldsUnwritten}
 use Rattle.mp_output.specs.Unwritten.{Unwritten}
 use Rattle.mp_worker_invariant.specs.Kept.{AreMoversAt, IsHostAt}
@@ -122,11 +122,11 @@ same_taken job w log old new shape noted are = record {
 
 module _ {Cell : Type 0} (q : QueryFacts Cell) (job its : JobFacts) (number : ℕ) (seen : Seen) (next : ℕ × ℕ) (routers : List Routed) (unsent : Unwritten) where
   -- a worker with this log, these notes, hosts and movers, and these rows to be written keeps to what it is to
-  abbrev Keeps : WorkerLog → Notes → List (Hosted Cell) → List Moving → Unwritten → Type 0
+  abbrev Keeps : WorkerLog → Notes → List (Hosted Cell) → List MoversState → Unwritten → Type 0
   Keeps log notes hosts movers rows = IsKept q job its number log (parts_with log seen notes next routers hosts movers unsent rows)
 
   -- room is made in the log, the notes and the rows
-  pub front_roomy : (log new : WorkerLog) (notes more : Notes) (hosts : List (Hosted Cell)) (movers : List Moving) (rows others : Unwritten)
+  pub front_roomy : (log new : WorkerLog) (notes more : Notes) (hosts : List (Hosted Cell)) (movers : List MoversState) (rows others : Unwritten)
       → Keeps log notes hosts movers rows → (new.worker ≡ log.worker) × (new.log ≡ log.log) → (more.shape ≡ notes.shape) × (more.noted ≡ notes.noted) → others.rows ≡ rows.rows
       → Keeps new more hosts movers others
   front_roomy log new notes more hosts movers rows others kept l n r =
@@ -134,7 +134,7 @@ module _ {Cell : Type 0} (q : QueryFacts Cell) (job its : JobFacts) (number : �
       (rw (l.0, l.1, r) (other_notes kept.parts more (same_taken job log.worker log.log notes more n.0 n.1 kept.parts.notes)))
 
   -- room is made in the hosts, which are lent as a slice
-  pub hosts_roomy : (log : WorkerLog) (notes : Notes) (hosts lent roomy : List (Hosted Cell)) (movers : List Moving) (rows : Unwritten) (n : ℕ)
+  pub hosts_roomy : (log : WorkerLog) (notes : Notes) (hosts lent roomy : List (Hosted Cell)) (movers : List MoversState) (rows : Unwritten) (n : ℕ)
       → Keeps log notes hosts movers rows → lent ≡ hosts → length lent ≡ n → SameHosts lent roomy
       → Keeps log notes (take n (roomy ++ drop (length roomy) hosts)) movers rows
   hosts_roomy log notes hosts lent roomy movers rows n kept is count same =
@@ -144,16 +144,16 @@ module _ {Cell : Type 0} (q : QueryFacts Cell) (job its : JobFacts) (number : �
       (other_hosts kept.parts roomy (same_length without_room hosts roomy there) (same_each without_room (IsHostAt q job log.worker log.log) (same_host q job log.worker log.log) hosts roomy there kept.parts.hosts)))
 
   -- and in the movers
-  pub movers_roomy : (log : WorkerLog) (notes : Notes) (hosts : List (Hosted Cell)) (movers lent roomy : List Moving) (rows : Unwritten) (n : ℕ)
+  pub movers_roomy : (log : WorkerLog) (notes : Notes) (hosts : List (Hosted Cell)) (movers lent roomy : List MoversState) (rows : Unwritten) (n : ℕ)
       → Keeps log notes hosts movers rows → lent ≡ movers → length lent ≡ n → SameMovers lent roomy
       → Keeps log notes hosts (take n (roomy ++ drop (length roomy) movers)) rows
   movers_roomy log notes hosts movers lent roomy rows n kept is count same =
-      let there = subst (λ (ms : List Moving). SameMovers ms roomy) is same in
+      let there = subst (λ (ms : List MoversState). SameMovers ms roomy) is same in
       kept_as kept log (parts_with log seen notes next routers hosts (take n (roomy ++ drop (length roomy) movers)) unsent rows) refl
       (rw (written_back roomless movers lent roomy n count same)
       (other_movers kept.parts roomy (same_length roomless movers roomy there) (same_each roomless (AreMoversAt q job log.worker log.log) (same_movers q job log.worker log.log) movers roomy there kept.parts.movers)))
 
-  module _ (sound : OutlineIsSound (outline_of q job)) (log new : WorkerLog) (notes : Notes) (hosts : List (Hosted Cell)) (movers : List Moving) (rows : Unwritten) (kept : Keeps log notes hosts movers rows) (x : Name) (owed : IsOwedTo (outline_of q job) log.worker x) (fresh : has log.log.took x ≡ false) (l : (new.worker ≡ log.worker) × (new.log ≡ with_took log.log x)) where
+  module _ (sound : OutlineIsSound (outline_of q job)) (log new : WorkerLog) (notes : Notes) (hosts : List (Hosted Cell)) (movers : List MoversState) (rows : Unwritten) (kept : Keeps log notes hosts movers rows) (x : Name) (owed : IsOwedTo (outline_of q job) log.worker x) (fresh : has log.log.took x ≡ false) (l : (new.worker ≡ log.worker) × (new.log ≡ with_took log.log x)) where
     abbrev p : Parts Cell
     p = parts_with log seen notes next routers hosts movers unsent rows
 
@@ -165,7 +165,7 @@ module _ {Cell : Type 0} (q : QueryFacts Cell) (job its : JobFacts) (number : �
 
     -- a control record is taken
     pub control_taken : (i : ℕ) (c : Control) → x ≡ Ctrl i log.worker → c ≡ control_of job.controls i → (noted : Notes) → noted ≡ record notes { noted = with_note notes.noted (record { index = i; control = c }); room = noted.room }
-        → (m : Moving) → AreMoversAt q job log.worker (with_took log.log x) c.stage m → Keeps new noted hosts (set movers c.stage m) rows
+        → (m : MoversState) → AreMoversAt q job log.worker (with_took log.log x) c.stage m → Keeps new noted hosts (set movers c.stage m) rows
     control_taken i c is of_job noted with_it m at =
         let taken = (steps_keep_parts q job sound p kept.parts).receive_control i noted m (owed_as (Ctrl i log.worker) is) (fresh_as (Ctrl i log.worker) is)
         (subst (λ (d : Control). noted ≡ record notes { noted = with_note notes.noted (record { index = i; control = d }); room = noted.room }) of_job with_it)

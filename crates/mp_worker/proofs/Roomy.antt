@@ -9,7 +9,7 @@ use Rattle.mp_model.specs.Facts.{JobFacts, QueryFacts}
 use Rattle.mp_outline.specs.JobOutline.{outline_of}
 use Rattle.mp_host_laws.specs.Hosted.{Hosted}
 use Rattle.mp_host_laws.specs.HostOf.{IsHostOf}
-use Rattle.mp_handoff.specs.Moving.{Moving}
+use Rattle.mp_handoff.specs.MoversState.{MoversState}
 use Rattle.mp_handoff.specs.MoversOf.{IsMoversOf}
 use Rattle.mp_worker_invariant.specs.Kept.{AreMoversAt, IsHostAt}
 use Rattle.mp_worker_invariant.specs.Parts.{AtEach}
@@ -69,9 +69,9 @@ module _ {Cell : Type 0} (q : QueryFacts Cell) (job : JobFacts) (w : ℕ) (log :
   same_host j old new same at =
       (ap (λ (h : Hosted Cell). h.stage) same ∙ at.0, ap (λ (h : Hosted Cell). h.worker) same ∙ at.1, roomed new (subst (IsHostOf q job log) (sym same) (unroomed old at.2)))
 
-  pub same_movers : (j : ℕ) (old new : Moving) → roomless new ≡ roomless old → AreMoversAt q job w log j old → AreMoversAt q job w log j new
+  pub same_movers : (j : ℕ) (old new : MoversState) → roomless new ≡ roomless old → AreMoversAt q job w log j old → AreMoversAt q job w log j new
   same_movers j old new same at =
       let o = outline_of q job in
       let bare : IsMoversOf o log (roomless old) = record { unsettled = at.2.unsettled; sent = at.2.sent; known = at.2.known; settled = at.2.settled; packets = at.2.packets } in
       let moved = subst (IsMoversOf o log) (sym same) bare in
-      (ap (λ (m : Moving). m.stage) same ∙ at.0, ap (λ (m : Moving). m.worker) same ∙ at.1, record { unsettled = moved.unsettled; sent = moved.sent; known = moved.known; settled = moved.settled; packets = moved.packets })
+      (ap (λ (m : MoversState). m.stage) same ∙ at.0, ap (λ (m : MoversState). m.worker) same ∙ at.1, record { unsettled = moved.unsettled; sent = moved.sent; known = moved.known; settled = moved.settled; packets = moved.packets })

@@ -15,7 +15,7 @@ use Rattle.mp_names.proofs.Lists.{Distinct_filter, In_here, In_later}
 use Rattle.mp_names.proofs.Steps.{given_own}
 use Rattle.mp_mailbox.specs.Names.{Distinct as DistinctMail}
 use Rattle.mp_mailbox.specs.Standing.{AddsPushed, IsFresh, KeepsOthers}
-use Rattle.mp_refinement.specs.Ends.{AtEnds, FollowsLog, Standing, popped_by, pushed_by, sent_to}
+use Rattle.mp_refinement.specs.Ends.{PostMatchesLog, FollowsLog, Standing, popped_by, pushed_by, sent_to}
 use Rattle.mp_worker.specs.Sending.{MaySend}
 
 -- names that stand once, as mailboxes say it
@@ -66,20 +66,20 @@ module _ {o : Outline} (sound : OutlineIsSound o) {w : ℕ} (worker : w < o.work
   new_there = subst DistinctMail sent_more (once (sent_to o (with_sent log x) v) (Distinct_filter (λ y. receiver o y == v) (with_sent log x).sent may.legal.sent_once))
 
   -- so it can be pushed
-  pub may_push : (stands : Standing) → AtEnds stands o w log → IsFresh stands n v (x ∷ [])
-  may_push stands ends =
+  pub may_push : (denotes : Standing) → PostMatchesLog denotes o w log → IsFresh denotes n v (x ∷ [])
+  may_push denotes ends =
       let at = ends w v worker to_worker (inl refl) in
       let here = cond-true (w == w) (sent_to o log v) at.0 (eq-eqb w w refl) in
       let popped = popped_by o w log w v at.1 in
-      let there = subst (λ (names : List Name). stands w v names popped) here at.2 in
-      (sent_to o log v, popped, subst (λ (m : ℕ). stands m v (sent_to o log v) popped) (sym from) there, new_there)
+      let there = subst (λ (names : List Name). denotes w v names popped) here at.2 in
+      (sent_to o log v, popped, subst (λ (m : ℕ). denotes m v (sent_to o log v) popped) (sym from) there, new_there)
 
   module _ (old new : Standing) where
     -- on its edge it was pushed
     pushed_there : AddsPushed old new n v (x ∷ []) → (pushed popped : List Name) → old n v (pushed_by o w log n v pushed) popped → new n v (pushed_by o w (with_sent log x) n v pushed) popped
-    pushed_there adds pushed popped stands =
+    pushed_there adds pushed popped denotes =
         let here = eq-eqb n w from in
-        let before = subst (λ (names : List Name). old n v names popped) (cond-true (n == w) (sent_to o log v) pushed here) stands in
+        let before = subst (λ (names : List Name). old n v names popped) (cond-true (n == w) (sent_to o log v) pushed here) denotes in
         let after = cond-true (n == w) (sent_to o (with_sent log x) v) pushed here ∙ sent_more in
         subst (λ (names : List Name). new n v names popped) (sym after) (adds (sent_to o log v) popped before new_there)
 
@@ -95,17 +95,17 @@ module _ {o : Outline} (sound : OutlineIsSound o) {w : ℕ} (worker : w < o.work
 
     -- where it was pushed, the post follows the log that has it as sent
     pub follows_push : AddsPushed old new n v (x ∷ []) → KeepsOthers old new n v → FollowsLog old new o w log (with_sent log x)
-    follows_push adds others a b pushed popped la lb stands =
+    follows_push adds others a b pushed popped la lb denotes =
         let all = popped_by o w log a b popped in
         let elsewhere : (a ≢ n) ⊎ (b ≢ v) → new a b (pushed_by o w (with_sent log x) a b pushed) all =
-        λ other. subst (λ (names : List Name). new a b names all) (sym (same_elsewhere a b other pushed)) (others a b other (pushed_by o w log a b pushed) all stands) in
+        λ other. subst (λ (names : List Name). new a b names all) (sym (same_elsewhere a b other pushed)) (others a b other (pushed_by o w log a b pushed) all denotes) in
         ⊎_elim
         (λ (e : a ≡ n).
         ⊎_elim
         (λ (f : b ≡ v).
         subst (λ (m : ℕ). old m b (pushed_by o w log m b pushed) all → new m b (pushed_by o w (with_sent log x) m b pushed) all) (sym e)
         (subst (λ (u : ℕ). old n u (pushed_by o w log n u pushed) all → new n u (pushed_by o w (with_sent log x) n u pushed) all) (sym f) (pushed_there adds pushed all))
-        stands)
+        denotes)
         (λ (f : b ≢ v). elsewhere (inr f))
         (cases_eq b v))
         (λ (e : a ≢ n). elsewhere (inl e))

@@ -13,8 +13,8 @@ use Rattle.mp_rows.specs.Entries.{AreChanges}
 use Rattle.mp_rows.specs.WorkerLog.{WorkerLog}
 use Rattle.mp_count_laws.specs.Changes.{settled_at}
 use Rattle.mp_count_laws.proofs.Settled.{settled}
-use Rattle.mp_handoff.specs.Due.{AreInformed, MaySettleHere}
-use Rattle.mp_handoff.specs.Moving.{Moving}
+use Rattle.mp_handoff.specs.Due.{MoversMatchLogAndSeen, MaySettleHere}
+use Rattle.mp_handoff.specs.MoversState.{MoversState}
 use Rattle.mp_handoff.specs.MoversOf.{IsMoversOf}
 use Rattle.mp_worker_invariant.specs.Kept.{AreMoversAt}
 use Rattle.mp_worker_invariant.specs.Parts.{Parts}
@@ -26,16 +26,16 @@ use Rattle.mp_worker.proofs.Making.{can_do, can_make, state, told}
 use Rattle.mp_worker.proofs.Movers.{movers_informed}
 
 module _ {Cell : Type 0} {q : QueryFacts Cell} {job its : JobFacts} {number : ℕ} {log : WorkerLog} {p : Parts Cell} (kept : IsKept q job its number log p) (worker : p.number ≡ log.worker) (sound : OutlineIsSound (outline_of q job)) (j : ℕ) (below : j < job.shape.stages)
-    (m : Moving) (at : AreMoversAt q job p.number p.log j m) where
-  informed : AreInformed (outline_of q job) p.log p.notes p.seen m
+    (m : MoversState) (at : AreMoversAt q job p.number p.log j m) where
+  informed : MoversMatchLogAndSeen (outline_of q job) p.log p.notes p.seen m
   informed = movers_informed kept sound j below m at
 
   -- what is told of movers that are asked by a log
   abbrev IfInformed : (Log → Type 0) → Type 0
-  IfInformed P = (l : Log) → AreInformed (outline_of q job) l p.notes p.seen m → P l
+  IfInformed P = (l : Log) → MoversMatchLogAndSeen (outline_of q job) l p.notes p.seen m → P l
 
   -- where they settle none, none may be settled
-  pub none_to_settle : ((l : Log) (t : ℕ) → AreInformed (outline_of q job) l p.notes p.seen m → MaySettleHere (outline_of q job) l p.seen m t → ⊥) → (x : Name) → CanMake (outline_of q job) (Settle j) (state kept worker) x → ⊥
+  pub none_to_settle : ((l : Log) (t : ℕ) → MoversMatchLogAndSeen (outline_of q job) l p.notes p.seen m → MaySettleHere (outline_of q job) l p.seen m t → ⊥) → (x : Name) → CanMake (outline_of q job) (Settle j) (state kept worker) x → ⊥
   none_to_settle none x can =
       (told kept worker sound).no_settle j
       (λ t least passed sent.
@@ -66,7 +66,7 @@ module _ {Cell : Type 0} {q : QueryFacts Cell} {job its : JobFacts} {number : �
     pub settled_counted : AreChanges (outline_of q job) p.number p.log (with_settled p.log (Settled j t)) (settled_at j t)
     settled_counted = settled (outline_of q job) p.number p.log j t least_here.0
 
-    pub settled_kept : (next : Moving) → next.stage ≡ m.stage → next.worker ≡ m.worker → IfInformed (λ l. IsMoversOf (outline_of q job) (with_settled l (Settled m.stage t)) next)
+    pub settled_kept : (next : MoversState) → next.stage ≡ m.stage → next.worker ≡ m.worker → IfInformed (λ l. IsMoversOf (outline_of q job) (with_settled l (Settled m.stage t)) next)
         → (new : WorkerLog) → new.worker ≡ p.number → new.log ≡ with_settled p.log (Settled j t)
         → IsKept q job its number new (record p { number = new.worker; log = new.log; movers = set p.movers j next })
     settled_kept next stage same holds new e f =

@@ -7,13 +7,13 @@ use Rattle.mp_job.specs.Legal.{JobIsLegal}
 use Rattle.mp_rows.specs.WorkerLog.{WorkerLog}
 use Rattle.mp_route.specs.Routed.{Routed}
 use Rattle.mp_host_laws.specs.Hosted.{Hosted}
-use Rattle.mp_handoff.specs.Moving.{Moving}
+use Rattle.mp_handoff.specs.MoversState.{MoversState}
 use Rattle.mp_output.specs.Rows.{GivesRows}
 use Rattle.mp_output.specs.Unwritten.{Unwritten}
 use Rattle.mp_worker_invariant.specs.Parts.{ArePartsOf, Parts}
 
 -- the parts of a worker
-abbrev pub parts_with : {Cell : Type 0} → WorkerLog → Seen → Notes → ℕ × ℕ → List Routed → List (Hosted Cell) → List Moving → Unwritten → Unwritten → Parts Cell
+abbrev pub parts_with : {Cell : Type 0} → WorkerLog → Seen → Notes → ℕ × ℕ → List Routed → List (Hosted Cell) → List MoversState → Unwritten → Unwritten → Parts Cell
 parts_with log seen notes next routers hosts movers unsent unwritten =
     record {
       number = log.worker;

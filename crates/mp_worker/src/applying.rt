@@ -27,8 +27,8 @@ impl<'a, Q: Query, J: Naming> Worker<'a, Q, J> {
             IfMade result (λ x. Makes o (Apply stage) self.old x self.new) }
         ensures none { let o = outline_of (Q.facts J.job.rules) J.job in
             IfNoName result ((x : Name) → CanMake o (Apply stage) self.old x → ⊥) }
-        ensures unchanged { IfNoName result (self.new ≡ self.old) }
-        ensures refused { OnErr result (self.new ≡ self.old) }
+        ensures idle { IfNoName result (self.new ≡ self.old) }
+        ensures unchanged { OnErr result (self.new ≡ self.old) }
     {
         let stages = self.job.shape().stages;
         let host = &mut self.hosts[stage as usize];

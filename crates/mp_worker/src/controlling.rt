@@ -4,8 +4,8 @@ ghost use Rattle.mp_names.specs.declared.names.Name.{Name};
 ghost use Rattle.mp_names.specs.declared.kinds.Kind.TheVariants.{SendControl};
 ghost use Rattle.mp_outline.specs.JobOutline.{outline_of};
 ghost use Rattle.mp_worker_invariant.specs.Parts.{place_after};
-ghost use Rattle.mp_refinement.specs.Ends.{AtEnds, FollowsLog};
-ghost use Rattle.mp_refinement.specs.Mail.{MailHinders, MailLets};
+ghost use Rattle.mp_refinement.specs.Ends.{PostMatchesLog, FollowsLog};
+ghost use Rattle.mp_refinement.specs.Mail.{MailboxBlocks, MailboxAllows};
 ghost use Rattle.mp_refinement.specs.State.{CanMake, Makes};
 ghost use Rattle.mp_worker.specs.Turns.{IfMade, IfNoName};
 
@@ -27,20 +27,20 @@ impl<'a, Q: Query, J: Naming> Worker<'a, Q, J> {
     ) -> Result<Option<Name>, AllocError>
         requires workers { P.workers post.old ≡ J.job.shape.workers }
         requires serves { P.serves post.old self.old.number }
-        requires ends { AtEnds (P.stands post.old) (outline_of (Q.facts J.job.rules) J.job) self.old.number self.old.log }
+        requires ends { PostMatchesLog (P.denotes post.old) (outline_of (Q.facts J.job.rules) J.job) self.old.number self.old.log }
 
         ensures did { let o = outline_of (Q.facts J.job.rules) J.job in
             IfMade result (λ x. Makes o SendControl self.old x self.new) }
         ensures mail { let o = outline_of (Q.facts J.job.rules) J.job in
-            IfMade result (MailLets (P.had_room post.old) o self.old.number SendControl) }
+            IfMade result (MailboxAllows (P.had_room post.old) o self.old.number SendControl) }
         ensures none { let o = outline_of (Q.facts J.job.rules) J.job in
             IfNoName result ((x : Name) → CanMake o SendControl self.old x
-            → MailHinders (P.was_full post.old) (P.was_empty post.old) o self.old.number SendControl x) }
-        ensures unchanged { IfNoName result (self.new ≡ self.old) }
-        ensures refused { OnErr result (self.new ≡ self.old) }
+            → MailboxBlocks (P.was_full post.old) (P.was_empty post.old) o self.old.number SendControl x) }
+        ensures idle { IfNoName result (self.new ≡ self.old) }
+        ensures unchanged { OnErr result (self.new ≡ self.old) }
 
         ensures ends { let o = outline_of (Q.facts J.job.rules) J.job in
-            FollowsLog (P.stands post.old) (P.stands post.new) o self.old.number self.old.log self.new.log }
+            FollowsLog (P.denotes post.old) (P.denotes post.new) o self.old.number self.old.log self.new.log }
         ensures same_workers { P.workers post.new ≡ P.workers post.old }
         ensures same_depth { P.depth post.new ≡ P.depth post.old }
         ensures same_ends { (worker : ℕ) → P.serves post.old worker → P.serves post.new worker }

@@ -20,8 +20,8 @@ impl<'a, Q: Query, J: Naming> Worker<'a, Q, J> {
             IfMade result (λ x. Makes o Ingest self.old x self.new) }
         ensures none { let o = outline_of (Q.facts J.job.rules) J.job in
             IfNoName result ((x : Name) → CanMake o Ingest self.old x → ⊥) }
-        ensures unchanged { IfNoName result (self.new ≡ self.old) }
-        ensures refused { OnErr result (self.new ≡ self.old) }
+        ensures idle { IfNoName result (self.new ≡ self.old) }
+        ensures unchanged { OnErr result (self.new ≡ self.old) }
     {
         let next = self.log.names(LogList::Ingested).len();
         let Some(index) = self.job.share(self.number).get(next) else {

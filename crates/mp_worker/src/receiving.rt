@@ -11,8 +11,8 @@ ghost use Rattle.mp_outline.specs.JobOutline.{name_of_record, outline_of};
 ghost use Rattle.mp_msg.specs.Contents.{IsRecordOf, IsRowOf};
 ghost use Rattle.mp_output.specs.Holding.{HoldsUnwritten};
 ghost use Rattle.mp_worker_invariant.specs.Kept.{IsHostAt};
-ghost use Rattle.mp_refinement.specs.Ends.{AtEnds, FollowsLog};
-ghost use Rattle.mp_refinement.specs.Mail.{MailHinders, MailLets};
+ghost use Rattle.mp_refinement.specs.Ends.{PostMatchesLog, FollowsLog};
+ghost use Rattle.mp_refinement.specs.Mail.{MailboxBlocks, MailboxAllows};
 ghost use Rattle.mp_refinement.specs.State.{CanMake, Makes};
 ghost use Rattle.mp_worker.specs.Turns.{IfMade, IfNoName};
 
@@ -40,20 +40,20 @@ impl<'a, Q: Query, J: Naming> Worker<'a, Q, J> {
         requires from { from < J.job.shape.workers }
         requires workers { P.workers post.old ≡ J.job.shape.workers }
         requires serves { P.serves post.old self.old.number }
-        requires ends { AtEnds (P.stands post.old) (outline_of (Q.facts J.job.rules) J.job) self.old.number self.old.log }
+        requires ends { PostMatchesLog (P.denotes post.old) (outline_of (Q.facts J.job.rules) J.job) self.old.number self.old.log }
 
         ensures did { let o = outline_of (Q.facts J.job.rules) J.job in
             IfMade result (λ x. Makes o (Receive from) self.old x self.new) }
         ensures mail { let o = outline_of (Q.facts J.job.rules) J.job in
-            IfMade result (MailLets (P.had_room post.old) o self.old.number (Receive from)) }
+            IfMade result (MailboxAllows (P.had_room post.old) o self.old.number (Receive from)) }
         ensures none { let o = outline_of (Q.facts J.job.rules) J.job in
             IfNoName result ((x : Name) → CanMake o (Receive from) self.old x
-            → MailHinders (P.was_full post.old) (P.was_empty post.old) o self.old.number (Receive from) x) }
-        ensures unchanged { IfNoName result (self.new ≡ self.old) }
-        ensures refused { OnErr result (self.new ≡ self.old) }
+            → MailboxBlocks (P.was_full post.old) (P.was_empty post.old) o self.old.number (Receive from) x) }
+        ensures idle { IfNoName result (self.new ≡ self.old) }
+        ensures unchanged { OnErr result (self.new ≡ self.old) }
 
         ensures ends { let o = outline_of (Q.facts J.job.rules) J.job in
-            FollowsLog (P.stands post.old) (P.stands post.new) o self.old.number self.old.log self.new.log }
+            FollowsLog (P.denotes post.old) (P.denotes post.new) o self.old.number self.old.log self.new.log }
         ensures same_workers { P.workers post.new ≡ P.workers post.old }
         ensures same_depth { P.depth post.new ≡ P.depth post.old }
         ensures same_ends { (worker : ℕ) → P.serves post.old worker → P.serves post.new worker }

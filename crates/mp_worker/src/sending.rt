@@ -7,8 +7,8 @@ ghost use Rattle.mp_names.specs.Outlines.{receiver};
 ghost use Rattle.mp_job.specs.Legal.{JobIsLegal};
 ghost use Rattle.mp_outline.specs.JobOutline.{outline_of};
 ghost use Rattle.mp_rows.specs.Entries.{AreChanges};
-ghost use Rattle.mp_refinement.specs.Ends.{AtEnds, FollowsLog};
-ghost use Rattle.mp_refinement.specs.Mail.{MailHinders, MailLets};
+ghost use Rattle.mp_refinement.specs.Ends.{PostMatchesLog, FollowsLog};
+ghost use Rattle.mp_refinement.specs.Mail.{MailboxBlocks, MailboxAllows};
 ghost use Rattle.mp_refinement.specs.State.{CanMake, Makes};
 ghost use Rattle.mp_worker.specs.Sending.{MaySend};
 ghost use Rattle.mp_worker.specs.Turns.{IfMade, IfNoName};
@@ -33,20 +33,20 @@ impl<'a, Q: Query, J: Naming> Worker<'a, Q, J> {
         requires stage { stage < J.job.shape.stages }
         requires workers { P.workers post.old ≡ J.job.shape.workers }
         requires serves { P.serves post.old self.old.number }
-        requires ends { AtEnds (P.stands post.old) (outline_of (Q.facts J.job.rules) J.job) self.old.number self.old.log }
+        requires ends { PostMatchesLog (P.denotes post.old) (outline_of (Q.facts J.job.rules) J.job) self.old.number self.old.log }
 
         ensures did { let o = outline_of (Q.facts J.job.rules) J.job in
             IfMade result (λ x. Makes o (Route stage) self.old x self.new) }
         ensures mail { let o = outline_of (Q.facts J.job.rules) J.job in
-            IfMade result (MailLets (P.had_room post.old) o self.old.number (Route stage)) }
+            IfMade result (MailboxAllows (P.had_room post.old) o self.old.number (Route stage)) }
         ensures none { let o = outline_of (Q.facts J.job.rules) J.job in
             IfNoName result ((x : Name) → CanMake o (Route stage) self.old x
-            → MailHinders (P.was_full post.old) (P.was_empty post.old) o self.old.number (Route stage) x) }
-        ensures unchanged { IfNoName result (self.new ≡ self.old) }
-        ensures refused { OnErr result (self.new ≡ self.old) }
+            → MailboxBlocks (P.was_full post.old) (P.was_empty post.old) o self.old.number (Route stage) x) }
+        ensures idle { IfNoName result (self.new ≡ self.old) }
+        ensures unchanged { OnErr result (self.new ≡ self.old) }
 
         ensures ends { let o = outline_of (Q.facts J.job.rules) J.job in
-            FollowsLog (P.stands post.old) (P.stands post.new) o self.old.number self.old.log self.new.log }
+            FollowsLog (P.denotes post.old) (P.denotes post.new) o self.old.number self.old.log self.new.log }
         ensures same_workers { P.workers post.new ≡ P.workers post.old }
         ensures same_depth { P.depth post.new ≡ P.depth post.old }
         ensures same_ends { (worker : ℕ) → P.serves post.old worker → P.serves post.new worker }
@@ -79,20 +79,20 @@ impl<'a, Q: Query, J: Naming> Worker<'a, Q, J> {
     ) -> Result<Option<Name>, AllocError>
         requires workers { P.workers post.old ≡ J.job.shape.workers }
         requires serves { P.serves post.old self.old.number }
-        requires ends { AtEnds (P.stands post.old) (outline_of (Q.facts J.job.rules) J.job) self.old.number self.old.log }
+        requires ends { PostMatchesLog (P.denotes post.old) (outline_of (Q.facts J.job.rules) J.job) self.old.number self.old.log }
 
         ensures did { let o = outline_of (Q.facts J.job.rules) J.job in
             IfMade result (λ x. Makes o SendRow self.old x self.new) }
         ensures mail { let o = outline_of (Q.facts J.job.rules) J.job in
-            IfMade result (MailLets (P.had_room post.old) o self.old.number SendRow) }
+            IfMade result (MailboxAllows (P.had_room post.old) o self.old.number SendRow) }
         ensures none { let o = outline_of (Q.facts J.job.rules) J.job in
             IfNoName result ((x : Name) → CanMake o SendRow self.old x
-            → MailHinders (P.was_full post.old) (P.was_empty post.old) o self.old.number SendRow x) }
-        ensures unchanged { IfNoName result (self.new ≡ self.old) }
-        ensures refused { OnErr result (self.new ≡ self.old) }
+            → MailboxBlocks (P.was_full post.old) (P.was_empty post.old) o self.old.number SendRow x) }
+        ensures idle { IfNoName result (self.new ≡ self.old) }
+        ensures unchanged { OnErr result (self.new ≡ self.old) }
 
         ensures ends { let o = outline_of (Q.facts J.job.rules) J.job in
-            FollowsLog (P.stands post.old) (P.stands post.new) o self.old.number self.old.log self.new.log }
+            FollowsLog (P.denotes post.old) (P.denotes post.new) o self.old.number self.old.log self.new.log }
         ensures same_workers { P.workers post.new ≡ P.workers post.old }
         ensures same_depth { P.depth post.new ≡ P.depth post.old }
         ensures same_ends { (worker : ℕ) → P.serves post.old worker → P.serves post.new worker }
@@ -137,19 +137,19 @@ pub(crate) fn send<Q: Query, J: Naming, P: Post<Msg<Q, J>>>(
     requires room { (1 ≤ log.old.room_for_names) × (length changes.now ≤ log.old.room_for_changes) }
     requires workers { P.workers post.old ≡ J.job.shape.workers }
     requires serves { P.serves post.old log.old.worker }
-    requires ends { AtEnds (P.stands post.old) (outline_of (Q.facts J.job.rules) J.job) log.old.worker log.old.log }
+    requires ends { PostMatchesLog (P.denotes post.old) (outline_of (Q.facts J.job.rules) J.job) log.old.worker log.old.log }
 
     ensures name { IfOk result (λ x. x ≡ message) }
     ensures sent { OnOk result (log.new.log ≡ with_sent log.old.log message) }
     ensures room { OnOk result (P.had_room post.old log.old.worker to) }
 
     ensures back { IfErr result (λ m. m ≡ message) }
-    ensures unsent { OnErr result (log.new.log ≡ log.old.log) }
+    ensures unchanged { OnErr result (log.new.log ≡ log.old.log) }
     ensures full { OnErr result (P.was_full post.old log.old.worker to) }
 
     ensures worker { log.new.worker ≡ log.old.worker }
     ensures ends { let o = outline_of (Q.facts J.job.rules) J.job in
-        FollowsLog (P.stands post.old) (P.stands post.new) o log.old.worker log.old.log log.new.log }
+        FollowsLog (P.denotes post.old) (P.denotes post.new) o log.old.worker log.old.log log.new.log }
     ensures same_workers { P.workers post.new ≡ P.workers post.old }
     ensures same_depth { P.depth post.new ≡ P.depth post.old }
     ensures same_ends { (worker : ℕ) → P.serves post.old worker → P.serves post.new worker }

@@ -9,8 +9,8 @@ ghost use Rattle.mp_stamps.specs.declared.seen.Seen.{Seen};
 ghost use Rattle.mp_outside.specs.Fault.{Rose};
 ghost use Rattle.mp_outside.specs.Sink.{grown};
 ghost use Rattle.mp_outline.specs.JobOutline.{outline_of};
-ghost use Rattle.mp_refinement.specs.Ends.{AtEnds, FollowsLog};
-ghost use Rattle.mp_refinement.specs.Mail.{MailHinders, MailLets};
+ghost use Rattle.mp_refinement.specs.Ends.{PostMatchesLog, FollowsLog};
+ghost use Rattle.mp_refinement.specs.Mail.{MailboxBlocks, MailboxAllows};
 ghost use Rattle.mp_refinement.specs.State.{CanMake, Makes};
 ghost use Rattle.mp_answer_laws.specs.Lines.{lines_of_time};
 ghost use Rattle.mp_worker.specs.declared.turn.Stop.TheVariants as stop;
@@ -45,7 +45,7 @@ impl<'a, Q: Query, J: Naming> Worker<'a, Q, J> {
     ) -> Result<Turn, Stop>
         requires workers { P.workers post.old ≡ J.job.shape.workers }
         requires serves { P.serves post.old self.old.number }
-        requires ends { AtEnds (P.stands post.old) (outline_of (Q.facts J.job.rules) J.job) self.old.number self.old.log }
+        requires ends { PostMatchesLog (P.denotes post.old) (outline_of (Q.facts J.job.rules) J.job) self.old.number self.old.log }
         requires hub { H.serves hub.old self.old.number }
         requires posted { LogGrows (H.posted hub.old self.old.number) self.old.log }
 
@@ -53,7 +53,7 @@ impl<'a, Q: Query, J: Naming> Worker<'a, Q, J> {
         ensures did { let o = outline_of (Q.facts J.job.rules) J.job in
             IfDid result (λ x. Makes o kind self.old x self.new) }
         ensures mail { let o = outline_of (Q.facts J.job.rules) J.job in
-            IfDid result (MailLets (P.had_room post.old) o self.old.number kind) }
+            IfDid result (MailboxAllows (P.had_room post.old) o self.old.number kind) }
 
         // The log was posted.
         ensures saw { IfSaw result (λ version. (kind ≡ Exchange) × (self.new ≡ record self.old { seen = self.new.seen })
@@ -63,7 +63,7 @@ impl<'a, Q: Query, J: Naming> Worker<'a, Q, J> {
         // The condition was false.
         ensures not_now { let o = outline_of (Q.facts J.job.rules) J.job in
             IfNotNow result ((x : Name) → CanMake o kind self.old x
-            → MailHinders (P.was_full post.old) (P.was_empty post.old) o self.old.number kind x) }
+            → MailboxBlocks (P.was_full post.old) (P.was_empty post.old) o self.old.number kind x) }
         ensures same { IfNotNow result (kind ≡ Exchange → H.after hub.old self.old.number self.old.log hub.new
             × ((seen : Seen) × H.shows hub.new seen × (seen.version ≡ self.old.seen.version))) }
 
@@ -73,7 +73,7 @@ impl<'a, Q: Query, J: Naming> Worker<'a, Q, J> {
 
         // The mailboxes.
         ensures ends { let o = outline_of (Q.facts J.job.rules) J.job in
-            FollowsLog (P.stands post.old) (P.stands post.new) o self.old.number self.old.log self.new.log }
+            FollowsLog (P.denotes post.old) (P.denotes post.new) o self.old.number self.old.log self.new.log }
         ensures same_workers { P.workers post.new ≡ P.workers post.old }
         ensures same_depth { P.depth post.new ≡ P.depth post.old }
         ensures same_ends { (worker : ℕ) → P.serves post.old worker → P.serves post.new worker }
@@ -92,7 +92,7 @@ impl<'a, Q: Query, J: Naming> Worker<'a, Q, J> {
         ensures part { OnErr result ((S.written sink.new ≡ S.written sink.old)
             ⊎ WritesPart (Q.facts J.job.rules) J.job self.old (S.written sink.old) (S.written sink.new)) }
         ensures failed { result ≡ Err stop.Write → (kind ≡ Write) × Rose (S.faults sink.old) (S.faults sink.new) }
-        ensures beside { S.beside sink.new ≡ S.beside sink.old }
+        ensures frame { S.frame sink.new ≡ S.frame sink.old }
         ensures writes { S.faults sink.old ≤ S.faults sink.new }
     {
         match kind {
@@ -111,20 +111,20 @@ impl<'a, Q: Query, J: Naming> Worker<'a, Q, J> {
         requires kind { (kind ≢ Write) × (kind ≢ Exchange) }
         requires workers { P.workers post.old ≡ J.job.shape.workers }
         requires serves { P.serves post.old self.old.number }
-        requires ends { AtEnds (P.stands post.old) (outline_of (Q.facts J.job.rules) J.job) self.old.number self.old.log }
+        requires ends { PostMatchesLog (P.denotes post.old) (outline_of (Q.facts J.job.rules) J.job) self.old.number self.old.log }
 
         ensures did { let o = outline_of (Q.facts J.job.rules) J.job in
             IfMade result (λ x. Makes o kind self.old x self.new) }
         ensures mail { let o = outline_of (Q.facts J.job.rules) J.job in
-            IfMade result (MailLets (P.had_room post.old) o self.old.number kind) }
+            IfMade result (MailboxAllows (P.had_room post.old) o self.old.number kind) }
         ensures none { let o = outline_of (Q.facts J.job.rules) J.job in
             IfNoName result ((x : Name) → CanMake o kind self.old x
-            → MailHinders (P.was_full post.old) (P.was_empty post.old) o self.old.number kind x) }
-        ensures unchanged { IfNoName result (self.new ≡ self.old) }
-        ensures refused { OnErr result (self.new ≡ self.old) }
+            → MailboxBlocks (P.was_full post.old) (P.was_empty post.old) o self.old.number kind x) }
+        ensures idle { IfNoName result (self.new ≡ self.old) }
+        ensures unchanged { OnErr result (self.new ≡ self.old) }
 
         ensures ends { let o = outline_of (Q.facts J.job.rules) J.job in
-            FollowsLog (P.stands post.old) (P.stands post.new) o self.old.number self.old.log self.new.log }
+            FollowsLog (P.denotes post.old) (P.denotes post.new) o self.old.number self.old.log self.new.log }
         ensures same_workers { P.workers post.new ≡ P.workers post.old }
         ensures same_depth { P.depth post.new ≡ P.depth post.old }
         ensures same_ends { (worker : ℕ) → P.serves post.old worker → P.serves post.new worker }

@@ -31,14 +31,14 @@ impl<'a, Q: Query, J: Naming> Worker<'a, Q, J> {
 
         ensures none { let o = outline_of (Q.facts J.job.rules) J.job in
             IfNoName result ((x : Name) → CanMake o Write self.old x → ⊥) }
-        ensures unchanged { IfNoName result ((self.new ≡ self.old) × (sink.new ≡ sink.old)) }
+        ensures idle { IfNoName result ((self.new ≡ self.old) × (sink.new ≡ sink.old)) }
 
-        ensures refused { OnErr result (self.new ≡ self.old) }
+        ensures unchanged { OnErr result (self.new ≡ self.old) }
         ensures part { OnErr result ((S.written sink.new ≡ S.written sink.old)
             ⊎ WritesPart (Q.facts J.job.rules) J.job self.old (S.written sink.old) (S.written sink.new)) }
         ensures failed { result ≡ Err WriteFault → Rose (S.faults sink.old) (S.faults sink.new) }
 
-        ensures beside { S.beside sink.new ≡ S.beside sink.old }
+        ensures frame { S.frame sink.new ≡ S.frame sink.old }
         ensures writes { S.faults sink.old ≤ S.faults sink.new }
     {
         if self.number != 0 {

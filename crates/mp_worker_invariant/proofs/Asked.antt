@@ -25,7 +25,7 @@ use Rattle.mp_model.specs.Facts.{JobFacts, QueryFacts}
 use Rattle.mp_outline.specs.JobOutline.{outline_of}
 use Rattle.mp_output.specs.Holding.{HoldsUnwritten}
 use Rattle.mp_host_laws.specs.Hosted.{Hosted}
-use Rattle.mp_host_laws.specs.HostOf.{IsInformed, KnowsOwners}
+use Rattle.mp_host_laws.specs.HostOf.{HostMatchesLogAndSeen, OwnersAreCurrent}
 use Rattle.mp_host_laws.specs.Laws.{MayLeaveNow}
 use Rattle.mp_handoff.specs.Due.{IsDueHere}
 use Rattle.mp_handoff.specs.MoversOf.{KnowsMoves}
@@ -48,7 +48,7 @@ passed_sooner (At s) t u h l = omega arith
 passed_sooner Done t u h l = tt
 
 module _ {Cell : Type 0} (q : QueryFacts Cell) (job : JobFacts) (sound : OutlineIsSound (outline_of q job)) (p : Parts Cell) (parts : ArePartsOf q job p) where
-  pub host_is_informed : (j : ℕ) (h : Hosted Cell) → IsHostAt q job p.number p.log j h → IsInformed q job p.log p.seen h
+  pub host_is_informed : (j : ℕ) (h : Hosted Cell) → IsHostAt q job p.number p.log j h → HostMatchesLogAndSeen q job p.log p.seen h
   host_is_informed j h at = record {
     host = at.2;
     legal = subst (λ (w : ℕ). LogIsLegal (outline_of q job) w p.log) (sym at.1) parts.legal;
@@ -68,7 +68,7 @@ module _ {Cell : Type 0} (q : QueryFacts Cell) (job : JobFacts) (sound : Outline
     unfolding owner_before
     owners_upto j b u le = told job.controls p.notes (suc t) parts.notes.of_job noted_upto j b u le ∙ ap (λ (s : Shape). owner_below job.controls (first_owner s b) j b u) parts.notes.shape
 
-  owners_are_known : (j : ℕ) → j < job.shape.stages → KnowsOwners q job p.notes p.seen j
+  owners_are_known : (j : ℕ) → j < job.shape.stages → OwnersAreCurrent q job p.notes p.seen j
   owners_are_known j below = record { shape = parts.notes.shape; owners = λ t b passed. owners_upto (State j) below (ctl_mail-state j) t passed j b (suc t) (omega arith) }
 
   moves_are_known : (j : ℕ) → KnowsMoves (outline_of q job) p.log p.notes p.seen p.number j

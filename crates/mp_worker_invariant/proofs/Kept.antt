@@ -24,7 +24,7 @@ use Rattle.mp_host_laws.specs.Hosted.{Hosted}
 use Rattle.mp_host_laws.specs.HostOf.{IsHostOf, IsReadyAt}
 use Rattle.mp_handoff.specs.Due.{IsDueHere}
 use Rattle.mp_handoff.specs.Laws.{MoversStay}
-use Rattle.mp_handoff.specs.Moving.{Moving}
+use Rattle.mp_handoff.specs.MoversState.{MoversState}
 use Rattle.mp_handoff.specs.MoversOf.{IsMoversOf}
 use Rattle.mp_handoff.proofs.Same.{movers_always_stay}
 use Rattle.mp_worker_invariant.specs.Kept.{AreMoversAt, IsHostAt, IsRouterAt, StepsKeepParts, with_host, with_movers, with_next, with_notes}
@@ -97,7 +97,7 @@ module _ {Cell : Type 0} (q : QueryFacts Cell) (job : JobFacts) (sound : Outline
   unwritten : UnwrittenStay
   unwritten = unwritten_rows_stay
 
-  movers : (m : Moving) → IsMoversOf (outline_of q job) p.log m → MoversStay (outline_of q job) p.log m
+  movers : (m : MoversState) → IsMoversOf (outline_of q job) p.log m → MoversStay (outline_of q job) p.log m
   movers m = movers_always_stay (outline_of q job) p.log m
 
   legal : StepsStayLegal q job p.number p.log p.seen
@@ -133,10 +133,10 @@ module _ {Cell : Type 0} (q : QueryFacts Cell) (job : JobFacts) (sound : Outline
   host_is_new log i h new k =
       one_is_new (IsHostAt q job p.number p.log) (IsHostAt q job p.number log) p.hosts i h new (λ j s apart a. (a.0, a.1, k s (λ e. apart (sym a.0 ∙ e)) a.2)) parts.hosts
 
-  all_movers_stay : (log : Log) → ((m : Moving) → IsMoversOf (outline_of q job) p.log m → IsMoversOf (outline_of q job) log m) → AtEach p.movers (AreMoversAt q job p.number log)
+  all_movers_stay : (log : Log) → ((m : MoversState) → IsMoversOf (outline_of q job) p.log m → IsMoversOf (outline_of q job) log m) → AtEach p.movers (AreMoversAt q job p.number log)
   all_movers_stay log k = each_stays (AreMoversAt q job p.number p.log) (AreMoversAt q job p.number log) p.movers (λ j m a. (a.0, a.1, k m a.2)) parts.movers
 
-  movers_are_new : (log : Log) (i : ℕ) (m : Moving) → AreMoversAt q job p.number log i m → ((s : Moving) → (s.stage ≡ i → ⊥) → IsMoversOf (outline_of q job) p.log s → IsMoversOf (outline_of q job) log s)
+  movers_are_new : (log : Log) (i : ℕ) (m : MoversState) → AreMoversAt q job p.number log i m → ((s : MoversState) → (s.stage ≡ i → ⊥) → IsMoversOf (outline_of q job) p.log s → IsMoversOf (outline_of q job) log s)
       → AtEach (set p.movers i m) (AreMoversAt q job p.number log)
   movers_are_new log i m new k =
       one_is_new (AreMoversAt q job p.number p.log) (AreMoversAt q job p.number log) p.movers i m new (λ j s apart a. (a.0, a.1, k s (λ e. apart (sym a.0 ∙ e)) a.2)) parts.movers
@@ -178,7 +178,7 @@ module _ {Cell : Type 0} (q : QueryFacts Cell) (job : JobFacts) (sound : Outline
         unwritten = unwritten.sent p.log p.unwritten x parts.unwritten;
       }
 
-  control_took : (i : ℕ) (notes : Notes) (m : Moving) → IsOwedTo (outline_of q job) p.number (Ctrl i p.number) → has p.log.took (Ctrl i p.number) ≡ false
+  control_took : (i : ℕ) (notes : Notes) (m : MoversState) → IsOwedTo (outline_of q job) p.number (Ctrl i p.number) → has p.log.took (Ctrl i p.number) ≡ false
       → notes ≡ record p.notes { noted = with_note p.notes.noted (record { index = i; control = control_of job.controls i }); room = notes.room }
       → AreMoversAt q job p.number (with_took p.log (Ctrl i p.number)) (control_of job.controls i).stage m
       → ArePartsOf q job (with_movers (with_notes p (with_took p.log (Ctrl i p.number)) notes) (with_took p.log (Ctrl i p.number)) (control_of job.controls i).stage m)
@@ -223,7 +223,7 @@ module _ {Cell : Type 0} (q : QueryFacts Cell) (job : JobFacts) (sound : Outline
         unwritten = unwritten.took p.log p.unwritten x refl parts.unwritten;
       }
 
-  packet_sent : (j b t : ℕ) (h : Hosted Cell) (m : Moving) → IsLeast (IsDueHere (outline_of q job) p.log p.seen p.number j) (Packet j b t) → HasReached (seen_at p.seen (HostLoc j)) t
+  packet_sent : (j b t : ℕ) (h : Hosted Cell) (m : MoversState) → IsLeast (IsDueHere (outline_of q job) p.log p.seen p.number j) (Packet j b t) → HasReached (seen_at p.seen (HostLoc j)) t
       → IsHostAt q job p.number (with_sent p.log (Packet j b t)) j h → AreMoversAt q job p.number (with_sent p.log (Packet j b t)) j m
       → ArePartsOf q job (with_movers (with_host p (with_sent p.log (Packet j b t)) j h) (with_sent p.log (Packet j b t)) j m)
   packet_sent j b t h m least reached holds are =
@@ -245,7 +245,7 @@ module _ {Cell : Type 0} (q : QueryFacts Cell) (job : JobFacts) (sound : Outline
         unwritten = unwritten.sent p.log p.unwritten x parts.unwritten;
       }
 
-  time_settled : (j t : ℕ) (m : Moving) → IsLeast (IsUnsettled (outline_of q job) p.log j) (Settled j t) → HasPassed (seen_at p.seen CtlMail) t
+  time_settled : (j t : ℕ) (m : MoversState) → IsLeast (IsUnsettled (outline_of q job) p.log j) (Settled j t) → HasPassed (seen_at p.seen CtlMail) t
       → ((b : ℕ) → IsOwedBy (outline_of q job) p.number (Packet j b t) → In (Packet j b t) p.log.sent)
       → AreMoversAt q job p.number (with_settled p.log (Settled j t)) j m → ArePartsOf q job (with_movers p (with_settled p.log (Settled j t)) j m)
   time_settled j t m least passed sent are =

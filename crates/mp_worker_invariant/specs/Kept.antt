@@ -20,9 +20,9 @@ use Rattle.mp_route.specs.Routed.{Routed}
 use Rattle.mp_route.specs.Unsent.{HoldsUnsent, MayGo}
 use Rattle.mp_output.specs.Holding.{HoldsUnwritten}
 use Rattle.mp_host_laws.specs.Hosted.{Hosted}
-use Rattle.mp_host_laws.specs.HostOf.{IsHostOf, IsInformed, IsReadyAt, KnowsOwners}
+use Rattle.mp_host_laws.specs.HostOf.{IsHostOf, HostMatchesLogAndSeen, IsReadyAt, OwnersAreCurrent}
 use Rattle.mp_host_laws.specs.Laws.{MayLeaveNow}
-use Rattle.mp_handoff.specs.Moving.{Moving}
+use Rattle.mp_handoff.specs.MoversState.{MoversState}
 use Rattle.mp_handoff.specs.Due.{IsDueHere}
 use Rattle.mp_handoff.specs.MoversOf.{IsMoversOf, KnowsMoves}
 use Rattle.mp_worker_invariant.specs.Parts.{ArePartsOf, AtEach, HoldsRowsBut, Parts, SeenIsDone, place_after}
@@ -36,7 +36,7 @@ abbrev pub with_host : {Cell : Type 0} → Parts Cell → Log → ℕ → Hosted
 with_host p log j h = record p { log = log; hosts = set p.hosts j h }
 
 -- its log and its movers of a stage are
-abbrev pub with_movers : {Cell : Type 0} → Parts Cell → Log → ℕ → Moving → Parts Cell
+abbrev pub with_movers : {Cell : Type 0} → Parts Cell → Log → ℕ → MoversState → Parts Cell
 with_movers p log j m = record p { log = log; movers = set p.movers j m }
 
 -- its log and the place of the next control record to be sent are
@@ -65,7 +65,7 @@ module _ {Cell : Type 0} (q : QueryFacts Cell) (job : JobFacts) where
   IsHostAt w log j h = (h.stage ≡ j) × (h.worker ≡ w) × IsHostOf q job log h
 
   -- movers of this worker and stage do
-  abbrev pub AreMoversAt : ℕ → Log → ℕ → Moving → Type 0
+  abbrev pub AreMoversAt : ℕ → Log → ℕ → MoversState → Type 0
   AreMoversAt w log j m = (m.stage ≡ j) × (m.worker ≡ w) × IsMoversOf (outline_of q job) log m
 
   -- Each step of a worker keeps its parts what its log says: where those that the step is of are so, all others are
@@ -83,7 +83,7 @@ module _ {Cell : Type 0} (q : QueryFacts Cell) (job : JobFacts) where
     pub receive : (j t k : ℕ) (g : Tag) (h : Hosted Cell) → IsOwedTo (outline_of q job) p.number (RecName j t k g) → has p.log.took (RecName j t k g) ≡ false
         → IsHostAt p.number (with_took p.log (RecName j t k g)) j h → ArePartsOf q job (with_host p (with_took p.log (RecName j t k g)) j h)
     -- a control record is taken: it is noted, and the movers of its stage note its time
-    pub receive_control : (i : ℕ) (notes : Notes) (m : Moving) → IsOwedTo (outline_of q job) p.number (Ctrl i p.number) → has p.log.took (Ctrl i p.number) ≡ false
+    pub receive_control : (i : ℕ) (notes : Notes) (m : MoversState) → IsOwedTo (outline_of q job) p.number (Ctrl i p.number) → has p.log.took (Ctrl i p.number) ≡ false
         → notes ≡ record p.notes { noted = with_note p.notes.noted (record { index = i; control = control_of job.controls i }); room = notes.room }
         → AreMoversAt p.number (with_took p.log (Ctrl i p.number)) (control_of job.controls i).stage m
         → ArePartsOf q job (with_movers (with_notes p (with_took p.log (Ctrl i p.number)) notes) (with_took p.log (Ctrl i p.number)) (control_of job.controls i).stage m)
@@ -91,11 +91,11 @@ module _ {Cell : Type 0} (q : QueryFacts Cell) (job : JobFacts) where
     pub receive_packet : (j b t : ℕ) (h : Hosted Cell) → IsOwedTo (outline_of q job) p.number (Packet j b t) → has p.log.took (Packet j b t) ≡ false
         → IsHostAt p.number (with_took p.log (Packet j b t)) j h → ArePartsOf q job (with_host p (with_took p.log (Packet j b t)) j h)
     -- a packet is sent: its bin is out of the host, and the movers know that it is sent
-    pub extract : (j b t : ℕ) (h : Hosted Cell) (m : Moving) → IsLeast (IsDueHere (outline_of q job) p.log p.seen p.number j) (Packet j b t) → HasReached (seen_at p.seen (Host j)) t
+    pub extract : (j b t : ℕ) (h : Hosted Cell) (m : MoversState) → IsLeast (IsDueHere (outline_of q job) p.log p.seen p.number j) (Packet j b t) → HasReached (seen_at p.seen (Host j)) t
         → IsHostAt p.number (with_sent p.log (Packet j b t)) j h → AreMoversAt p.number (with_sent p.log (Packet j b t)) j m
         → ArePartsOf q job (with_movers (with_host p (with_sent p.log (Packet j b t)) j h) (with_sent p.log (Packet j b t)) j m)
     -- a time is settled
-    pub settle : (j t : ℕ) (m : Moving) → IsLeast (IsUnsettled (outline_of q job) p.log j) (Settled j t) → HasPassed (seen_at p.seen CtlMail) t
+    pub settle : (j t : ℕ) (m : MoversState) → IsLeast (IsUnsettled (outline_of q job) p.log j) (Settled j t) → HasPassed (seen_at p.seen CtlMail) t
         → ((b : ℕ) → IsOwedBy (outline_of q job) p.number (Packet j b t) → In (Packet j b t) p.log.sent)
         → AreMoversAt p.number (with_settled p.log (Settled j t)) j m → ArePartsOf q job (with_movers p (with_settled p.log (Settled j t)) j m)
     -- an answer row is taken
@@ -123,8 +123,8 @@ module _ {Cell : Type 0} (q : QueryFacts Cell) (job : JobFacts) where
 
   -- What is asked of the parts of a worker: that a host is informed, that owners and moves are known as far as was seen, that the host may give up the bin that is due to leave, and that a row that is still to come is of a time that isn't written
   pub record PartsAreAsked (p : Parts Cell) : Type 0 where
-    pub informed : (j : ℕ) (h : Hosted Cell) → IsHostAt p.number p.log j h → IsInformed q job p.log p.seen h
-    pub owners : (j : ℕ) → j < job.shape.stages → KnowsOwners q job p.notes p.seen j
+    pub informed : (j : ℕ) (h : Hosted Cell) → IsHostAt p.number p.log j h → HostMatchesLogAndSeen q job p.log p.seen h
+    pub owners : (j : ℕ) → j < job.shape.stages → OwnersAreCurrent q job p.notes p.seen j
     pub moves : (j : ℕ) → KnowsMoves (outline_of q job) p.log p.notes p.seen p.number j
     pub leaves : (j b t : ℕ) (h : Hosted Cell) → j < job.shape.stages → IsHostAt p.number p.log j h → IsLeast (IsDueHere (outline_of q job) p.log p.seen p.number j) (Packet j b t) → HasReached (seen_at p.seen (Host j)) t
         → MayLeaveNow q job p.log h b t
@@ -133,7 +133,7 @@ module _ {Cell : Type 0} (q : QueryFacts Cell) (job : JobFacts) where
   -- a worker begins with the empty log: nothing is noted, and no routers, hosts, movers and rows hold anything
   abbrev pub PartsBegin : Type 0
   PartsBegin =
-      (w : ℕ) (seen : Seen) (notes : Notes) (routers : List Routed) (hosts : List (Hosted Cell)) (movers : List Moving)
+      (w : ℕ) (seen : Seen) (notes : Notes) (routers : List Routed) (hosts : List (Hosted Cell)) (movers : List MoversState)
       → w < job.shape.workers
       → SeenIsDone q job w empty_log seen
       → notes.shape ≡ job.shape

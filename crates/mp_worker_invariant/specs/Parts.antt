@@ -19,7 +19,7 @@ use Rattle.mp_route.specs.Unsent.{HoldsUnsent}
 use Rattle.mp_output.specs.Holding.{HoldsUnwritten}
 use Rattle.mp_host_laws.specs.Hosted.{Hosted}
 use Rattle.mp_host_laws.specs.HostOf.{IsHostOf}
-use Rattle.mp_handoff.specs.Moving.{Moving}
+use Rattle.mp_handoff.specs.MoversState.{MoversState}
 use Rattle.mp_handoff.specs.MoversOf.{IsMoversOf}
 
 -- a worker's number, its log and what it saw; the control records that it noted, and the index and receiver of the first that it has to send; by stage its routers, hosts and movers; the answer rows that it has to send, and those that it has to write
@@ -31,7 +31,7 @@ pub record Parts (Cell : Type 0) : Type 0 where
   pub next : ℕ × ℕ
   pub routers : List Routed
   pub hosts : List (Hosted Cell)
-  pub movers : List Moving
+  pub movers : List MoversState
   pub unsent : List Output
   pub unwritten : List Output
 

@@ -7,7 +7,7 @@ use Rattle.mp_names.specs.Names.{is_packet, joined_below}
 use Rattle.mp_model.specs.Facts.{JobFacts, QueryFacts}
 use Rattle.mp_handoff.specs.declared.sent.Sent.{Sent}
 use Rattle.mp_handoff.specs.Keys.{HasKeys}
-use Rattle.mp_handoff.specs.Moving.{Moving}
+use Rattle.mp_handoff.specs.MoversState.{MoversState}
 use Rattle.mp_worker_invariant.specs.declared.tally.Moved.{Moved}
 
 -- a packet of a stage that was sent
@@ -15,7 +15,7 @@ abbrev pub moved_of : ℕ → Sent → Moved
 moved_of j s = record { stage = j; bin = s.bin; time = s.time; keys = s.keys }
 
 -- those that the movers of each stage sent
-abbrev pub moved_by : List Moving → List Moved
+abbrev pub moved_by : List MoversState → List Moved
 moved_by movers = flat_map (λ m. map (moved_of m.stage) m.sent) movers
 
 -- what the packet is called

@@ -2,7 +2,7 @@
 ghost use Rattle.std.specs.Prelude.{◌≡◌, ◌==◌, ◌≤◌, ◌<◌, ◌+◌, ℕ, suc, [], All, Contains, IsOk, IsSome, None, OnOk, Some, length, map, slice_get, if◌then◌else◌};
 ghost use Rattle.mp_names.specs.declared.locations.Loc.TheVariants.{OutRoute, Route};
 ghost use Rattle.mp_names.specs.Logs.{Log};
-ghost use Rattle.mp_model.specs.declared.limits.TheConstants.{LAST_TIME};
+ghost use Rattle.mp_names.specs.Limits.{last_time};
 ghost use Rattle.mp_model.specs.Folds.{outputs_at};
 ghost use Rattle.mp_model.specs.Stages.{answer_rows};
 ghost use Rattle.mp_outline.specs.JobOutline.{name_of_record, name_of_row};
@@ -62,7 +62,7 @@ pub fn hold_records<Q: Query, J: Naming>(
     router: &mut Router<Q, J>,
 ) -> Result<(), AllocError>
     requires rules { Q.rules query.now ≡ J.job.rules }
-    requires time { time ≤ LAST_TIME }
+    requires time { time ≤ last_time }
     requires keys { let q = Q.facts J.job.rules in
         All (λ v. IsSome (q.key stage time v)) outputs.items }
     requires stage { router.old.stage ≡ stage }

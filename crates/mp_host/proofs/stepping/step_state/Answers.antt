@@ -39,8 +39,8 @@ returns-in-Ok-clause-outputs g c =
     let q = g.Q.Query.facts (g.Q.Query.rules c.args.query.now) in
     rw (← c.state.view_is, cell_is (q.fresh c.args.stage) c.state.inside.cells c.args.group.now.key) c.in-Ok.ensures.outputs
 
-pub returns-clause-refused : goal.returns-clause-refused
-returns-clause-refused g c =
+pub returns-clause-unchanged : goal.returns-clause-unchanged
+returns-clause-unchanged g c =
     let wakes = c.in_ok-wakes.wakes.items in
     let ws = c.state.inside.wakes in
     let key = c.key-key.result in
@@ -48,4 +48,4 @@ returns-clause-refused g c =
     let added = rw c.as_slice.ensures.value at c.in_ok-add_all.ensures.exact in
     let taken = rw c.as_slice-in-Err.ensures.value at c.take_all.ensures.exact in
     let back = taken_back wakes key ws c.add_all.new.self c.take_all.new.self c.state.invariant.wakes c.take_all.ensures.ascending new (λ t k there. (added t k).1 (inl there)) (λ t k there. (added t k).0 there) taken in
-    rw (← c.state.view_is, back, c.in-Err.ensures.refused) refl
+    rw (← c.state.view_is, back, c.in-Err.ensures.unchanged) refl

@@ -6,9 +6,9 @@ use Rattle.mp_msg.proofs.Pushed.{one_is_distinct, stands_after}
 use Rattle.mp_msg.proofs.tests.carried.Goals as goal
 
 pub push-requires-clause-fresh : goal.push-requires-clause-fresh
-push-requires-clause-fresh g c = ([], [], c.in_ok-post.ensures.stands c.args.from c.args.to c.requires.from c.requires.to, one_is_distinct c.args.message)
+push-requires-clause-fresh g c = ([], [], c.in_ok-post.ensures.denotes c.args.from c.args.to c.requires.from c.requires.to, one_is_distinct c.args.message)
 
-pub pop-requires-clause-stands : goal.pop-requires-clause-stands
-pop-requires-clause-stands g c =
+pub pop-requires-clause-denotes : goal.pop-requires-clause-denotes
+pop-requires-clause-denotes g c =
     let o = outline_of marking_bids g.J.Naming.job in
-    stands_after (λ m. m ∷ []) (sender o) (receiver o) c.in_ok-post.post c.push.new.self c.args.from c.args.to c.args.message c.push.result c.push.ensures.ok c.push.ensures.err (c.in_ok-post.ensures.stands c.args.from c.args.to c.requires.from c.requires.to)
+    stands_after (λ m. m ∷ []) (sender o) (receiver o) c.in_ok-post.post c.push.new.self c.args.from c.args.to c.args.message c.push.result c.push.ensures.ok c.push.ensures.unchanged (c.in_ok-post.ensures.denotes c.args.from c.args.to c.requires.from c.requires.to)

@@ -8,7 +8,7 @@ pub loop-at-init : goal.loop-at-init
 loop-at-init g c = record {
   in_piece = omega arith;
   grew = sym (grown-nothing _);
-  beside = refl;
+  frame = refl;
   writes = omega arith;
 }
 
@@ -18,6 +18,6 @@ loop-at-preserved g c = record {
   grew =
       let h = rw take_rest at c.in_ok-at.ensures.grew in
       rw take-add (h ∙ (rw c.loop-at.invariant.grew (grown-grown _ _ _)));
-  beside = c.in_ok-at.ensures.beside ∙ c.loop-at.invariant.beside;
+  frame = c.in_ok-at.ensures.frame ∙ c.loop-at.invariant.frame;
   writes = omega (arith, c.in_ok-at.ensures.writes);
 }

@@ -6,7 +6,7 @@ abbrev pub invariant-loop-at : goal.invariant-loop-at
 invariant-loop-at g l = record {
   in_piece : l.at ≤ length l.piece;
   grew : g.S.Sink.written l.sink ≡ grown (g.S.Sink.written l.initial.sink) (take l.at l.piece);
-  beside : g.S.Sink.beside l.sink ≡ g.S.Sink.beside l.initial.sink;
+  frame : g.S.Sink.frame l.sink ≡ g.S.Sink.frame l.initial.sink;
   writes : g.S.Sink.faults l.initial.sink ≤ g.S.Sink.faults l.sink;
 }
 

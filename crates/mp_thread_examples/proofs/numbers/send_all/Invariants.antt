@@ -6,5 +6,5 @@ abbrev pub invariant-loop : goal.invariant-loop
 invariant-loop g l = record {
   bound : l.next ≤ l.count;
   serves : g.P.Post.serves l.post 0 × (1 < g.P.Post.workers l.post);
-  stands : (popped : List ℕ) → g.P.Post.stands l.fn.post 0 1 [] popped → g.P.Post.stands l.post 0 1 (numbers_below l.next) popped;
+  denotes : (popped : List ℕ) → g.P.Post.denotes l.fn.post 0 1 [] popped → g.P.Post.denotes l.post 0 1 (numbers_below l.next) popped;
 }

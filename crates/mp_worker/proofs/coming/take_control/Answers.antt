@@ -1,5 +1,5 @@
 use Rattle.std.proofs.Common.{◌≡◌, ap, cond}
-use Rattle.mp_handoff.specs.Moving.{Moving}
+use Rattle.mp_handoff.specs.MoversState.{MoversState}
 use Rattle.mp_worker.proofs.Controls.{control_changes, control_held, may_note, not_noted, notes_are}
 use Rattle.mp_worker.proofs.Received.{if_never_refused}
 use Rattle.mp_worker.proofs.coming.take_control.Goals as goal
@@ -37,4 +37,4 @@ returns-clause-movers g c =
     let log = c.args.log.now in
     let same = c.note-2.ensures.same in
     let holds = if_never_refused c.note-2.result _ (c.note-2.ensures.never_refused_with_room c.requires.room.3) c.note-2.ensures.held in
-    control_held q job log.worker log.log c.args.index c.args.control c.requires.control c.requires.fresh c.args.movers.now c.requires.movers c.note-2.new.self (ap (λ (m : Moving). m.stage) same) (ap (λ (m : Moving). m.worker) same) holds
+    control_held q job log.worker log.log c.args.index c.args.control c.requires.control c.requires.fresh c.args.movers.now c.requires.movers c.note-2.new.self (ap (λ (m : MoversState). m.stage) same) (ap (λ (m : MoversState). m.worker) same) holds

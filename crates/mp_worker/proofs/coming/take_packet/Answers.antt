@@ -32,7 +32,7 @@ push-requires-clause-changes g c κs within =
     let sound = outline_is_sound q (laws.has_stages job.rules) (laws.posts_are_later job.rules) (laws.later_stages_post_nothing job.rules) job c.requires.job in
     let p = c.args.packet in
     let log = c.args.log.now in
-    let counted = packet_changes q job sound log.worker log.log p.stage c.args.host.now c.requires.host p.bin p.time p.state c.coming.new.numbers.items c.coming.ensures.stands c.requires.legal c.requires.owed c.requires.fresh c.requires.state.1 c.coming.ensures.told in
+    let counted = packet_changes q job sound log.worker log.log p.stage c.args.host.now c.requires.host p.bin p.time p.state c.coming.new.numbers.items c.coming.ensures.denotes c.requires.legal c.requires.owed c.requires.fresh c.requires.state.1 c.coming.ensures.told in
     rw (c.as_slice-2.ensures.value, c.in_ok-list_coming.ensures.changes, c.as_slice.ensures.value) counted
 
 pub unreachable-requires : goal.unreachable-requires

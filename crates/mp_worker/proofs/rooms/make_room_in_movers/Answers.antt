@@ -1,5 +1,5 @@
 use Rattle.std.proofs.Common.{◌<◌, ◌≤◌, ap, length, rules}
-use Rattle.mp_handoff.specs.Moving.{Moving}
+use Rattle.mp_handoff.specs.MoversState.{MoversState}
 use Rattle.mp_worker.specs.Rooms.{roomless}
 use Rattle.mp_worker.proofs.Roomy.{one_more_so, same_put}
 use Rattle.mp_worker.proofs.rooms.make_room_in_movers.Goals as goal
@@ -11,5 +11,5 @@ loop-one-preserved g c =
     let inside : l.one-index < length l.one-items = search rules in
     record {
       same = same_put roomless c.args.movers.now l.one-items l.one-index c.one-item.result new l.invariant.same (ap roomless c.make_room.ensures.same);
-      roomy = one_more_so (λ (m : Moving). 1 ≤ m.room) l.one-items l.one-index new l.invariant.roomy c.in_ok-make_room.ensures.room inside;
+      roomy = one_more_so (λ (m : MoversState). 1 ≤ m.room) l.one-items l.one-index new l.invariant.roomy c.in_ok-make_room.ensures.room inside;
     }

@@ -21,7 +21,7 @@ push-requires-clause-fresh g c =
     let laws = g.met.Q.Query g.world.𝓛 g.world.𝓜 g.world.𝓡 ((λ s x. x), (λ x. x), (λ x. x), λ x. x) in
     let job = g.J.Naming.job in
     let sound = outline_is_sound (g.Q.Query.facts job.rules) (laws.has_stages job.rules) (laws.posts_are_later job.rules) (laws.later_stages_post_nothing job.rules) job c.requires.job in
-    may_push sound c.requires.worker c.requires.may c.worker.ensures c.requires.to (g.P.Post.stands c.args.post.now) c.requires.ends
+    may_push sound c.requires.worker c.requires.may c.worker.ensures c.requires.to (g.P.Post.denotes c.args.post.now) c.requires.ends
 
 pub returns-in-Ok-push-clause-ends : goal.returns-in-Ok-push-clause-ends
 returns-in-Ok-push-clause-ends g c =
@@ -29,7 +29,7 @@ returns-in-Ok-push-clause-ends g c =
     let job = g.J.Naming.job in
     let sound = outline_is_sound (g.Q.Query.facts job.rules) (laws.has_stages job.rules) (laws.posts_are_later job.rules) (laws.later_stages_post_nothing job.rules) job c.requires.job in
     rw (c.in-Ok-push.ensures.pushed, c.name-name.ensures)
-    (follows_push sound c.requires.worker c.requires.may c.worker.ensures c.requires.to (g.P.Post.stands c.args.post.now) (g.P.Post.stands c.push.new.self) c.in-Ok.ensures.ok c.in-Ok.ensures.others)
+    (follows_push sound c.requires.worker c.requires.may c.worker.ensures c.requires.to (g.P.Post.denotes c.args.post.now) (g.P.Post.denotes c.push.new.self) c.in-Ok.ensures.ok c.in-Ok.ensures.others)
 
 pub push-requires-in-Ok-clause-changes : goal.push-requires-in-Ok-clause-changes
 push-requires-in-Ok-clause-changes g c κs within = rw c.name-name.ensures c.requires.changes

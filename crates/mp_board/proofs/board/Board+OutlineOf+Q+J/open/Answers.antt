@@ -2,7 +2,7 @@ use Rattle.std.proofs.Common.{◌≡◌, ◌≤◌, ℕ, ap, arith, subst, ◌�
 use Rattle.std.specs.Prelude.{replicate}
 use Rattle.mp_names.specs.declared.controls.Shape.{Shape}
 use Rattle.mp_names.specs.Logs.{empty_log}
-use Rattle.mp_stamps.specs.declared.seen.TheConstants.{MAX_STAGES}
+use Rattle.mp_names.specs.Limits.{most_stages_seen}
 use Rattle.mp_model.specs.Facts.{JobFacts}
 use Rattle.mp_job.specs.Legal.{JobIsLegal}
 use Rattle.mp_outline.specs.JobOutline.{outline_of}
@@ -21,7 +21,7 @@ invariant_of-result g c =
     let legal = subst (λ (j : JobFacts). JobIsLegal (g.Q.Query.facts j.rules) j) c.requires c.shape-shape.ensures.legal in
     let has = laws.has_stages job.rules in
     let ok = outline_is_sound q has (laws.posts_are_later job.rules) (laws.later_stages_post_nothing job.rules) job legal in
-    let few : job.shape.stages ≤ MAX_STAGES = omega (arith, has.1, legal.stages) in
+    let few : job.shape.stages ≤ most_stages_seen = omega (arith, has.1, legal.stages) in
     empty_sound (outline_of q job) c.in_ok-posted.posted.items c.in_ok-seen.seen ok few
     (c.in_ok-posted.ensures.empty ∙ ap (λ (n : ℕ). replicate n empty_log) workers)
     c.in_ok-posted.ensures.contributions c.in_ok-seen.ensures.version

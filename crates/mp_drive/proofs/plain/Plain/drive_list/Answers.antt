@@ -1,7 +1,7 @@
 use Rattle.std.proofs.Common.{[], ◌∷◌, length, ◌∙◌, ap, subst, sym, arith, length-append}
 use Rattle.mp_outline.specs.JobOutline.{outline_of}
 use Rattle.mp_outline.proofs.Soundness.{outline_is_sound}
-use Rattle.mp_refinement.specs.Together.{Together}
+use Rattle.mp_refinement.specs.SystemState.{SystemState}
 use Rattle.mp_drive.specs.Driven.{HasWritten}
 use Rattle.mp_drive.specs.Kept.{together}
 use Rattle.mp_drive.proofs.Ended.{has_begun}
@@ -17,7 +17,7 @@ returns-in_default-clause-part g c = λ before has.
     let sound = outline_is_sound q (laws.has_stages job.rules) (laws.posts_are_later job.rules) (laws.later_stages_post_nothing job.rules) job kept.legal in
     let t = together c.self.inside.workers.items c.self.inside.board c.self.inside.post in
     let now = g.S.Sink.written c.args.sink.now in
-    has_begun q job sound t kept.reached before now (subst (λ (u : Together). HasWritten q job.events before u now) (sym c.self.view_is) has)
+    has_begun q job sound t kept.reached before now (subst (λ (u : SystemState). HasWritten q job.events before u now) (sym c.self.view_is) has)
 
 pub loop-worker-preserved : goal.loop-worker-preserved
 loop-worker-preserved g c =
@@ -32,7 +32,7 @@ loop-worker-preserved g c =
       many = omega (arith, ap length pushed.items, length-append turns (turn ∷ []), i.many);
       lead = one_more o c.args.self.now c.loop-worker.self c.step.new.self c.args.steps.now c.loop-worker.worker-index _ turns c.push_reserved.new.self.items turn c.loop-worker-test.true pushed.items i.lead next.turn;
       written = λ before has. next.written before (i.written before has);
-      beside = next.beside ∙ i.beside;
+      frame = next.frame ∙ i.frame;
       faults = omega (arith, i.faults, next.writes);
     }
 

@@ -9,6 +9,6 @@ invariant-loop-worker g l = let job = g.J.Naming.job in let q = g.Q.Query.facts 
   many : length l.turns.items ≡ l.worker-index;
   lead : LeadsOn (outline_of q job) (take l.worker-index l.steps) (map turn_in l.turns.items) l.initial.self l.self;
   written : (before : Option (List ℕ)) → HasWritten q job.events before l.initial.self (g.S.Sink.written l.initial.sink) → HasWritten q job.events before l.self (g.S.Sink.written l.sink);
-  beside : g.S.Sink.beside l.sink ≡ g.S.Sink.beside l.initial.sink;
+  frame : g.S.Sink.frame l.sink ≡ g.S.Sink.frame l.initial.sink;
   faults : g.S.Sink.faults l.initial.sink ≤ g.S.Sink.faults l.sink;
 }

@@ -19,7 +19,7 @@ loop-draws-init g c =
     record {
       by = begins_by_none o c.args.self.now;
       written = λ before had. had;
-      beside = refl;
+      frame = refl;
       writes = omega arith;
     }
 
@@ -28,8 +28,8 @@ returns-in_default-clause-part g c = λ before had.
     let begun = c.is_finished.ensures.begun in
     (begun.0, c.loop-draws.invariant.written before had ∙ ap (grown before) begun.1)
 
-pub returns-in_default-clause-beside : goal.returns-in_default-clause-beside
-returns-in_default-clause-beside g c = c.loop-draws.invariant.beside
+pub returns-in_default-clause-frame : goal.returns-in_default-clause-frame
+returns-in_default-clause-frame g c = c.loop-draws.invariant.frame
 
 pub returns-in_default-clause-writes : goal.returns-in_default-clause-writes
 returns-in_default-clause-writes g c = c.loop-draws.invariant.writes
@@ -68,8 +68,8 @@ returns-in_err-step_from-clause-failed g c = λ e.
     let here : c.in_err-step_from.field-0.0 ≡ Write = cc in
     rose_later _ _ _ c.loop-draws.invariant.writes (c.in_err-step_from.ensures.failed (ap Err here))
 
-pub returns-in_err-step_from-clause-beside : goal.returns-in_err-step_from-clause-beside
-returns-in_err-step_from-clause-beside g c = c.in_err-step_from.ensures.beside ∙ c.loop-draws.invariant.beside
+pub returns-in_err-step_from-clause-frame : goal.returns-in_err-step_from-clause-frame
+returns-in_err-step_from-clause-frame g c = c.in_err-step_from.ensures.frame ∙ c.loop-draws.invariant.frame
 
 pub returns-in_err-step_from-clause-writes : goal.returns-in_err-step_from-clause-writes
 returns-in_err-step_from-clause-writes g c =
@@ -86,7 +86,7 @@ loop-draws-preserved g c =
     record {
       by = subst (λ (n : ℕ). LeadsBy o n c.args.self.now c.step_from.new.self) (sym counted) (leads_by_one_more o c.loop-draws.made c.args.self.now c.loop-draws.self c.step_from.new.self c.loop-draws.invariant.by c.in_ok-step_from.ensures.made);
       written = λ before had. c.in_ok-step_from.ensures.written before (c.loop-draws.invariant.written before had);
-      beside = c.in_ok-step_from.ensures.beside ∙ c.loop-draws.invariant.beside;
+      frame = c.in_ok-step_from.ensures.frame ∙ c.loop-draws.invariant.frame;
       writes = omega arith;
     }
 
@@ -104,8 +104,8 @@ returns-clause-answer g c = λ before had.
     let whole = c.loop-draws-test.ensures.answer refl in
     c.loop-draws.invariant.written before had ∙ ap (grown before) whole
 
-pub returns-clause-beside : goal.returns-clause-beside
-returns-clause-beside g c = c.loop-draws.invariant.beside
+pub returns-clause-frame : goal.returns-clause-frame
+returns-clause-frame g c = c.loop-draws.invariant.frame
 
 pub returns-clause-writes : goal.returns-clause-writes
 returns-clause-writes g c = c.loop-draws.invariant.writes

@@ -10,7 +10,7 @@ invariant-loop-draws g l =
     record {
       by : LeadsBy (outline_of q g.J.Naming.job) l.made l.fn.self l.self;
       written : (before : Option (List ℕ)) → HasWritten q g.J.Naming.job.events before l.fn.self (g.S.Sink.written l.fn.sink) → HasWritten q g.J.Naming.job.events before l.self (g.S.Sink.written l.sink);
-      beside : g.S.Sink.beside l.sink ≡ g.S.Sink.beside l.fn.sink;
+      frame : g.S.Sink.frame l.sink ≡ g.S.Sink.frame l.fn.sink;
       writes : g.S.Sink.faults l.fn.sink ≤ g.S.Sink.faults l.sink;
     }
 

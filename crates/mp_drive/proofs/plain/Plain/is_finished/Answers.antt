@@ -3,7 +3,7 @@ use Rattle.std.proofs.lemmas.Iterator.{cases_from_all, YieldsList-from_slice}
 use Rattle.mp_names.specs.Outlines.{OutlineIsSound}
 use Rattle.mp_outline.specs.JobOutline.{outline_of}
 use Rattle.mp_outline.proofs.Soundness.{outline_is_sound}
-use Rattle.mp_refinement.specs.Together.{KnowsTheEnd, Together}
+use Rattle.mp_refinement.specs.SystemState.{KnowsTheEnd, SystemState}
 use Rattle.mp_drive.specs.Driven.{AllKnowTheEnd, AreReached}
 use Rattle.mp_drive.proofs.Ended.{all_written, lines_begin, told_by_all}
 use Rattle.mp_drive.proofs.plain.Plain.is_finished.Given as given
@@ -20,7 +20,7 @@ known g c =
     let o = outline_of (g.Q.Query.facts g.J.Naming.job.rules) g.J.Naming.job in
     let workers = c.self.inside.workers.items in
     let by_call = cases_from_all _ _ _ (KnowsTheEnd o) (λ s. KnowsTheEnd o s → ⊥) c.all.ensures.ran (YieldsList-from_slice workers cc) (λ x q k. search (rules, tests)) (λ x q k. search (rules, tests)) in
-    subst (λ (t : Together). IsTrue c.all.result ↔ AllKnowTheEnd o t) c.self.view_is (told_by_all (KnowsTheEnd o) c.all.result workers by_call)
+    subst (λ (t : SystemState). IsTrue c.all.result ↔ AllKnowTheEnd o t) c.self.view_is (told_by_all (KnowsTheEnd o) c.all.result workers by_call)
 
 pub returns-clause-known : goal.returns-clause-known
 returns-clause-known g c = known g c

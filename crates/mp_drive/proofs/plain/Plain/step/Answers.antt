@@ -4,7 +4,7 @@ use Rattle.mp_names.specs.Outlines.{OutlineIsSound}
 use Rattle.mp_job.specs.Legal.{JobIsLegal}
 use Rattle.mp_outline.specs.JobOutline.{outline_of}
 use Rattle.mp_outline.proofs.Soundness.{outline_is_sound}
-use Rattle.mp_refinement.specs.Together.{Together}
+use Rattle.mp_refinement.specs.SystemState.{SystemState}
 use Rattle.mp_drive.specs.Driven.{HasWritten}
 use Rattle.mp_drive.specs.Kept.{together}
 use Rattle.mp_drive.proofs.Turned.{Passes, Says, ends_are, leads_nowhere_on_err, leads_on_if_ok, number_fits, number_is, placed, posted_is, same_cause, still_reached}
@@ -109,8 +109,8 @@ returns-clause-turn g c =
     rw (← c.self.view_is)
     (leads_on_if_ok o (sound g c.self.invariant.legal) t c.args.worker c.args.kind c.index_mut-worker.result.now c.step.new.self c.step.new.hub c.step.new.post (was g c) c.step.result c.match-step.result (passes g c) (told g c))
 
-pub returns-clause-refused : goal.returns-clause-refused
-returns-clause-refused g c =
+pub returns-clause-unchanged : goal.returns-clause-unchanged
+returns-clause-unchanged g c =
     let o = outline_of (g.Q.Query.facts g.J.Naming.job.rules) g.J.Naming.job in
     let t = together c.self.inside.workers.items c.self.inside.board c.self.inside.post in
     rw (← c.self.view_is)
@@ -126,7 +126,7 @@ returns-clause-written g c = λ before has.
     let s = c.index_mut-worker.result.now in
     let ok = sound g kept.legal in
     let number = number_is o ok t kept.reached c.args.worker s (was g c) in
-    let here = subst (λ (u : Together). HasWritten q job.events before u (g.S.Sink.written c.args.sink.now)) (sym c.self.view_is) has in
+    let here = subst (λ (u : SystemState). HasWritten q job.events before u (g.S.Sink.written c.args.sink.now)) (sym c.self.view_is) has in
     written_on_ok q job ok t c.args.worker c.args.kind s c.step.new.self c.step.new.hub c.step.new.post (was g c) number (g.S.Sink.written c.args.sink.now) (g.S.Sink.written c.step.new.sink) before here c.self.inside.board c.self.inside.post c.step.result c.match-step.result (passes g c) (told g c) (writes g c)
 
 pub returns-clause-part : goal.returns-clause-part
@@ -139,5 +139,5 @@ returns-clause-part g c = λ before has.
     let s = c.index_mut-worker.result.now in
     let ok = sound g kept.legal in
     let number = number_is o ok t kept.reached c.args.worker s (was g c) in
-    let here = subst (λ (u : Together). HasWritten q job.events before u (g.S.Sink.written c.args.sink.now)) (sym c.self.view_is) has in
+    let here = subst (λ (u : SystemState). HasWritten q job.events before u (g.S.Sink.written c.args.sink.now)) (sym c.self.view_is) has in
     begun_on_err q job ok t c.args.worker c.args.kind s c.step.new.self c.step.new.hub c.step.new.post (was g c) number (g.S.Sink.written c.args.sink.now) (g.S.Sink.written c.step.new.sink) before here c.self.inside.post.depth kept.reached.0 kept.reached.1 c.step.result c.match-step.result (passes g c) (writes g c)

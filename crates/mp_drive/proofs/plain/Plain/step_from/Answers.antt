@@ -22,7 +22,7 @@ loop-tried-init g c =
       still = still_there o c.args.self.now;
       none = λ k l. absurd (omega arith);
       written = λ before had. had;
-      beside = refl;
+      frame = refl;
       writes = omega arith;
     }
 
@@ -53,8 +53,8 @@ returns-in_err-turn-clause-failed g c = λ e.
     let here : c.in_err-turn.field-0.0 ≡ Write = cc in
     rose_later _ _ _ c.loop-tried.invariant.writes (c.in_err-turn.ensures.failed (ap Err here))
 
-pub returns-in_err-turn-clause-beside : goal.returns-in_err-turn-clause-beside
-returns-in_err-turn-clause-beside g c = c.in_err-turn.ensures.beside ∙ c.loop-tried.invariant.beside
+pub returns-in_err-turn-clause-frame : goal.returns-in_err-turn-clause-frame
+returns-in_err-turn-clause-frame g c = c.in_err-turn.ensures.frame ∙ c.loop-tried.invariant.frame
 
 pub returns-in_err-turn-clause-writes : goal.returns-in_err-turn-clause-writes
 returns-in_err-turn-clause-writes g c =
@@ -75,8 +75,8 @@ returns-then-matches-clause-made g c =
 pub returns-then-matches-clause-written : goal.returns-then-matches-clause-written
 returns-then-matches-clause-written g c = λ before had. c.in_ok-turn.ensures.written before (c.loop-tried.invariant.written before had)
 
-pub returns-then-matches-clause-beside : goal.returns-then-matches-clause-beside
-returns-then-matches-clause-beside g c = c.in_ok-turn.ensures.beside ∙ c.loop-tried.invariant.beside
+pub returns-then-matches-clause-frame : goal.returns-then-matches-clause-frame
+returns-then-matches-clause-frame g c = c.in_ok-turn.ensures.frame ∙ c.loop-tried.invariant.frame
 
 pub returns-then-matches-clause-writes : goal.returns-then-matches-clause-writes
 returns-then-matches-clause-writes g c =
@@ -102,7 +102,7 @@ loop-tried-preserved g c =
             still = leads_further o [] [] [] [] c.args.self.now c.loop-tried.self c.step.new.self c.loop-tried.invariant.still (leads_nowhere o place c.loop-tried.self c.step.new.self lead);
             none = none_more o c.args.self.now c.args.start c.loop-tried.tried place c.loop-tried.self c.step.new.self c.loop-tried.invariant.none c.loop-tried.invariant.still is lead;
             written = λ before had. c.in_ok-turn.ensures.written before (c.loop-tried.invariant.written before had);
-            beside = c.in_ok-turn.ensures.beside ∙ c.loop-tried.invariant.beside;
+            frame = c.in_ok-turn.ensures.frame ∙ c.loop-tried.invariant.frame;
             writes = omega arith;
           }
     ]

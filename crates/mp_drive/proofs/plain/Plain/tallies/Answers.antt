@@ -2,7 +2,7 @@ use Rattle.std.proofs.Common.{[], ◌∷◌, ◌≡◌, ◌∙◌, ℕ, List, ap
 use Rattle.mp_outline.specs.JobOutline.{outline_of}
 use Rattle.mp_outline.proofs.Soundness.{outline_is_sound}
 use Rattle.mp_refinement.specs.State.{WorkerState}
-use Rattle.mp_refinement.specs.Together.{Together}
+use Rattle.mp_refinement.specs.SystemState.{SystemState}
 use Rattle.mp_drive.specs.Driven.{AreReached}
 use Rattle.mp_drive.proofs.Counted.{one_more_tells, tallied_at_the_end}
 use Rattle.mp_drive.proofs.plain.Plain.tallies.Goals as goal
@@ -17,7 +17,7 @@ loop-worker-preserved g c =
     let worker = c.worker-item.result in
     let tally = c.in_ok-tally.field-0 in
     let pushed = c.push_reserved.ensures in
-    let same = c.deref-worker-items.ensures.value ∙ ap (λ (t : Together). t.workers) c.self.view_is in
+    let same = c.deref-worker-items.ensures.value ∙ ap (λ (t : SystemState). t.workers) c.self.view_is in
     let at = subst (λ (n : ℕ). worker ≡ get_or workers n worker) (sym i.many) (subst (λ (xs : List WorkerState). worker ≡ get_or xs c.loop-worker.worker-index worker) same c.worker-item.is) in
     let told = c.in_ok-tally.ensures in
     record {
@@ -30,7 +30,7 @@ loop-worker-preserved g c =
 pub returns-clause-all : goal.returns-clause-all
 returns-clause-all g c =
     let o = outline_of (g.Q.Query.facts g.J.Naming.job.rules) g.J.Naming.job in
-    let same = ap length (c.deref-worker-items.ensures.value ∙ ap (λ (t : Together). t.workers) c.self.view_is) in
+    let same = ap length (c.deref-worker-items.ensures.value ∙ ap (λ (t : SystemState). t.workers) c.self.view_is) in
     let reached = subst (AreReached o) c.self.view_is c.self.invariant.reached in
     omega (arith, same, c.loop-worker.invariant.many, c.loop-worker-test.false, c.loop-worker.auto.worker-index-end, reached.1.all_workers)
 

@@ -7,7 +7,7 @@ pub invariant_of-self : goal.invariant_of-self
 invariant_of-self g c =
     let h = c.self.invariant in
     let is = rw (← c.self.view_is) at c.requires in
-    either_way c.insert.result _ _ _ c.insert.ensures.put c.insert.ensures.refused
+    either_way c.insert.result _ _ _ c.insert.ensures.put c.insert.ensures.unchanged
     (λ put. received_still _ _ _ _ c.args.rec _ _ _ h is put)
     (λ same. rw same h)
 

@@ -14,7 +14,7 @@ pub returns-clause-edge : goal.returns-clause-edge
 returns-clause-edge g c =
     let near : c.place-at.result < length c.self.inside.queues.items = omega (arith, c.self.invariant.square, c.place-at.ensures.inside) in
     IfSome_then c.pop_oldest.result c.pop_oldest.ensures.some
-    (λ m leaves. pops_edge (λ q. q.items) c.self.inside.workers c.self.inside.depth g.M.Named.names g.M.Named.from g.M.Named.to c.self.inside.queues.items c.args.from c.args.to c.place-at.result c.index_mut.result.now c.pop_oldest.new.queue m c.place-at.ensures.place near c.index_mut.ensures.value leaves (rw (← c.self.view_is) at c.requires.stands))
+    (λ m leaves. pops_edge (λ q. q.items) c.self.inside.workers c.self.inside.depth g.M.Named.names g.M.Named.from g.M.Named.to c.self.inside.queues.items c.args.from c.args.to c.place-at.result c.index_mut.result.now c.pop_oldest.new.queue m c.place-at.ensures.place near c.index_mut.ensures.value leaves (rw (← c.self.view_is) at c.requires.denotes))
 
 pub returns-clause-once : goal.returns-clause-once
 returns-clause-once g c =

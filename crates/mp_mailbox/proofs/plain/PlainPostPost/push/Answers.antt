@@ -10,8 +10,8 @@ returns-clause-ok g c =
     (λ grown. pushes (λ q. q.items) c.self.inside.workers c.self.inside.depth g.M.Named.names g.M.Named.from g.M.Named.to c.self.inside.queues.items c.args.from c.args.to c.place-at.result c.index_mut.result.now c.push_below.new.queue c.args.message c.place-at.ensures.place near c.index_mut.ensures.value grown.1 c.requires.edge)
     c.push_below.ensures.ok)
 
-pub returns-clause-err : goal.returns-clause-err
-returns-clause-err g c =
+pub returns-clause-unchanged : goal.returns-clause-unchanged
+returns-clause-unchanged g c =
     let near : c.place-at.result < length c.self.inside.queues.items = omega (arith, c.self.invariant.square, c.place-at.ensures.inside) in
     rw (← c.self.view_is) (on_err_weaker c.push_below.result
     (λ full. kept (λ q. q.items) c.self.inside.workers c.self.inside.depth g.M.Named.names g.M.Named.from g.M.Named.to c.self.inside.queues.items c.args.from c.args.to c.place-at.result c.index_mut.result.now c.push_below.new.queue c.place-at.ensures.place near c.index_mut.ensures.value full.1)

@@ -11,7 +11,7 @@ pub invariant_of-self : goal.invariant_of-self
 invariant_of-self g c =
     let row : Output = record { time = c.args.time; tag = c.args.tag; value = Row c.args.fields } in
     let rows = answer_rows (g.Q.Query.facts g.J.Naming.job.rules) g.J.Naming.job.events in
-    all_received (Contains rows) row c.self.inside.rows.items c.insert.new.self.items c.insert.result c.insert.ensures.put (on_err_weaker c.insert.result (λ e. ap (λ (o : InOrder Output). o.items) e) c.insert.ensures.refused) c.requires c.self.invariant
+    all_received (Contains rows) row c.self.inside.rows.items c.insert.new.self.items c.insert.result c.insert.ensures.put (on_err_weaker c.insert.result (λ e. ap (λ (o : InOrder Output). o.items) e) c.insert.ensures.unchanged) c.requires c.self.invariant
 
 pub returns-clause-held : goal.returns-clause-held
 returns-clause-held g c =

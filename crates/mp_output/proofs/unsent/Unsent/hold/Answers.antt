@@ -9,4 +9,4 @@ use Rattle.mp_output.proofs.unsent.Unsent.hold.Goals as goal
 pub invariant_of-self : goal.invariant_of-self
 invariant_of-self g c =
     let rows = answer_rows (g.Q.Query.facts g.J.Naming.job.rules) g.J.Naming.job.events in
-    all_received (Contains rows) c.args.row c.self.inside.rows.items c.insert.new.self.items c.insert.result c.insert.ensures.put (on_err_weaker c.insert.result (λ e. ap (λ (o : InOrder Output). o.items) e) c.insert.ensures.refused) c.requires c.self.invariant
+    all_received (Contains rows) c.args.row c.self.inside.rows.items c.insert.new.self.items c.insert.result c.insert.ensures.put (on_err_weaker c.insert.result (λ e. ap (λ (o : InOrder Output). o.items) e) c.insert.ensures.unchanged) c.requires c.self.invariant

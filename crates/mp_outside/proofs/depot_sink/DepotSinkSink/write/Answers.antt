@@ -4,11 +4,11 @@ use Rattle.mp_outside.proofs.depot_sink.DepotSinkSink.write.Goals as goal
 
 pub invariant_of-self : goal.invariant_of-self
 invariant_of-self g c = record {
-  there = there_after c.append.result _ _ _ c.args.piece.now c.args.self.now.there c.append.ensures.appended c.append.ensures.kept;
+  there = there_after c.append.result _ _ _ c.args.piece.now c.args.self.now.there c.append.ensures.appended c.append.ensures.unchanged;
 }
 
 pub returns-clause-grew : goal.returns-clause-grew
 returns-clause-grew g c = rw c.in_ok-taken.ensures.appended (file_at-with_more _ _ _)
 
-pub returns-clause-beside : goal.returns-clause-beside
-returns-clause-beside g c = rw (c.in_ok-taken.ensures.appended, without-with_more, c.in_ok-taken.ensures.reads) refl
+pub returns-clause-frame : goal.returns-clause-frame
+returns-clause-frame g c = rw (c.in_ok-taken.ensures.appended, without-with_more, c.in_ok-taken.ensures.reads) refl

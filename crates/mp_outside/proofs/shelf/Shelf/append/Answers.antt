@@ -5,8 +5,8 @@ use Rattle.std.proofs.lemmas.Result.{err_from_is_err_and}
 use Rattle.mp_outside.proofs.ShelfLemmas.{held-grow, held-same, none-held}
 use Rattle.mp_outside.proofs.shelf.Shelf.append.Goals as goal
 
-pub returns-in_err-extend_from_slice-clause-err : goal.returns-in_err-extend_from_slice-clause-err
-returns-in_err-extend_from_slice-clause-err c =
+pub returns-in_err-extend_from_slice-clause-unchanged : goal.returns-in_err-extend_from_slice-clause-unchanged
+returns-in_err-extend_from_slice-clause-unchanged c =
     let left = c.extend_from_slice.new.self in
     let was : get_by_text c.args.self.now.files c.args.name.now ≡ Some c.in-Some.bytes.now = sym c.in-Some.ensures.value in
     let sets = (c.get_mut.follows.holds left).3 (search rules) in

@@ -9,10 +9,10 @@ pub loop-time-preserved : goal.loop-time-preserved
 loop-time-preserved c = one_added c.args.times.now c.args.key c.loop-time.time-index c.args.self.now c.loop-time.self c.add.new.self c.loop-time-test.true c.loop-time.invariant c.in_ok-add.ensures.ascending c.in_ok-add.ensures.exact
 
 pub returns-in_err-add-clause-kept : goal.returns-in_err-add-clause-kept
-returns-in_err-add-clause-kept c = rw c.in_err-add.ensures.refused (old_kept c.args.times.now c.args.key c.loop-time.time-index c.args.self.now c.loop-time.self c.loop-time.invariant)
+returns-in_err-add-clause-kept c = rw c.in_err-add.ensures.unchanged (old_kept c.args.times.now c.args.key c.loop-time.time-index c.args.self.now c.loop-time.self c.loop-time.invariant)
 
 pub returns-in_err-add-clause-added : goal.returns-in_err-add-clause-added
-returns-in_err-add-clause-added c = rw c.in_err-add.ensures.refused (some_added c.args.times.now c.args.key c.loop-time.time-index c.args.self.now c.loop-time.self c.loop-time.invariant)
+returns-in_err-add-clause-added c = rw c.in_err-add.ensures.unchanged (some_added c.args.times.now c.args.key c.loop-time.time-index c.args.self.now c.loop-time.self c.loop-time.invariant)
 
 pub returns-clause-exact : goal.returns-clause-exact
 returns-clause-exact c = all_added c.args.times.now c.args.key c.loop-time.time-index c.args.self.now c.loop-time.self c.loop-time-test.false c.loop-time.invariant

@@ -7,7 +7,7 @@ pub invariant_of-self : goal.invariant_of-self
 invariant_of-self g c =
     let job = g.J.Naming.job in
     let s = c.self.inside in
-    (c.self.invariant.0, all_held (IsRecordOf (g.Q.Query.facts job.rules) job s.stage) c.args.rec s.held c.insert.new.self c.insert.result (rw (← c.self.view_is) at c.requires) c.self.invariant.1 c.insert.ensures.put c.insert.ensures.refused)
+    (c.self.invariant.0, all_held (IsRecordOf (g.Q.Query.facts job.rules) job s.stage) c.args.rec s.held c.insert.new.self c.insert.result (rw (← c.self.view_is) at c.requires) c.self.invariant.1 c.insert.ensures.put c.insert.ensures.unchanged)
 
 pub returns-clause-unsent : goal.returns-clause-unsent
 returns-clause-unsent g c =

@@ -16,7 +16,7 @@ pub invariant_of-self : goal.invariant_of-self
 invariant_of-self g c =
     let post = c.self.inside in
     let here = slice_get_read post.senders.items _ c.args.to c.index_mut.result.now refl (rw (← c.self.view_is) at c.requires.workers.1) c.index_mut.ensures.value in
-    by_result c.push.result c.push.ensures.ok c.push.ensures.err
+    by_result c.push.result c.push.ensures.ok c.push.ensures.unchanged
     (λ is. sender_set post.worker post.senders.items post.receivers.items c.self.invariant c.args.to c.index_mut.result.now c.push.new.self here (ap (λ e. e.from) is) (ap (λ e. e.to) is))
     (λ is. sender_set post.worker post.senders.items post.receivers.items c.self.invariant c.args.to c.index_mut.result.now c.push.new.self here (ap (λ e. e.from) is) (ap (λ e. e.to) is))
 
@@ -41,14 +41,14 @@ returns-clause-ok g c =
     (λ is. sends g.M.Named.names post.worker post.senders.items post.receivers.items c.args._from c.args.to c.index_mut.result.now c.push.new.self c.args.message mine here is)
     c.push.ensures.ok)
 
-pub returns-clause-err : goal.returns-clause-err
-returns-clause-err g c =
+pub returns-clause-unchanged : goal.returns-clause-unchanged
+returns-clause-unchanged g c =
     let post = c.self.inside in
     let mine = c.requires.serves ∙ sym (ap (λ p. p.worker) c.self.view_is) in
     let here = slice_get_read post.senders.items _ c.args.to c.index_mut.result.now refl (rw (← c.self.view_is) at c.requires.workers.1) c.index_mut.ensures.value in
     rw (← c.self.view_is) (on_err_weaker c.push.result
     (λ is. sender_kept g.M.Named.names post.worker post.senders.items post.receivers.items c.args._from c.args.to c.index_mut.result.now c.push.new.self mine here is)
-    c.push.ensures.err)
+    c.push.ensures.unchanged)
 
 pub returns-clause-others : goal.returns-clause-others
 returns-clause-others g c =

@@ -105,7 +105,7 @@ invariant_of-self-in_err-applied g c =
     let routers = c.make_room_onward.new.routers in
     let same : map content routers ≡ map content i.routers.items = c.make_room_onward.ensures.held ∙ ap (map content) c.deref_mut.ensures.value in
     let length_is : i.routers.len ≡ length i.routers.items = i.routers.ok.0 in
-    kept_so_far q keeps job i.job.now f c.self.invariant c.args.stage c.requires.stage h is i.routers.len length_is c.room_in_log.new.log routers c.apply.new.self c.make_room_onward.new.unsent c.room_in_log.ensures.log c.room_in_log.ensures.worker same c.in_err-applied.ensures.refused c.make_room_onward.ensures.rows
+    kept_so_far q keeps job i.job.now f c.self.invariant c.args.stage c.requires.stage h is i.routers.len length_is c.room_in_log.new.log routers c.apply.new.self c.make_room_onward.new.unsent c.room_in_log.ensures.log c.room_in_log.ensures.worker same c.in_err-applied.ensures.unchanged c.make_room_onward.ensures.rows
 
 pub invariant_of-self-in_default : goal.invariant_of-self-in_default
 invariant_of-self-in_default g c =
@@ -121,7 +121,7 @@ invariant_of-self-in_default g c =
     let routers = c.make_room_onward.new.routers in
     let same : map content routers ≡ map content i.routers.items = c.make_room_onward.ensures.held ∙ ap (map content) c.deref_mut.ensures.value in
     let length_is : i.routers.len ≡ length i.routers.items = i.routers.ok.0 in
-    kept_so_far q keeps job i.job.now f c.self.invariant c.args.stage c.requires.stage h is i.routers.len length_is c.room_in_log.new.log routers c.apply.new.self c.make_room_onward.new.unsent c.room_in_log.ensures.log c.room_in_log.ensures.worker same (rw c.in_default.is at c.in_ok-applied.ensures.unchanged) c.make_room_onward.ensures.rows
+    kept_so_far q keeps job i.job.now f c.self.invariant c.args.stage c.requires.stage h is i.routers.len length_is c.room_in_log.new.log routers c.apply.new.self c.make_room_onward.new.unsent c.room_in_log.ensures.log c.room_in_log.ensures.worker same (rw c.in_default.is at c.in_ok-applied.ensures.idle) c.make_room_onward.ensures.rows
 
 pub push-requires-clause-changes : goal.push-requires-clause-changes
 push-requires-clause-changes g c = λ κs within.

@@ -2,7 +2,7 @@ use Rattle.std.proofs.Common.{◌∙◌, ℕ, ap, refl, sym, subst}
 use Rattle.mp_names.specs.declared.kinds.Kind.TheVariants.{Extract}
 use Rattle.mp_names.specs.declared.names.Name.TheVariants.{Packet}
 use Rattle.mp_names.specs.Logs.{LogIsLegal}
-use Rattle.mp_handoff.specs.Moving.{Moving}
+use Rattle.mp_handoff.specs.MoversState.{MoversState}
 use Rattle.mp_msg.specs.States.{IsStateBefore}
 use Rattle.mp_outline.specs.JobOutline.{outline_of}
 use Rattle.mp_outline.proofs.Soundness.{outline_is_sound}
@@ -118,11 +118,11 @@ send-requires-clause-changes g c κs within =
     let bin = taken_of_bin moved.bin moved.time one h c.take_bin.new.self taken in
     let told = c.in_ok-numbers.ensures.told one c.take_bin.new.self taken in
     rw (c.in_ok-make_room.ensures.made, c.packet-packet.ensures, bin, c.as_slice-2.ensures.value, c.in_ok-changes.ensures, c.as_slice.ensures.value)
-    (packet_changes q job i.log.worker i.log.log j h host moved.bin moved.time may sound kept.parts.legal c.requires.stage one c.take_bin.new.self c.in_ok-numbers.numbers.items c.in_ok-numbers.ensures.stands taken left.1 told)
+    (packet_changes q job i.log.worker i.log.log j h host moved.bin moved.time may sound kept.parts.legal c.requires.stage one c.take_bin.new.self c.in_ok-numbers.numbers.items c.in_ok-numbers.ensures.denotes taken left.1 told)
 
 pub send-requires-clause-ends : goal.send-requires-clause-ends
 send-requires-clause-ends g c κs within =
-    rw c.in_ok-make_room.ensures.made (ends_asked c.self.invariant refl c.args.self.now c.self.view_is (g.P.Post.stands c.args.post.now) c.requires.ends)
+    rw c.in_ok-make_room.ensures.made (ends_asked c.self.invariant refl c.args.self.now c.self.view_is (g.P.Post.denotes c.args.post.now) c.requires.ends)
 
 pub sent-requires-clause-keys : goal.sent-requires-clause-keys
 sent-requires-clause-keys g c κs within =
@@ -142,7 +142,7 @@ sent-requires-clause-keys g c κs within =
     let its_log = subst (λ (w : ℕ). LogIsLegal (outline_of q job) w i.log.log) (sym host.1) kept.parts.legal in
     let one = c.in-Some-take_bin.field-0 in
     let left = c.in-Some-take_bin.ensures.held i.log.log host.2 its_log may in
-    let here = ap (λ (n : Moving). n.stage) c.make_room_for_sent.ensures.same ∙ movers.0 in
+    let here = ap (λ (n : MoversState). n.stage) c.make_room_for_sent.ensures.same ∙ movers.0 in
     (one.state, subst (λ (k : ℕ). IsStateBefore q job k moved.bin moved.time one.state) (host.0 ∙ sym here) left.1, c.count_of_keys-keys.ensures)
 
 pub invariant_of-self-in-Ok : goal.invariant_of-self-in-Ok
@@ -171,7 +171,7 @@ invariant_of-self-in-Ok g c =
     let made = c.make_room_for_sent in
     let roomy = with_room q job i.log.worker i.log.log j m made.new.self movers made.ensures.same made.ensures.held in
     let same = c.sent.ensures.same in
-    let told = movers_sent kept refl sound j c.requires.stage m movers moved.bin moved.time c.in-Some.ensures.may_leave made.new.self c.sent.new.self roomy (ap (λ (n : Moving). n.stage) same) (ap (λ (n : Moving). n.worker) same) c.sent.ensures.held in
+    let told = movers_sent kept refl sound j c.requires.stage m movers moved.bin moved.time c.in-Some.ensures.may_leave made.new.self c.sent.new.self roomy (ap (λ (n : MoversState). n.stage) same) (ap (λ (n : MoversState). n.worker) same) c.sent.ensures.held in
     packet_kept kept refl sound j c.requires.stage m movers moved.bin moved.time c.in-Some.ensures.may_leave c.take_bin.new.self c.sent.new.self without told c.send.new.log worker sent
 
 pub returns-in-Ok-clause-did : goal.returns-in-Ok-clause-did
@@ -211,7 +211,7 @@ returns-in-Ok-clause-mail g c =
 pub returns-in-Ok-clause-ends : goal.returns-in-Ok-clause-ends
 returns-in-Ok-clause-ends g c =
     let ends = rw c.in_ok-make_room.ensures.made at c.in-Ok.ensures.ends in
-    ends_told c.self.invariant refl c.args.self.now c.self.view_is (g.P.Post.stands c.args.post.now) (g.P.Post.stands c.send.new.post) c.send.new.log.log ends
+    ends_told c.self.invariant refl c.args.self.now c.self.view_is (g.P.Post.denotes c.args.post.now) (g.P.Post.denotes c.send.new.post) c.send.new.log.log ends
 
 pub put_back-requires-clause-fits : goal.put_back-requires-clause-fits
 put_back-requires-clause-fits g c κs within =
@@ -264,7 +264,7 @@ invariant_of-self-2 g c =
     let named = back.ensures.name ∙ c.in-Err.ensures.back ∙ c.packet-packet.ensures in
     let same = bin_back one back.state (state_back q job back.stage j back.bin one.bin back.time moved.time back.state one.state back.ensures.content content named) in
     let worker = rw c.in_ok-make_room.ensures.made at c.in-Err.ensures.worker in
-    let unsent = rw c.in_ok-make_room.ensures.made at c.in-Err.ensures.unsent in
+    let unsent = rw c.in_ok-make_room.ensures.made at c.in-Err.ensures.unchanged in
     let again = host_back q job i.log.worker i.log.log j moved.bin moved.time one _ h c.take_bin.new.self c.put_back.new.self host taken same c.put_back.ensures.put c.put_back.ensures.held in
     let made = c.make_room_for_sent in
     let roomy = with_room q job i.log.worker i.log.log j m made.new.self movers made.ensures.same made.ensures.held in
@@ -291,4 +291,4 @@ returns-clause-none g c =
 pub returns-clause-ends : goal.returns-clause-ends
 returns-clause-ends g c =
     let ends = rw c.in_ok-make_room.ensures.made at c.in-Err.ensures.ends in
-    ends_told c.self.invariant refl c.args.self.now c.self.view_is (g.P.Post.stands c.args.post.now) (g.P.Post.stands c.send.new.post) c.send.new.log.log ends
+    ends_told c.self.invariant refl c.args.self.now c.self.view_is (g.P.Post.denotes c.args.post.now) (g.P.Post.denotes c.send.new.post) c.send.new.log.log ends

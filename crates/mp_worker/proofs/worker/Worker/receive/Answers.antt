@@ -9,7 +9,7 @@ use Rattle.mp_names.proofs.Owners.{move_in_shape}
 use Rattle.mp_outline.specs.JobOutline.{outline_of}
 use Rattle.mp_outline.proofs.Soundness.{outline_is_sound}
 use Rattle.mp_host_laws.specs.Hosted.{Hosted}
-use Rattle.mp_handoff.specs.Moving.{Moving}
+use Rattle.mp_handoff.specs.MoversState.{MoversState}
 use Rattle.mp_worker_invariant.proofs.Asked.{row_not_written}
 use Rattle.mp_refinement.specs.State.{WorkerState}
 use Rattle.mp_worker.specs.Rooms.{roomless, without_room}
@@ -58,15 +58,15 @@ invariant_of-self-in_err-make_room_in_movers g c =
     let kept = movers_roomy q job i.job.now i.number i.seen (i.next.0, i.next.1) i.routers.items i.unsent made.new.log made.new.owners _ i.movers.items c.deref_mut-2.result.now c.make_room_in_movers.new.movers made.new.rows i.movers.len hosts c.deref_mut-2.ensures.value c.deref_mut-2.ensures.len c.make_room_in_movers.ensures.same in
     kept
 
-pub pop-requires-clause-stands : goal.pop-requires-clause-stands
-pop-requires-clause-stands g c =
+pub pop-requires-clause-denotes : goal.pop-requires-clause-denotes
+pop-requires-clause-denotes g c =
     let job = g.J.Naming.job in
     let q = g.Q.Query.facts job.rules in
     let o = outline_of q job in
     let i = c.self.inside in
     let in_here = subst (λ (w : ℕ). w < job.shape.workers) c.self.invariant.number c.self.invariant.parts.worker in
     let ends = rw (← c.self.view_is) at c.requires.ends in
-    stands_here o i.number i.log.log (g.P.Post.stands c.args.post.now) c.args.from ends c.requires.from in_here
+    stands_here o i.number i.log.log (g.P.Post.denotes c.args.post.now) c.args.from ends c.requires.from in_here
 
 pub invariant_of-self-in_default : goal.invariant_of-self-in_default
 invariant_of-self-in_default g c =
@@ -88,7 +88,7 @@ returns-in_default-clause-ends g c =
     let i = c.self.inside in
     let made = c.make_room_to_take in
     rw (← c.self.view_is, made.ensures.same_log.1)
-    (follows_nothing o i.number i.log.log (g.P.Post.stands c.args.post.now) (g.P.Post.stands c.pop.new.self) c.args.from c.in_default.ensures.none c.in_default.ensures.others)
+    (follows_nothing o i.number i.log.log (g.P.Post.denotes c.args.post.now) (g.P.Post.denotes c.pop.new.self) c.args.from c.in_default.ensures.none c.in_default.ensures.others)
 
 pub take_control-requires-clause-fresh : goal.take_control-requires-clause-fresh
 take_control-requires-clause-fresh g c κs within =
@@ -100,7 +100,7 @@ take_control-requires-clause-fresh g c κs within =
     let here : i.number ≡ made.new.log.worker = sym (made.ensures.same_log.0 ∙ c.self.invariant.number) in
     let in_here = subst (λ (w : ℕ). w < job.shape.workers) c.self.invariant.number c.self.invariant.parts.worker in
     let ends = rw (← c.self.view_is) at c.requires.ends in
-    let fresh : has made.new.log.log.took c.in-Some.message ≡ false = rw made.ensures.same_log.1 (not_taken o i.number i.log.log c.args.from c.in-Some.message c.in-Some.ensures.edge.0 (g.P.Post.stands c.args.post.now) ends c.in-Some.ensures.once c.requires.from in_here) in
+    let fresh : has made.new.log.log.took c.in-Some.message ≡ false = rw made.ensures.same_log.1 (not_taken o i.number i.log.log c.args.from c.in-Some.message c.in-Some.ensures.edge.0 (g.P.Post.denotes c.args.post.now) ends c.in-Some.ensures.once c.requires.from in_here) in
     let named = control_here q job c.in-Ctrl.index c.in-Ctrl.to made.new.log.worker c.in-Some.message c.in-Ctrl.ensures.name (c.in-Some.ensures.edge.1 ∙ here) in
     rw named fresh
 
@@ -136,7 +136,7 @@ take_control-requires-clause-room g c κs within =
     let stage = subst (λ (d : Control). d.stage < job.shape.stages) (sym content.2) (control_within q job c.self.invariant.legal c.in-Ctrl.index content.0).2 in
     let inside = subst (λ (n : ℕ). c.in-Ctrl.control.stage < n) (sym kept.parts.all_movers) stage in
     let ok = c.in_ok-make_room_to_take.ensures in
-    let room = each_written roomless (λ (m : Moving). 1 ≤ m.room) i.movers.items c.deref_mut-2.result.now c.make_room_in_movers.new.movers i.movers.len c.deref_mut-2.ensures.len c.make_room_in_movers.ensures.same c.in_ok-make_room_in_movers.ensures.room c.in-Ctrl.control.stage c.index_mut-movers.result.now inside c.index_mut-movers.ensures.value in
+    let room = each_written roomless (λ (m : MoversState). 1 ≤ m.room) i.movers.items c.deref_mut-2.result.now c.make_room_in_movers.new.movers i.movers.len c.deref_mut-2.ensures.len c.make_room_in_movers.ensures.same c.in_ok-make_room_in_movers.ensures.room c.in-Ctrl.control.stage c.index_mut-movers.result.now inside c.index_mut-movers.ensures.value in
     let changes = ok.log.1 in
     (ok.log.0, omega (arith, changes), ok.owners, room)
 
@@ -155,7 +155,7 @@ invariant_of-self-in-Continue-branch-5 g c =
     let here : i.number ≡ made.new.log.worker = sym (made.ensures.same_log.0 ∙ c.self.invariant.number) in
     let in_here = subst (λ (w : ℕ). w < job.shape.workers) c.self.invariant.number c.self.invariant.parts.worker in
     let ends = rw (← c.self.view_is) at c.requires.ends in
-    let fresh : has made.new.log.log.took c.in-Some.message ≡ false = rw made.ensures.same_log.1 (not_taken o i.number i.log.log c.args.from c.in-Some.message c.in-Some.ensures.edge.0 (g.P.Post.stands c.args.post.now) ends c.in-Some.ensures.once c.requires.from in_here) in
+    let fresh : has made.new.log.log.took c.in-Some.message ≡ false = rw made.ensures.same_log.1 (not_taken o i.number i.log.log c.args.from c.in-Some.message c.in-Some.ensures.edge.0 (g.P.Post.denotes c.args.post.now) ends c.in-Some.ensures.once c.requires.from in_here) in
     let named = control_here q job c.in-Ctrl.index c.in-Ctrl.to made.new.log.worker c.in-Some.message c.in-Ctrl.ensures.name (c.in-Some.ensures.edge.1 ∙ here) in
     let x = Ctrl c.in-Ctrl.index made.new.log.worker in
     let owed : IsOwedTo o made.new.log.worker x = subst (λ (y : Name). IsOwedTo o made.new.log.worker y) (sym named) (control_owed q job made.new.log.worker c.in-Some.message (c.in-Some.ensures.edge.1 ∙ here) c.in-Ctrl.index c.in-Ctrl.to c.in-Ctrl.control c.in-Ctrl.ensures.content c.in-Ctrl.ensures.name) in
@@ -172,7 +172,7 @@ take_record-requires-clause-owed g c κs within =
     let here : i.number ≡ made.new.log.worker = sym (made.ensures.same_log.0 ∙ c.self.invariant.number) in
     let in_here = subst (λ (w : ℕ). w < job.shape.workers) c.self.invariant.number c.self.invariant.parts.worker in
     let ends = rw (← c.self.view_is) at c.requires.ends in
-    let fresh : has made.new.log.log.took c.in-Some.message ≡ false = rw made.ensures.same_log.1 (not_taken o i.number i.log.log c.args.from c.in-Some.message c.in-Some.ensures.edge.0 (g.P.Post.stands c.args.post.now) ends c.in-Some.ensures.once c.requires.from in_here) in
+    let fresh : has made.new.log.log.took c.in-Some.message ≡ false = rw made.ensures.same_log.1 (not_taken o i.number i.log.log c.args.from c.in-Some.message c.in-Some.ensures.edge.0 (g.P.Post.denotes c.args.post.now) ends c.in-Some.ensures.once c.requires.from in_here) in
     rw c.name-name.ensures (record_owed q job made.new.log.worker c.in-Some.message (c.in-Some.ensures.edge.1 ∙ here) c.in-Rec.stage c.in-Rec.rec c.in-Rec.ensures.content c.in-Rec.ensures.name)
 
 pub take_record-requires-clause-fresh : goal.take_record-requires-clause-fresh
@@ -185,7 +185,7 @@ take_record-requires-clause-fresh g c κs within =
     let here : i.number ≡ made.new.log.worker = sym (made.ensures.same_log.0 ∙ c.self.invariant.number) in
     let in_here = subst (λ (w : ℕ). w < job.shape.workers) c.self.invariant.number c.self.invariant.parts.worker in
     let ends = rw (← c.self.view_is) at c.requires.ends in
-    let fresh : has made.new.log.log.took c.in-Some.message ≡ false = rw made.ensures.same_log.1 (not_taken o i.number i.log.log c.args.from c.in-Some.message c.in-Some.ensures.edge.0 (g.P.Post.stands c.args.post.now) ends c.in-Some.ensures.once c.requires.from in_here) in
+    let fresh : has made.new.log.log.took c.in-Some.message ≡ false = rw made.ensures.same_log.1 (not_taken o i.number i.log.log c.args.from c.in-Some.message c.in-Some.ensures.edge.0 (g.P.Post.denotes c.args.post.now) ends c.in-Some.ensures.once c.requires.from in_here) in
     rw c.name-name.ensures fresh
 
 pub take_record-requires-clause-legal : goal.take_record-requires-clause-legal
@@ -247,7 +247,7 @@ invariant_of-self-in-Continue-branch-6 g c =
     let here : i.number ≡ made.new.log.worker = sym (made.ensures.same_log.0 ∙ c.self.invariant.number) in
     let in_here = subst (λ (w : ℕ). w < job.shape.workers) c.self.invariant.number c.self.invariant.parts.worker in
     let ends = rw (← c.self.view_is) at c.requires.ends in
-    let fresh : has made.new.log.log.took c.in-Some.message ≡ false = rw made.ensures.same_log.1 (not_taken o i.number i.log.log c.args.from c.in-Some.message c.in-Some.ensures.edge.0 (g.P.Post.stands c.args.post.now) ends c.in-Some.ensures.once c.requires.from in_here) in
+    let fresh : has made.new.log.log.took c.in-Some.message ≡ false = rw made.ensures.same_log.1 (not_taken o i.number i.log.log c.args.from c.in-Some.message c.in-Some.ensures.edge.0 (g.P.Post.denotes c.args.post.now) ends c.in-Some.ensures.once c.requires.from in_here) in
     let owed : IsOwedTo o made.new.log.worker c.name-name.result = rw c.name-name.ensures (record_owed q job made.new.log.worker c.in-Some.message (c.in-Some.ensures.edge.1 ∙ here) c.in-Rec.stage c.in-Rec.rec c.in-Rec.ensures.content c.in-Rec.ensures.name) in
     let new_here : has made.new.log.log.took c.name-name.result ≡ false = rw c.name-name.ensures fresh in
     record_taken q job i.job.now i.number i.seen (i.next.0, i.next.1) i.routers.items i.unsent sound made.new.log c.take_record.new.log made.new.owners _ _ made.new.rows kept c.name-name.result owed new_here c.take_record.ensures.log c.in-Rec.stage c.in-Rec.rec.time c.in-Rec.rec.key c.in-Rec.rec.tag (c.name-name.ensures ∙ sym c.in-Rec.ensures.name) c.take_record.new.host c.take_record.ensures.host
@@ -272,7 +272,7 @@ take_packet-requires-clause-fresh g c κs within =
     let here : i.number ≡ made.new.log.worker = sym (made.ensures.same_log.0 ∙ c.self.invariant.number) in
     let in_here = subst (λ (w : ℕ). w < job.shape.workers) c.self.invariant.number c.self.invariant.parts.worker in
     let ends = rw (← c.self.view_is) at c.requires.ends in
-    let fresh : has made.new.log.log.took c.in-Some.message ≡ false = rw made.ensures.same_log.1 (not_taken o i.number i.log.log c.args.from c.in-Some.message c.in-Some.ensures.edge.0 (g.P.Post.stands c.args.post.now) ends c.in-Some.ensures.once c.requires.from in_here) in
+    let fresh : has made.new.log.log.took c.in-Some.message ≡ false = rw made.ensures.same_log.1 (not_taken o i.number i.log.log c.args.from c.in-Some.message c.in-Some.ensures.edge.0 (g.P.Post.denotes c.args.post.now) ends c.in-Some.ensures.once c.requires.from in_here) in
     rw c.in-Packet.ensures.name fresh
 
 pub take_packet-requires-clause-legal : goal.take_packet-requires-clause-legal
@@ -337,7 +337,7 @@ invariant_of-self-in-Continue-branch-7 g c =
     let here : i.number ≡ made.new.log.worker = sym (made.ensures.same_log.0 ∙ c.self.invariant.number) in
     let in_here = subst (λ (w : ℕ). w < job.shape.workers) c.self.invariant.number c.self.invariant.parts.worker in
     let ends = rw (← c.self.view_is) at c.requires.ends in
-    let fresh : has made.new.log.log.took c.in-Some.message ≡ false = rw made.ensures.same_log.1 (not_taken o i.number i.log.log c.args.from c.in-Some.message c.in-Some.ensures.edge.0 (g.P.Post.stands c.args.post.now) ends c.in-Some.ensures.once c.requires.from in_here) in
+    let fresh : has made.new.log.log.took c.in-Some.message ≡ false = rw made.ensures.same_log.1 (not_taken o i.number i.log.log c.args.from c.in-Some.message c.in-Some.ensures.edge.0 (g.P.Post.denotes c.args.post.now) ends c.in-Some.ensures.once c.requires.from in_here) in
     let at = c.in-Packet in
     let x = Packet at.stage at.bin at.time in
     let owed : IsOwedTo o made.new.log.worker x = subst (λ (y : Name). IsOwedTo o made.new.log.worker y) (sym at.ensures.name) (packet_owed q job made.new.log.worker c.in-Some.message (c.in-Some.ensures.edge.1 ∙ here) at.stage at.bin at.time at.state at.ensures.content at.ensures.name) in
@@ -354,7 +354,7 @@ take_row-requires-clause-fresh g c κs within =
     let here : i.number ≡ made.new.log.worker = sym (made.ensures.same_log.0 ∙ c.self.invariant.number) in
     let in_here = subst (λ (w : ℕ). w < job.shape.workers) c.self.invariant.number c.self.invariant.parts.worker in
     let ends = rw (← c.self.view_is) at c.requires.ends in
-    let fresh : has made.new.log.log.took c.in-Some.message ≡ false = rw made.ensures.same_log.1 (not_taken o i.number i.log.log c.args.from c.in-Some.message c.in-Some.ensures.edge.0 (g.P.Post.stands c.args.post.now) ends c.in-Some.ensures.once c.requires.from in_here) in
+    let fresh : has made.new.log.log.took c.in-Some.message ≡ false = rw made.ensures.same_log.1 (not_taken o i.number i.log.log c.args.from c.in-Some.message c.in-Some.ensures.edge.0 (g.P.Post.denotes c.args.post.now) ends c.in-Some.ensures.once c.requires.from in_here) in
     rw c.name-name.ensures fresh
 
 pub take_row-requires-clause-not_written : goal.take_row-requires-clause-not_written
@@ -370,7 +370,7 @@ take_row-requires-clause-not_written g c κs within =
     let here : i.number ≡ made.new.log.worker = sym (made.ensures.same_log.0 ∙ c.self.invariant.number) in
     let in_here = subst (λ (w : ℕ). w < job.shape.workers) c.self.invariant.number c.self.invariant.parts.worker in
     let ends = rw (← c.self.view_is) at c.requires.ends in
-    let fresh : has made.new.log.log.took c.in-Some.message ≡ false = rw made.ensures.same_log.1 (not_taken o i.number i.log.log c.args.from c.in-Some.message c.in-Some.ensures.edge.0 (g.P.Post.stands c.args.post.now) ends c.in-Some.ensures.once c.requires.from in_here) in
+    let fresh : has made.new.log.log.took c.in-Some.message ≡ false = rw made.ensures.same_log.1 (not_taken o i.number i.log.log c.args.from c.in-Some.message c.in-Some.ensures.edge.0 (g.P.Post.denotes c.args.post.now) ends c.in-Some.ensures.once c.requires.from in_here) in
     let row = RowName c.in-Row.time c.in-Row.tag in
     let owed : IsOwedTo o made.new.log.worker row = subst (λ (x : Name). IsOwedTo o made.new.log.worker x) (sym c.in-Row.ensures.name) (row_owed q job made.new.log.worker c.in-Some.message (c.in-Some.ensures.edge.1 ∙ here) c.in-Row.time c.in-Row.tag c.in-Row.fields c.in-Row.ensures.content c.in-Row.ensures.name) in
     let new_here : has made.new.log.log.took row ≡ false = rw c.in-Row.ensures.name fresh in
@@ -391,7 +391,7 @@ invariant_of-self-in-Continue-branch-8 g c =
     let here : i.number ≡ made.new.log.worker = sym (made.ensures.same_log.0 ∙ c.self.invariant.number) in
     let in_here = subst (λ (w : ℕ). w < job.shape.workers) c.self.invariant.number c.self.invariant.parts.worker in
     let ends = rw (← c.self.view_is) at c.requires.ends in
-    let fresh : has made.new.log.log.took c.in-Some.message ≡ false = rw made.ensures.same_log.1 (not_taken o i.number i.log.log c.args.from c.in-Some.message c.in-Some.ensures.edge.0 (g.P.Post.stands c.args.post.now) ends c.in-Some.ensures.once c.requires.from in_here) in
+    let fresh : has made.new.log.log.took c.in-Some.message ≡ false = rw made.ensures.same_log.1 (not_taken o i.number i.log.log c.args.from c.in-Some.message c.in-Some.ensures.edge.0 (g.P.Post.denotes c.args.post.now) ends c.in-Some.ensures.once c.requires.from in_here) in
     let owed : IsOwedTo o made.new.log.worker c.name-name.result = rw c.name-name.ensures (row_owed q job made.new.log.worker c.in-Some.message (c.in-Some.ensures.edge.1 ∙ here) c.in-Row.time c.in-Row.tag c.in-Row.fields c.in-Row.ensures.content c.in-Row.ensures.name) in
     let new_here : has made.new.log.log.took c.name-name.result ≡ false = rw c.name-name.ensures fresh in
     row_taken q job i.job.now i.number i.seen (i.next.0, i.next.1) i.routers.items i.unsent sound made.new.log c.take_row.new.log made.new.owners _ _ made.new.rows kept c.name-name.result owed new_here c.take_row.ensures.log c.in-Row.time c.in-Row.tag (c.name-name.ensures ∙ sym c.in-Row.ensures.name) c.take_row.new.rows c.take_row.ensures.rows
@@ -417,4 +417,4 @@ returns-clause-ends g c =
       | in-Row+in_ok-take_row-in-Row w ↦ ap view w.self-is ∙ took_as _ _ _ _ _ c.name-name.ensures same w.take_row.ensures.log.1
     ] in
     rw (← c.self.view_is, took)
-    (follows_taken o i.number i.log.log c.args.from message c.in-Some.ensures.edge.0 (g.P.Post.stands c.args.post.now) (g.P.Post.stands c.pop.new.self) c.in-Some.ensures.some c.in-Some.ensures.others)
+    (follows_taken o i.number i.log.log c.args.from message c.in-Some.ensures.edge.0 (g.P.Post.denotes c.args.post.now) (g.P.Post.denotes c.pop.new.self) c.in-Some.ensures.some c.in-Some.ensures.others)

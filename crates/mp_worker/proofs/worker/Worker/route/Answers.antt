@@ -44,7 +44,7 @@ send-requires-clause-changes g c = λ κs b.
 
 pub send-requires-clause-ends : goal.send-requires-clause-ends
 send-requires-clause-ends g c = λ κs b.
-    rw c.in_ok-make_room.ensures.made (ends_asked c.self.invariant refl c.args.self.now c.self.view_is (g.P.Post.stands c.args.post.now) c.requires.ends)
+    rw c.in_ok-make_room.ensures.made (ends_asked c.self.invariant refl c.args.self.now c.self.view_is (g.P.Post.denotes c.args.post.now) c.requires.ends)
 
 pub invariant_of-self-in-Ok : goal.invariant_of-self-in-Ok
 invariant_of-self-in-Ok g c =
@@ -79,13 +79,13 @@ returns-in-Ok-clause-mail g c =
 pub returns-in-Ok-clause-ends : goal.returns-in-Ok-clause-ends
 returns-in-Ok-clause-ends g c =
     let ends = rw c.in_ok-make_room.ensures.made at c.in-Ok.ensures.ends in
-    ends_told c.self.invariant refl c.args.self.now c.self.view_is (g.P.Post.stands c.args.post.now) (g.P.Post.stands c.send.new.post) c.send.new.log.log ends
+    ends_told c.self.invariant refl c.args.self.now c.self.view_is (g.P.Post.denotes c.args.post.now) (g.P.Post.denotes c.send.new.post) c.send.new.log.log ends
 
 pub invariant_of-self-2 : goal.invariant_of-self-2
 invariant_of-self-2 g c =
     let here = router_at c.self.invariant.parts c.args.stage c.index_mut-router.result.now c.requires.stage c.index_mut-router.ensures.value in
     let worker = rw c.in_ok-make_room.ensures.made at c.in-Err.ensures.worker in
-    let unsent = rw c.in_ok-make_room.ensures.made at c.in-Err.ensures.unsent in
+    let unsent = rw c.in_ok-make_room.ensures.made at c.in-Err.ensures.unchanged in
     let named = c.in-Rec.ensures.name ∙ c.in-Err.ensures.back ∙ c.rec.ensures in
     let last = back here c.in-Some.rec c.in-Rec.stage c.in-Rec.rec c.send_one.new.self c.hold.new.self c.in-Some.ensures.content c.in-Rec.ensures.content named c.in-Some.ensures.some c.in_ok-hold.ensures.held c.in_ok-hold.ensures.stage in
     router_still_kept c.self.invariant refl c.send.new.log worker c.args.stage c.hold.new.self unsent last
@@ -105,4 +105,4 @@ returns-clause-none g c =
 pub returns-clause-ends : goal.returns-clause-ends
 returns-clause-ends g c =
     let ends = rw c.in_ok-make_room.ensures.made at c.in-Err.ensures.ends in
-    ends_told c.self.invariant refl c.args.self.now c.self.view_is (g.P.Post.stands c.args.post.now) (g.P.Post.stands c.send.new.post) c.send.new.log.log ends
+    ends_told c.self.invariant refl c.args.self.now c.self.view_is (g.P.Post.denotes c.args.post.now) (g.P.Post.denotes c.send.new.post) c.send.new.log.log ends

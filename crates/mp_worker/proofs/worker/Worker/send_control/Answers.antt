@@ -32,7 +32,7 @@ send-requires-clause-changes g c κs within =
 
 pub send-requires-clause-ends : goal.send-requires-clause-ends
 send-requires-clause-ends g c κs within =
-    rw c.in_ok-make_room.ensures.made (ends_asked c.self.invariant refl c.args.self.now c.self.view_is (g.P.Post.stands c.args.post.now) c.requires.ends)
+    rw c.in_ok-make_room.ensures.made (ends_asked c.self.invariant refl c.args.self.now c.self.view_is (g.P.Post.denotes c.args.post.now) c.requires.ends)
 
 pub returns-in_default-send-clause-none : goal.returns-in_default-send-clause-none
 returns-in_default-send-clause-none g c =
@@ -48,7 +48,7 @@ returns-in_default-send-clause-none g c =
 pub returns-in_default-send-clause-ends : goal.returns-in_default-send-clause-ends
 returns-in_default-send-clause-ends g c =
     let ends = rw c.in_ok-make_room.ensures.made at c.in_default-send.ensures.ends in
-    ends_told c.self.invariant refl c.args.self.now c.self.view_is (g.P.Post.stands c.args.post.now) (g.P.Post.stands c.send.new.post) c.send.new.log.log ends
+    ends_told c.self.invariant refl c.args.self.now c.self.view_is (g.P.Post.denotes c.args.post.now) (g.P.Post.denotes c.send.new.post) c.send.new.log.log ends
 
 pub invariant_of-self-2 : goal.invariant_of-self-2
 invariant_of-self-2 g c =
@@ -68,4 +68,4 @@ invariant_of-self-2 g c =
 pub returns-clause-ends : goal.returns-clause-ends
 returns-clause-ends g c =
     let ends = rw c.in_ok-make_room.ensures.made at c.in-Ok.ensures.ends in
-    ends_told c.self.invariant refl c.args.self.now c.self.view_is (g.P.Post.stands c.args.post.now) (g.P.Post.stands c.send.new.post) c.send.new.log.log ends
+    ends_told c.self.invariant refl c.args.self.now c.self.view_is (g.P.Post.denotes c.args.post.now) (g.P.Post.denotes c.send.new.post) c.send.new.log.log ends

@@ -32,7 +32,7 @@ send-requires-clause-changes g c = λ κs b.
 
 pub send-requires-clause-ends : goal.send-requires-clause-ends
 send-requires-clause-ends g c = λ κs b.
-    rw c.in_ok-make_room.ensures.made (ends_asked c.self.invariant refl c.args.self.now c.self.view_is (g.P.Post.stands c.args.post.now) c.requires.ends)
+    rw c.in_ok-make_room.ensures.made (ends_asked c.self.invariant refl c.args.self.now c.self.view_is (g.P.Post.denotes c.args.post.now) c.requires.ends)
 
 pub invariant_of-self-in-Ok : goal.invariant_of-self-in-Ok
 invariant_of-self-in-Ok g c =
@@ -54,13 +54,13 @@ returns-in-Ok-clause-did g c =
 pub returns-in-Ok-clause-ends : goal.returns-in-Ok-clause-ends
 returns-in-Ok-clause-ends g c =
     let ends = rw c.in_ok-make_room.ensures.made at c.in-Ok.ensures.ends in
-    ends_told c.self.invariant refl c.args.self.now c.self.view_is (g.P.Post.stands c.args.post.now) (g.P.Post.stands c.send.new.post) c.send.new.log.log ends
+    ends_told c.self.invariant refl c.args.self.now c.self.view_is (g.P.Post.denotes c.args.post.now) (g.P.Post.denotes c.send.new.post) c.send.new.log.log ends
 
 pub invariant_of-self-2 : goal.invariant_of-self-2
 invariant_of-self-2 g c =
     let job = g.J.Naming.job in
     let worker = rw c.in_ok-make_room.ensures.made at c.in-Err.ensures.worker in
-    let unsent = rw c.in_ok-make_room.ensures.made at c.in-Err.ensures.unsent in
+    let unsent = rw c.in_ok-make_room.ensures.made at c.in-Err.ensures.unchanged in
     let named = c.in-Row-into_body.ensures.name ∙ c.in-Err.ensures.back ∙ c.row-row.ensures in
     let back = c.in-Row-into_body in
     let last = rows_back (g.Q.Query.facts job.rules) job c.in-Some.field-0 c.in-Some.ensures.content c.in-Row.fields c.in-Row.is _ c.pop_first.new.self.rows c.in-Some.ensures.back back.time back.tag back.fields back.ensures.content named _ c.in_ok-hold.ensures.put in
@@ -69,4 +69,4 @@ invariant_of-self-2 g c =
 pub returns-clause-ends : goal.returns-clause-ends
 returns-clause-ends g c =
     let ends = rw c.in_ok-make_room.ensures.made at c.in-Err.ensures.ends in
-    ends_told c.self.invariant refl c.args.self.now c.self.view_is (g.P.Post.stands c.args.post.now) (g.P.Post.stands c.send.new.post) c.send.new.log.log ends
+    ends_told c.self.invariant refl c.args.self.now c.self.view_is (g.P.Post.denotes c.args.post.now) (g.P.Post.denotes c.send.new.post) c.send.new.log.log ends

@@ -4,7 +4,7 @@ use Rattle.mp_rows.specs.WorkerLog.{WorkerLog}
 use Rattle.mp_names.specs.declared.names.Name.TheVariants.{Settled}
 use Rattle.mp_names.specs.declared.kinds.Kind.TheVariants.{Settle}
 use Rattle.mp_outline.proofs.Soundness.{outline_is_sound}
-use Rattle.mp_handoff.specs.Moving.{Moving}
+use Rattle.mp_handoff.specs.MoversState.{MoversState}
 use Rattle.mp_worker.proofs.Making.{makes}
 use Rattle.mp_worker.proofs.Movers.{movers_at}
 use Rattle.mp_worker.proofs.Settling.{can_settle, none_to_settle, settled_counted, settled_kept}
@@ -39,7 +39,7 @@ invariant_of-self-2 g c =
     let m = c.index_mut-movers.result.now in
     let at = movers_at kept sound c.args.stage c.requires.stage m c.index_mut-movers.ensures.value in
     let same = c.in-Some.ensures.same in
-    let next = settled_kept kept refl sound c.args.stage c.requires.stage m at c.in-Some.time c.in-Some.ensures.may_settle c.settle.new.self (ap (λ (n : Moving). n.stage) same) (ap (λ (n : Moving). n.worker) same) c.in-Some.ensures.held in
+    let next = settled_kept kept refl sound c.args.stage c.requires.stage m at c.in-Some.time c.in-Some.ensures.may_settle c.settle.new.self (ap (λ (n : MoversState). n.stage) same) (ap (λ (n : MoversState). n.worker) same) c.in-Some.ensures.held in
     let made = c.in_ok-make_room.ensures.made in
     let pushed = c.in_ok-push.ensures.pushed in
     next c.push.new.self (ap (λ (l : WorkerLog). l.worker) pushed ∙ ap (λ (l : WorkerLog). l.worker) made)

@@ -11,7 +11,7 @@ returns-in_ok-write-in-Write-clause-posted g c =
     let new = c.write.new.self in
     let none = (new ≡ old) × (c.write.new.sink ≡ c.args.sink.now) in
     let made = c.in_ok-write-in-Write in
-    still_grows none o Write (g.H.Hub.posted c.args.hub.now old.number) old new _ c.requires.posted made.ensures.did made.ensures.unchanged (λ same. same.0)
+    still_grows none o Write (g.H.Hub.posted c.args.hub.now old.number) old new _ c.requires.posted made.ensures.did made.ensures.idle (λ same. same.0)
 
 pub returns-in_ok-step_by_mail-in_default-clause-posted : goal.returns-in_ok-step_by_mail-in_default-clause-posted
 returns-in_ok-step_by_mail-in_default-clause-posted g c =
@@ -19,4 +19,4 @@ returns-in_ok-step_by_mail-in_default-clause-posted g c =
     let old = c.args.self.now in
     let new = c.step_by_mail.new.self in
     let made = c.in_ok-step_by_mail-in_default in
-    still_grows (new ≡ old) o c.args.kind (g.H.Hub.posted c.args.hub.now old.number) old new _ c.requires.posted made.ensures.did made.ensures.unchanged (λ same. same)
+    still_grows (new ≡ old) o c.args.kind (g.H.Hub.posted c.args.hub.now old.number) old new _ c.requires.posted made.ensures.did made.ensures.idle (λ same. same)

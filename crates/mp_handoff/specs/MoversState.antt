@@ -3,7 +3,7 @@ use Rattle.std.specs.Prelude.{ℕ, ◌==◌, ◌&&◌, ◌||◌, ◌<◌, nat_lt
 use Rattle.mp_handoff.specs.declared.sent.Sent.{Sent}
 
 -- a worker's movers of a stage: the noted times that aren't settled, ascending, each once; the time and bin of the last packet that was sent; for how many more notes there is room; the packets that were sent, in that order; for how many more of them there is room
-pub record Moving : Type 0 where
+pub record MoversState : Type 0 where
   pub stage : ℕ
   pub worker : ℕ
   pub unsettled : List ℕ

@@ -9,18 +9,18 @@ use Rattle.mp_names.specs.Frontiers.{log_at}
 use Rattle.mp_names.specs.Names.{In}
 use Rattle.mp_names.specs.Outlines.{Outline, receiver, sender}
 use Rattle.mp_stamps.specs.Seen.{HasLoc, seen_at}
-use Rattle.mp_mailbox.specs.Queues.{PlainStands, Queues}
+use Rattle.mp_mailbox.specs.Queues.{PlainDenotes, Queues}
 use Rattle.mp_machine.specs.Worlds.{Worker, World}
 use Rattle.mp_board.specs.Boards.{Posted}
 use Rattle.mp_refinement.specs.Ends.{Standing, sent_to, took_from}
 use Rattle.mp_refinement.specs.State.{WorkerState}
 
 -- what queues of messages stand for, each message being called by its one name
-abbrev pub queues_stand : Outline → Queues Name → Standing
-queues_stand o post = PlainStands (λ x. x ∷ []) (sender o) (receiver o) post
+abbrev pub queues_denote : Outline → Queues Name → Standing
+queues_denote o post = PlainDenotes (λ x. x ∷ []) (sender o) (receiver o) post
 
 -- workers by number, their board and their mailboxes
-pub record Together : Type 0 where
+pub record SystemState : Type 0 where
   pub workers : List WorkerState
   pub board : Posted
   pub post : Queues Name
@@ -33,7 +33,7 @@ pub record IsWorkerOf (o : Outline) (w : ℕ) (s : WorkerState) (worker : Worker
   pub version : s.seen.version ≡ worker.version
 
 -- The workers, the board and the mailboxes are those of this state of the machine; a mailbox holds what was sent and isn't taken
-pub record AreWorld (o : Outline) (depth : ℕ) (t : Together) (world : World) : Type 0 where
+pub record Refines (o : Outline) (depth : ℕ) (t : SystemState) (world : World) : Type 0 where
   pub all_workers : length t.workers ≡ o.workers
   pub workers : (w : ℕ) (s : WorkerState) → slice_get t.workers w ≡ Some s → IsWorkerOf o w s (world.worker w)
   pub all_logs : length t.board.logs ≡ o.workers
@@ -41,10 +41,10 @@ pub record AreWorld (o : Outline) (depth : ℕ) (t : Together) (world : World) :
   pub version : t.board.version ≡ world.version
   pub all_queues : t.post.workers ≡ o.workers
   pub each_depth : t.post.depth ≡ depth
-  pub mail : (v w : ℕ) → v < o.workers → w < o.workers → queues_stand o t.post v w (sent_to o (world.worker v).log w) (took_from o (world.worker w).log v)
+  pub mail : (v w : ℕ) → v < o.workers → w < o.workers → queues_denote o t.post v w (sent_to o (world.worker v).log w) (took_from o (world.worker w).log v)
 
 -- with another worker at a number, and other mailboxes
-abbrev pub with_worker : Together → ℕ → WorkerState → Queues Name → Together
+abbrev pub with_worker : SystemState → ℕ → WorkerState → Queues Name → SystemState
 with_worker t w s post = record t { workers = slice_set t.workers w s; post = post }
 
 -- The worker knows that all is over: each frontier that it saw is Done, and worker 0 has written each row that it took

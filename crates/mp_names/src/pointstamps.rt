@@ -1,0 +1,59 @@
+//! Work that is counted by location and time, and the pairs by which a worker orders what it has to do.
+use crate::{Loc, Time};
+
+/// A time at a location of the dataflow, as in Naiad: outstanding work is counted by its pointstamp.
+#[derive(Clone, Copy, PartialEq, Eq, PartialOrd, Ord, Hash, Debug)]
+pub struct Pointstamp {
+    pub loc: Loc,
+    /// In units of the event file.
+    pub time: Time,
+}
+
+/// What is added to the count of a pointstamp, as in Naiad's progress updates.
+#[derive(Clone, Copy, PartialEq, Eq, Hash, Debug)]
+pub struct Change {
+    pub at: Pointstamp,
+    pub by: i64,
+}
+
+/// How much work is outstanding at a pointstamp, as in Naiad's occurrence counts. It may be negative: what is taken may be
+/// known before it is known to be sent.
+#[derive(Clone, Copy, PartialEq, Eq, Hash, Debug)]
+pub struct Count {
+    pub at: Pointstamp,
+    pub count: i64,
+}
+
+/// A key at a time: a wake of a stage, or one of its groups. Ordered by time, then by key.
+#[derive(Clone, Copy, PartialEq, Eq, PartialOrd, Ord, Hash, Debug)]
+pub struct TimedKey {
+    /// In units of the event file.
+    pub time: Time,
+    pub key: u64,
+}
+
+/// A bin at the time of its move, as the packets of a stage are ordered: by time, then by bin.
+#[derive(Clone, Copy, PartialEq, Eq, PartialOrd, Ord, Hash, Debug)]
+pub struct TimedBin {
+    /// In units of the event file.
+    pub time: Time,
+    /// From 0.
+    pub bin: u32,
+}
+
+/// How many groups of a stage begin or cease to wait at a time.
+#[derive(Clone, Copy, PartialEq, Eq, Hash, Debug)]
+pub struct TimedCount {
+    /// In units of the event file.
+    pub time: Time,
+    pub count: u64,
+}
+
+/// The next control record that worker 0 sends: each goes to every worker in turn.
+#[derive(Clone, Copy, PartialEq, Eq, Hash, Debug)]
+pub struct ControlCursor {
+    /// The place of the record in the list of control records, from 0.
+    pub index: u32,
+    /// The worker that it goes to next, from 0.
+    pub receiver: u32,
+}
