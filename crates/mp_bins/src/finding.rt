@@ -11,8 +11,11 @@ use mp_names::Control;
 /// A bin of a stage, and the worker that owns it before any record of it.
 #[derive(Clone, Copy, Debug, Drop)]
 pub struct StageBin {
+    /// From 0.
     pub stage: u32,
+    /// From 0.
     pub bin: u32,
+    /// The owner before any record, from 0.
     pub first: u32,
 }
 

@@ -14,7 +14,9 @@ use std::marker::Model;
 /// A control record and its place in the list of all control records.
 #[derive(Clone, Copy, Debug, Drop)]
 pub struct Note {
+    /// In the list of control records, from 0.
     pub index: u32,
+    /// What it says.
     pub control: Control,
 }
 
@@ -41,7 +43,7 @@ impl Model for Owners {
 
 impl Owners {
     /// The owners before any control record is noted: bin `b` is worker `b` modulo the number of workers'
-    /// in each stage (this project's profile). Each part of the shape is at least 1.
+    /// in each stage (this project's profile). Each part of the shape is at least 1. `AllocError`: no memory.
     pub fn new(alloc: Global, shape: Shape) -> Result<Owners, AllocError>
         requires { IsShape shape }
         ensures shape { IfOk result (λ o. o.shape ≡ shape) }

@@ -11,8 +11,11 @@ use std::alloc::{AllocError, Global};
 /// A time at which a bin of a stage may move.
 #[derive(Clone, Copy, Debug, Drop)]
 pub struct Place {
+    /// In units of the event file.
     pub time: Time,
+    /// From 0.
     pub stage: u32,
+    /// From 0.
     pub bin: u32,
 }
 

@@ -16,6 +16,7 @@ use mp_outside::{Depot, ReadRefused, read_all};
 use std::alloc::Global;
 
 /// The events of the event file of this name.
+/// `NoFile`, `ReadFault`, `TooLarge` and `NoMemory`: the file can't be read; `EventsRefused`: its first bad line.
 pub fn events_in<'a, D: Depot>(
     alloc: Global,
     depot: &mut D,
@@ -39,7 +40,8 @@ pub fn events_in<'a, D: Depot>(
     }
 }
 
-/// The control records of the configuration of this name, for a job of this shape.
+/// The control records of the configuration of this name, for a job of this shape. `NoFile`, `ReadFault`, `TooLarge` and
+/// `NoMemory`: the file can't be read; `ConfigRefused`: its first bad line.
 pub fn controls_in<'a, D: Depot>(
     alloc: Global,
     depot: &mut D,

@@ -26,7 +26,7 @@ pub enum Refusal<'a> {
     ReadFault,
     /// A begin or an append failed.
     WriteFault,
-    /// Want of memory.
+    /// There was no memory.
     NoMemory,
     /// The file of this name has more bytes than are allowed.
     TooLarge(&'a str),
@@ -77,7 +77,7 @@ impl<'a> Refusal<'a> {
         }
     }
 
-    /// Writes its line, without taking memory.
+    /// Writes its line, without taking memory. `Failed` and `NoMemory`: those of the sink; a part of the line may be written.
     pub fn say<S: Sink>(&self, said: &mut S) -> Result<(), Fault>
         ensures whole { OnOk result (S.written said.new ≡ grown (S.written said.old) (line_said (outcome_of self.now))) }
         ensures part { OnErr result ((k : ℕ) × (S.written said.new ≡ grown (S.written said.old) (take k (line_said (outcome_of self.now))))) }

@@ -21,7 +21,8 @@ use mp_outside::Depot;
 use mp_words::{RunOptions, WordsRefused, parse};
 use std::alloc::Global;
 
-/// Carries out the command that the words ask for.
+/// Carries out the command that the words ask for. `Refusal`: why no answer is given; which one comes first, the statuses
+/// of the command say.
 pub fn serve<'a, D: Depot, G: Gate>(
     alloc: Global,
     words: &'a [String],

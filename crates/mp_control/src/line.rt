@@ -19,7 +19,7 @@ pub struct ReadLine {
     numbers: [u64; MOST_FIELDS],
 }
 
-/// Reads a line's fields, where `before` control records stand before it.
+/// Reads a line's fields, where `before` control records stand before it. `ControlReason`: the first check that it fails.
 pub fn read_line(shape: Shape, fields: &FieldList, before: usize) -> Result<ReadLine, ControlReason>
     ensures { AnswersChecks result (failures_of shape before fields.now) (λ line. IsRead shape fields.now line) }
 {

@@ -12,7 +12,7 @@ use std::collections::BTreeMap;
 
 type Rows = BTreeMap<Place, Value>;
 
-/// The answer of a query to events, the lines of one time as one piece. The one error is want of memory.
+/// The answer of a query to events, the lines of one time as one piece. `AllocError`: no memory.
 pub fn answer_pieces<Q: Query>(
     alloc: Global,
     query: &Q,

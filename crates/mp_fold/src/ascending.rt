@@ -4,7 +4,7 @@ ghost use Rattle.mp_model.specs.Ascending.{ascending, placed};
 
 use std::alloc::{AllocError, Global};
 
-/// The numbers, ascending and each once.
+/// The numbers, ascending and each once. `AllocError`: no memory.
 pub fn ascending(alloc: Global, numbers: &[u64]) -> Result<Vec<u64>, AllocError>
     ensures { IfOk result (λ v. v.items ≡ ascending numbers.now) }
 {

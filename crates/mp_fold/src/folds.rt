@@ -7,7 +7,7 @@ use crate::timeline::{at_time, group_times, is_woken, of_key};
 use mp_model::{Group, Output, Query, Rec, Tag, Time, Value};
 use std::alloc::{AllocError, Global};
 
-/// Adds what the groups of a key give in a stage, whose records these are, by time.
+/// Adds what the groups of a key give in a stage, whose records these are, by time. `AllocError`: no memory.
 pub fn fold_key<Q: Query>(
     alloc: Global,
     query: &Q,

@@ -8,7 +8,7 @@ use mp_text::put_number;
 use std::alloc::AllocError;
 
 /// Appends the line of a row: its time and its fields, cut by `|`, and a line feed. The form is this project's profile.
-/// The one error is want of memory.
+/// `AllocError`: no memory.
 pub fn put_line(out: &mut Vec<u8>, place: &Place, value: &Value) -> Result<(), AllocError>
     ensures { OnOk result (out.new.items ≡ out.old.items ++ line_of (place.now, value.now)) }
 {

@@ -38,7 +38,7 @@ impl Pieces {
         }
     }
 
-    /// Adds the line of a row at the end.
+    /// Adds the line of a row at the end. `AllocError`: no memory.
     pub fn push_line(&mut self, place: &Place, value: &Value) -> Result<(), AllocError>
         ensures { OnOk result (self.new ≡ self.old ++ line_of (place.now, value.now)) }
     {
@@ -62,7 +62,7 @@ impl Pieces {
         Ok(())
     }
 
-    /// The pieces, in order. None is empty.
+    /// The pieces, in order. None is empty. `AllocError`: no memory.
     pub fn finish(self) -> Result<Vec<Vec<u8>>, AllocError>
         ensures { IfOk result (λ v. flat_map (λ p. p.items) v.items ≡ self) }
     {

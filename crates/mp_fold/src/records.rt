@@ -8,7 +8,7 @@ ghost use Rattle.mp_model.specs.Stages.{input_records, record_of, record_of_outp
 use mp_model::{Event, Output, Query, Rec, Tag};
 use std::alloc::{AllocError, Global};
 
-/// The records that the events make in stage 0, by the index of their event.
+/// The records that the events make in stage 0, by the index of their event. `AllocError`: no memory.
 pub fn input_records<Q: Query>(
     alloc: Global,
     query: &Q,
@@ -49,7 +49,7 @@ fn push_record<Q: Query>(
     }
 }
 
-/// The records that the outputs of the stage before make in a later stage.
+/// The records that the outputs of the stage before make in a later stage. `AllocError`: no memory.
 pub fn output_records<Q: Query>(
     alloc: Global,
     query: &Q,

@@ -11,7 +11,7 @@ use crate::timeline::keys_of;
 use mp_model::{Event, Output, Query, Rec};
 use std::alloc::{AllocError, Global};
 
-/// The outputs of the last stage, key by key. The one error is want of memory.
+/// The outputs of the last stage, key by key. `AllocError`: no memory.
 pub fn answer_rows<Q: Query>(
     alloc: Global,
     query: &Q,
@@ -26,7 +26,7 @@ pub fn answer_rows<Q: Query>(
 }
 
 /// The records of a stage, of which the first is 0: those of the events, and later those of the outputs of the stage
-/// before. The one error is want of memory.
+/// before. `AllocError`: no memory.
 pub fn stage_records<Q: Query>(
     alloc: Global,
     query: &Q,

@@ -9,7 +9,7 @@ use crate::ascending::ascending;
 use mp_model::{Query, Rec, Time};
 use std::alloc::{AllocError, Global};
 
-/// The keys of records, ascending and each once.
+/// The keys of records, ascending and each once. `AllocError`: no memory.
 pub fn keys_of(alloc: Global, recs: &[Rec]) -> Result<Vec<u64>, AllocError>
     ensures { IfOk result (λ v. v.items ≡ keys_of recs.now) }
 {
@@ -17,7 +17,7 @@ pub fn keys_of(alloc: Global, recs: &[Rec]) -> Result<Vec<u64>, AllocError>
     ascending(alloc, keys.as_slice())
 }
 
-/// The records of a key.
+/// The records of a key. `AllocError`: no memory.
 pub fn of_key(alloc: Global, recs: &[Rec], key: u64) -> Result<Vec<Rec>, AllocError>
     ensures { IfOk result (λ v. v.items ≡ of_key key recs.now) }
 {
@@ -30,7 +30,7 @@ pub fn of_key(alloc: Global, recs: &[Rec], key: u64) -> Result<Vec<Rec>, AllocEr
     Ok(own)
 }
 
-/// The records of a time.
+/// The records of a time. `AllocError`: no memory.
 pub fn at_time(alloc: Global, recs: &[Rec], time: Time) -> Result<Vec<Rec>, AllocError>
     ensures { IfOk result (λ v. v.items ≡ at_time time recs.now) }
 {
@@ -43,7 +43,7 @@ pub fn at_time(alloc: Global, recs: &[Rec], time: Time) -> Result<Vec<Rec>, Allo
     Ok(group)
 }
 
-/// The times of records and of their posts, ascending and each once.
+/// The times of records and of their posts, ascending and each once. `AllocError`: no memory.
 pub fn group_times<Q: Query>(
     alloc: Global,
     query: &Q,

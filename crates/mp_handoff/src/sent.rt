@@ -7,8 +7,11 @@ use mp_msg::BinState;
 /// A packet of a stage that was sent: its bin, the time of its move, and how many keys of the bin then had a cell.
 #[derive(Clone, Copy, PartialEq, Eq, Debug)]
 pub struct Sent {
+    /// From 0.
     pub bin: u32,
+    /// In units of the event file.
     pub time: Time,
+    /// How many keys of the bin then had a cell that isn't fresh.
     pub keys: u64,
 }
 

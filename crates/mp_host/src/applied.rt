@@ -4,7 +4,9 @@ use mp_model::{Time, Value};
 /// A group that was applied, and what came of it.
 #[derive(Drop, Debug)]
 pub struct Applied {
+    /// In units of the event file.
     pub time: Time,
+    /// The key whose records it has.
     pub key: u64,
     /// What the group gives, in order.
     pub outputs: Vec<Value>,

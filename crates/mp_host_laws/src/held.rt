@@ -6,7 +6,10 @@ use mp_msg::BinState;
 /// start.
 #[derive(Drop)]
 pub struct Held<C: Drop> {
+    /// From 0.
     pub bin: u32,
+    /// When the packet that brought it was due, in units of the event file; `None` of what the first owner has from the start.
     pub since: Option<Time>,
+    /// Its cells and wakes.
     pub state: BinState<C>,
 }

@@ -95,7 +95,7 @@ fn pop_oldest<M>(queue: &mut VecDeque<M>) -> Option<M>
 
 impl<M: Named + Drop> PlainPost<M> {
     /// Empty queues between `workers` workers, each with room for `depth` messages. No later call takes
-    /// memory.
+    /// memory. `AllocError`: no memory.
     pub fn new(alloc: Global, workers: u32, depth: u32) -> Result<PlainPost<M>, AllocError>
         ensures empty { IfOk result (λ p. p ≡ empty_queues workers depth) }
         ensures denotes { IfOk result (λ p. (from to : ℕ) → from < workers → to < workers → PlainDenotes M.names M.from M.to p from to [] []) }

@@ -19,7 +19,7 @@ impl Model for Text {
 }
 
 impl Text {
-    /// A text of these bytes.
+    /// A text of these bytes. `AllocError`: no memory.
     pub fn new(alloc: Global, bytes: &[u8]) -> Result<Text, AllocError>
         ensures { IfOk result (λ t. t ≡ bytes.now) }
     {

@@ -10,7 +10,9 @@ use std::marker::Model;
 /// fresh one. Contracts see the cells and the wakes as lists.
 #[derive(Drop)]
 pub struct BinState<C: Drop> {
+    /// By key; none of them is fresh.
     pub cells: BTreeMap<u64, C>,
+    /// By time, then by key.
     pub wakes: Wakes,
 }
 

@@ -4,8 +4,11 @@ use crate::Time;
 /// How many workers, bins and stages a job has, each at least 1.
 #[derive(Clone, Copy, PartialEq, Eq, Hash, Debug)]
 pub struct Shape {
+    /// From 1 to 16.
     pub workers: u32,
+    /// Of the keys of each stage: a power of two from 1 to 256.
     pub bins: u32,
+    /// Of the query: 1 or 2.
     pub stages: u32,
 }
 
@@ -13,9 +16,13 @@ pub struct Shape {
 /// the stage, until a later record says otherwise.
 #[derive(Clone, Copy, PartialEq, Eq, Hash, Debug)]
 pub struct Control {
+    /// In units of the event file, at most 2^47.
     pub time: Time,
+    /// From 0.
     pub stage: u32,
+    /// From 0.
     pub bin: u32,
+    /// The owner from this time on, from 0.
     pub worker: u32,
 }
 
@@ -23,9 +30,14 @@ pub struct Control {
 /// them.
 #[derive(Clone, Copy, PartialEq, Eq, PartialOrd, Ord, Hash, Debug)]
 pub struct Move {
+    /// In units of the event file.
     pub time: Time,
+    /// From 0.
     pub stage: u32,
+    /// From 0.
     pub bin: u32,
+    /// The owner just before the time.
     pub from: u32,
+    /// The owner from the time on.
     pub to: u32,
 }

@@ -4,6 +4,7 @@ use crate::{Loc, Time};
 /// A time at a location of the dataflow, as in Naiad: outstanding work is counted by its pointstamp.
 #[derive(Clone, Copy, PartialEq, Eq, PartialOrd, Ord, Hash, Debug)]
 pub struct Pointstamp {
+    /// Where the work is.
     pub loc: Loc,
     /// In units of the event file.
     pub time: Time,
@@ -12,7 +13,9 @@ pub struct Pointstamp {
 /// What is added to the count of a pointstamp, as in Naiad's progress updates.
 #[derive(Clone, Copy, PartialEq, Eq, Hash, Debug)]
 pub struct Change {
+    /// Of which pointstamp.
     pub at: Pointstamp,
+    /// By how much.
     pub by: i64,
 }
 
@@ -20,7 +23,9 @@ pub struct Change {
 /// known before it is known to be sent.
 #[derive(Clone, Copy, PartialEq, Eq, Hash, Debug)]
 pub struct Count {
+    /// Of which pointstamp.
     pub at: Pointstamp,
+    /// How many are outstanding.
     pub count: i64,
 }
 
@@ -29,6 +34,7 @@ pub struct Count {
 pub struct TimedKey {
     /// In units of the event file.
     pub time: Time,
+    /// Of the records of the stage.
     pub key: u64,
 }
 
@@ -46,6 +52,7 @@ pub struct TimedBin {
 pub struct TimedCount {
     /// In units of the event file.
     pub time: Time,
+    /// How many groups.
     pub count: u64,
 }
 

@@ -15,7 +15,7 @@ pub fn count_of_time(rows: &[Output], time: Time) -> usize
     rows.iter().take_while(|row| row.time == time).count()
 }
 
-/// The lines of the rows, one after the other. The one error is want of memory.
+/// The lines of the rows, one after the other. `AllocError`: no memory.
 pub fn lines_of(alloc: Global, rows: &[Output]) -> Result<Vec<u8>, AllocError>
     ensures { IfOk result (λ v. v.items ≡ lines_of rows.now) }
 {

@@ -1,10 +1,11 @@
-// The calls of one method of a fake, counted, and the numbers of those that fail.
+//! The calls of one method of a fake, counted, and the numbers of those that fail.
 ghost use Rattle.std.specs.Prelude.{◌≡◌, ◌+◌, ◌-◌, ◌^◌, ◌<◌, true, false, OnErr, OnOk};
 ghost use Rattle.mp_outside.specs.Calls.{fails_at, faults_of, no_calls, with_failure};
 
 use std::alloc::{AllocError, Global};
 use std::marker::Model;
 
+/// How many calls of a method were made, and which are to fail.
 #[derive(Drop)]
 pub struct Calls {
     made: u64,
@@ -20,6 +21,7 @@ impl Model for Calls {
 }
 
 impl Calls {
+    /// No call made, and none to fail.
     pub fn new(alloc: Global) -> Calls
         ensures { result ≡ no_calls }
     {
@@ -29,7 +31,8 @@ impl Calls {
         }
     }
 
-    // Makes the call of this number fail. One that was made already stays as it was.
+    /// Makes the call of this number, from 1, fail. One that was made already stays as it was. `AllocError`: no memory, and
+    /// nothing changes.
     pub fn fail(&mut self, nth: u64) -> Result<(), AllocError>
         ensures ok { OnOk result (self.new ≡ with_failure self.old nth) }
         ensures unchanged { OnErr result (self.new ≡ self.old) }
@@ -41,8 +44,7 @@ impl Calls {
         Ok(())
     }
 
-    // Counts a call, and tells whether it fails. The calls past the last number aren't told apart, and
-    // none of them fails.
+    /// Counts a call, and tells whether it fails. Calls past number 2^64 - 1 aren't told apart, and none of them fails.
     pub fn count(&mut self) -> bool
         ensures fails { result ≡ true → faults_of self.new ≡ faults_of self.old + 1 }
         ensures serves { result ≡ false → faults_of self.new ≡ faults_of self.old }

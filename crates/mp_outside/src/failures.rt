@@ -1,4 +1,4 @@
-// Which calls of a fake fail, for each of its methods.
+//! Which calls of a fake fail, for each of its methods.
 ghost use Rattle.std.specs.Prelude.{◌≡◌, ◌≢◌, OnErr, OnOk};
 ghost use Rattle.mp_outside.specs.Calls.{faults_of, no_calls, with_failure};
 ghost use Rattle.mp_outside.specs.Failures.{calls_for};
@@ -8,16 +8,23 @@ use crate::Op;
 use crate::calls::Calls;
 use std::alloc::{AllocError, Global};
 
+/// The calls of each method of a fake.
 #[derive(Drop)]
 pub struct Failures {
+    /// Of `Depot::find`.
     pub find: Calls,
+    /// Of `Depot::read`.
     pub read: Calls,
+    /// Of `Depot::begin`.
     pub begin: Calls,
+    /// Of `Depot::append`.
     pub append: Calls,
+    /// Of `Sink::write`.
     pub write: Calls,
 }
 
 impl Failures {
+    /// No call made, and none to fail.
     pub fn new(alloc: Global) -> Failures
         ensures { (op : Method) → calls_for result op ≡ no_calls }
     {
@@ -30,7 +37,7 @@ impl Failures {
         }
     }
 
-    // Makes the nth call of the method fail, from the first one on, if it has yet to come.
+    /// Makes the nth call of the method, from 1, fail, if it has yet to come. `AllocError`: no memory, and nothing changes.
     pub fn fail(&mut self, op: Op, nth: u64) -> Result<(), AllocError>
         ensures planned { OnOk result (calls_for self.new op ≡ with_failure (calls_for self.old op) nth) }
         ensures others { (other : Method) → other ≢ op →

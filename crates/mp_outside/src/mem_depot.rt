@@ -31,7 +31,7 @@ impl MemDepot {
     }
 
     /// Gives the depot a file of this name with these bytes, whether the name was there or not. It
-    /// is no call of `begin` or `append`.
+    /// is no call of `begin` or `append`. `AllocError`: no memory, and the depot stays as it was.
     pub fn put(&mut self, name: &str, bytes: &[u8]) -> Result<(), AllocError>
         ensures ok { OnOk result
             (depot_files self.new ≡ with_file (depot_files self.old) name.now bytes.now) }
@@ -50,7 +50,7 @@ impl MemDepot {
 
     /// Makes the nth call of this method fail with `Failed`. Calls are counted from 1, from the
     /// first that was ever made of that method on this depot; one that was made already stays as it
-    /// was. Several may be told to fail.
+    /// was. Several may be told to fail. `AllocError`: no memory, and nothing changes.
     pub fn fail(&mut self, op: Op, nth: u64) -> Result<(), AllocError>
         ensures planned { OnOk result
             (depot_calls self.new op ≡ with_failure (depot_calls self.old op) nth) }

@@ -38,6 +38,7 @@ impl MemSink {
     /// Makes the nth call of this method fail with `Failed`. Calls are counted from 1, from the
     /// first that was ever made of that method on this sink; one that was made already stays as it
     /// was. Several may be told to fail. A sink has the method `Write` alone.
+    /// `AllocError`: no memory, and nothing changes.
     pub fn fail(&mut self, op: Op, nth: u64) -> Result<(), AllocError>
         ensures planned { OnOk result
             (sink_calls self.new op ≡ with_failure (sink_calls self.old op) nth) }

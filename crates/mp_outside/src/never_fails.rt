@@ -28,6 +28,7 @@ impl NeverFails {
     }
 
     /// Gives the depot a file of this name with these bytes, whether the name was there or not.
+    /// `AllocError`: no memory, and the files stay as they were.
     pub fn put(&mut self, name: &str, bytes: &[u8]) -> Result<(), AllocError>
         ensures ok { OnOk result
             (unfailing_files self.new ≡ with_file (unfailing_files self.old) name.now bytes.now) }

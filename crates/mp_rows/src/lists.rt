@@ -25,10 +25,15 @@ pub enum LogList {
 /// The names of a log, each list in the order in which it grew.
 #[derive(Drop)]
 pub struct Lists {
+    /// The records of the share that were ingested.
     pub ingested: Vec<Name>,
+    /// The messages that were sent.
     pub sent: Vec<Name>,
+    /// The messages that were taken.
     pub took: Vec<Name>,
+    /// The groups that were applied.
     pub applied: Vec<Name>,
+    /// The times that were settled, and those that were written.
     pub settled: Vec<Name>,
 }
 

@@ -12,7 +12,7 @@ use std::alloc::{AllocError, Global};
 use std::collections::VecDeque;
 
 /// A queue for each ordered pair of workers, as a post for each worker, by number. Each queue holds
-/// `depth` messages. No later call takes memory.
+/// `depth` messages. No later call takes memory. `AllocError`: no memory.
 pub fn ruled_posts<M: Named + Drop, R: Copy + Drop>(
     rt: R,
     alloc: Global,

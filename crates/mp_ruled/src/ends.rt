@@ -11,7 +11,7 @@ use std::marker::Brand;
 use std::sync::Arc;
 
 /// A queue from one worker to another that holds `depth` messages, as its two ends. No later call takes
-/// memory.
+/// memory. `AllocError`: no memory.
 pub fn ends_between<M: Named + Drop>(
     alloc: Global,
     from: u32,

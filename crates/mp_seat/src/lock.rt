@@ -35,6 +35,7 @@ impl<T: Rows> Model for SeatLock<T> {
 
 impl<T: Rows> SeatLock<T> {
     /// The lock round the value, and a seat for each of its rows: the seat at place k has row k.
+    /// `AllocError`: no memory.
     pub fn open(
         alloc: Global,
         value: T,

@@ -76,7 +76,7 @@ fn value_within(digits: &[u8], max: u64) -> Option<u64>
 }
 
 /// Appends the decimal text of `n`, without leading zeros. Where there is no memory for it, `out`
-/// stays as it was.
+/// stays as it was. `AllocError`: no memory.
 pub fn put_number(out: &mut Vec<u8>, n: u64) -> Result<(), AllocError>
     ensures written { OnOk result (out.new.items ≡ out.old.items ++ decimal n) }
     ensures unchanged { OnErr result (out.new.items ≡ out.old.items) }

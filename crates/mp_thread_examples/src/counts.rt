@@ -114,7 +114,7 @@ fn raise_all<R: Wait>(
     seat
 }
 
-/// Two threads raise a number each, 1,000 times.
+/// Two threads raise a number each, 1,000 times. `AllocError`: no memory.
 pub fn count_in_two<R: Threads + Wait + Sync>(rt: &R, alloc: Global) -> Result<Counts, AllocError>
     ensures { IfOk result (λ counts. counts ≡ (1000 ∷ 1000 ∷ [], 2000)) }
 {

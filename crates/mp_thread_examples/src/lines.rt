@@ -55,6 +55,7 @@ fn receive_through<R: Wait>(
 }
 
 /// The numbers below `count`, which went from one thread to another through a queue of this depth.
+/// `AllocError`: no memory.
 pub fn relay<R: Threads + Wait + Sync>(
     rt: &R,
     alloc: Global,

@@ -10,6 +10,7 @@ use std::thread;
 /// A number, which goes from worker 0 to worker 1 and is its own name.
 #[derive(Debug, Drop)]
 pub struct Number {
+    /// The number that is sent.
     pub value: u64,
 }
 
@@ -25,7 +26,7 @@ impl Named for Number {
     ghost to = { λ m. 1 };
 }
 
-/// Pushes a number, and hands it back where there is no room. The post stands for what was sent before.
+/// Pushes a number. `Err` with the number: there was no room for it. The post stands for what was sent before.
 pub fn send<P: Post<Number>>(post: &mut P, number: u64) -> Result<(), u64>
     requires serves { P.serves post.old 0 × (1 < P.workers post.old) }
     requires denotes { (popped : List ℕ) × P.denotes post.old 0 1 (numbers_below number) popped }
@@ -42,7 +43,7 @@ pub fn send<P: Post<Number>>(post: &mut P, number: u64) -> Result<(), u64>
     }
 }
 
-/// Pops a number. The post stands for what was received before.
+/// Pops a number. The post stands for what was received before. `AllocError`: no memory.
 pub fn receive<P: Post<Number>>(post: &mut P, got: &mut Vec<u64>) -> Result<bool, AllocError>
     requires serves { P.serves post.old 1 × (1 < P.workers post.old) }
     requires denotes { (pushed : List ℕ) × P.denotes post.old 0 1 pushed got.old.items }

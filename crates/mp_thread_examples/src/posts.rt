@@ -7,7 +7,7 @@ use crate::numbers::Number;
 use mp_ruled::{RuledPost, ruled_posts};
 use std::alloc::{AllocError, Global};
 
-/// The posts of worker 0 and worker 1.
+/// The posts of worker 0 and worker 1. `AllocError`: no memory.
 pub fn two_posts<R: Copy + Drop>(
     rt: R,
     alloc: Global,

@@ -7,7 +7,7 @@ ghost use Rattle.mp_words.specs.Command.{valued, needed, defaulted, shared_shape
 use clap::{Arg, ArgAction, Command};
 use std::alloc::{AllocError, Global};
 
-/// The program with its two subcommands. `--help`, `--version` and `help` are unknown words.
+/// The program with its two subcommands. `--help`, `--version` and `help` are unknown words. `AllocError`: no memory.
 pub fn command<'a>(alloc: Global) -> Result<Command<'a>, AllocError>
     ensures { IfOk result (λ c. app_of c ≡ command_app) }
 {

@@ -65,9 +65,13 @@ pub(crate) fn take_control<Q: Query, J: Naming>(
 /// What a packet holds.
 #[derive(Drop)]
 pub struct Packet<C: Drop> {
+    /// From 0.
     pub stage: u32,
+    /// From 0.
     pub bin: u32,
+    /// In units of the event file.
     pub time: Time,
+    /// Its cells and wakes.
     pub state: BinState<C>,
 }
 

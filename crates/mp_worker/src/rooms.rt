@@ -14,7 +14,9 @@ use std::alloc::{AllocError, Global};
 /// What a packet changes: how many groups of each time begin to wait, and the changes at the counts.
 #[derive(Drop)]
 pub struct PacketLists {
+    /// How many groups of each time begin to wait.
     pub numbers: Vec<(Time, u64)>,
+    /// At the counts of outstanding work.
     pub changes: Vec<Change>,
 }
 

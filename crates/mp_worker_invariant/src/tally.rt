@@ -10,9 +10,13 @@ use std::alloc::{AllocError, Global};
 /// A packet that a worker sent: its stage, its bin, the time of its move, and how many keys of the bin then had a cell.
 #[derive(Clone, Copy, PartialEq, Eq, Debug)]
 pub struct Moved {
+    /// From 0.
     pub stage: u32,
+    /// From 0.
     pub bin: u32,
+    /// In units of the event file.
     pub time: Time,
+    /// How many keys of the bin then had a cell that isn't fresh.
     pub keys: u64,
 }
 
@@ -20,7 +24,9 @@ pub struct Moved {
 /// were sent.
 #[derive(Drop)]
 pub struct Tally {
+    /// How many it has applied.
     pub groups: u64,
+    /// By stage, then in the order of sending.
     pub moved: Vec<Moved>,
 }
 
