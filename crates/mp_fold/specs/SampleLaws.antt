@@ -3,7 +3,7 @@ use Rattle.std.specs.Prelude.{ℕ, zero, suc, ◌≤◌, ◌++◌, Bool, true, f
 use Rattle.std.proofs.Common.{ap, arith, length-append}
 use Rattle.std.proofs.lemmas.List.{length-map}
 use Rattle.std.proofs.lemmas.List.Elements.{All-append, All-cons, All-map, All-nil}
-use Rattle.mp_names.specs.Limits.{last_time}
+use Rattle.mp_names.specs.Limits.{last_time as greatest}
 use Rattle.mp_model.specs.declared.record.Rec.{Rec}
 use Rattle.mp_model.specs.declared.value.Value.{Value}
 use Rattle.mp_model.specs.declared.value.Value.TheVariants.{Person, Auction, Bid, Sale, Count, Row}
@@ -17,7 +17,7 @@ use Rattle.mp_fold.specs.Sample.{key_of, last_time, offer_of, row_of, sample_fac
 pub has_stages : HasStages sample_facts
 has_stages = (omega arith, omega arith)
 
-wakes_later : (time : ℕ) (v : Value) → IsLegalAt time v → RisesWithin time last_time (wakes_of v)
+wakes_later : (time : ℕ) (v : Value) → IsLegalAt time v → RisesWithin time greatest (wakes_of v)
 wakes_later time (Person id name city state) h = tt
 wakes_later time (Auction id seller category reserve expires) h = (h.4, omega (arith, h.5), tt)
 wakes_later time (Bid auction bidder price) h = tt
