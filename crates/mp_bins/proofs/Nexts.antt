@@ -6,12 +6,13 @@ use Rattle.std.proofs.lemmas.List.{length-map}
 use Rattle.mp_names.specs.declared.names.Name.TheVariants.{Packet}
 use Rattle.mp_names.specs.declared.controls.Control.{Control}
 use Rattle.mp_names.specs.declared.controls.Move.{Move}
+use Rattle.mp_names.specs.declared.pointstamps.TimedBin.{TimedBin}
 use Rattle.mp_names.specs.Controls.{owner_below}
 use Rattle.mp_bins.specs.Notes.{AreWithin, Notes, controls_in, first_owner, move_of, no_note}
-use Rattle.mp_bins.specs.Leaving.{BinStays, IsAfter, IsLeaving, IsNextLeaving, IsNextOfBin, NoneLeaves, earlier_of}
+use Rattle.mp_bins.specs.Leaving.{BinStays, IsAfter, IsLeaving, IsNextLeaving, IsNextOfBin, NoneLeaves, bin_at, earlier_of}
 use Rattle.mp_bins.proofs.Searching.{change_found, control_at_note}
 
-module _ (notes : Notes) (stage worker : ℕ) (after : Option (ℕ × ℕ)) where
+module _ (notes : Notes) (stage worker : ℕ) (after : Option TimedBin) where
   -- what a walk over one bin finds
   abbrev pub IsFoundAt : ℕ → Option Move → Type 0
   IsFoundAt bin found = MatchOption found (BinStays notes stage worker bin after) (IsNextOfBin notes stage worker bin after)
@@ -26,7 +27,7 @@ module _ (notes : Notes) (stage worker : ℕ) (after : Option (ℕ × ℕ)) wher
     pub leaves : IsLeaving notes stage worker move.bin move.time
     pub told : move ≡ move_of notes (Packet stage move.bin move.time)
     pub later : IsAfter after move.time move.bin
-    pub least : (bin time : ℕ) → bin < limit → IsLeaving notes stage worker bin time → IsAfter after time bin → IsAfter (Some (time, bin)) move.time move.bin → ⊥
+    pub least : (bin time : ℕ) → bin < limit → IsLeaving notes stage worker bin time → IsAfter after time bin → IsAfter (Some (bin_at time bin)) move.time move.bin → ⊥
 
   abbrev pub NoneBelow : ℕ → Type 0
   NoneBelow limit = (bin time : ℕ) → bin < limit → IsLeaving notes stage worker bin time → IsAfter after time bin → ⊥
@@ -53,7 +54,7 @@ module _ (notes : Notes) (stage worker : ℕ) (after : Option (ℕ × ℕ)) wher
     least = λ bin time l. ⊎_elim (λ (k : bin < limit). h.least bin time k) (λ (e : bin ≡ limit). of_this time bin e) (last_bin bin limit l);
   }
     where
-      of_this : (time bin : ℕ) → bin ≡ limit → IsLeaving notes stage worker bin time → IsAfter after time bin → IsAfter (Some (time, bin)) m.time m.bin → ⊥
+      of_this : (time bin : ℕ) → bin ≡ limit → IsLeaving notes stage worker bin time → IsAfter after time bin → IsAfter (Some (bin_at time bin)) m.time m.bin → ⊥
       of_this time bin e leaving later before =
           ⊎_elim
           (λ (l : time < m.time). none time (subst (λ (b : ℕ). IsLeaving notes stage worker b time) e leaving) (subst (λ (b : ℕ). IsAfter after time b) e later) l)
@@ -70,10 +71,10 @@ module _ (notes : Notes) (stage worker : ℕ) (after : Option (ℕ × ℕ)) wher
     least = λ bin time l leaving later before. ⊎_elim (λ (k : bin < limit). none bin time k leaving later (upto bin time before)) (λ (e : bin ≡ limit). of_this time bin e leaving later before) (last_bin bin limit l);
   }
     where
-      upto : (bin time : ℕ) → IsAfter (Some (time, bin)) n.time n.bin → time ≤ n.time
+      upto : (bin time : ℕ) → IsAfter (Some (bin_at time bin)) n.time n.bin → time ≤ n.time
       upto bin time before = ⊎_elim (λ (l : time < n.time). omega arith) (λ (l : (time ≡ n.time) × (bin < n.bin)). let e = l.0 in omega arith) before
 
-      of_this : (time bin : ℕ) → bin ≡ limit → IsLeaving notes stage worker bin time → IsAfter after time bin → IsAfter (Some (time, bin)) n.time n.bin → ⊥
+      of_this : (time bin : ℕ) → bin ≡ limit → IsLeaving notes stage worker bin time → IsAfter after time bin → IsAfter (Some (bin_at time bin)) n.time n.bin → ⊥
       of_this time bin e leaving later before =
           ⊎_elim
           (λ (l : time < n.time). h.least time (subst (λ (b : ℕ). IsLeaving notes stage worker b time) e leaving) (subst (λ (b : ℕ). IsAfter after time b) e later) l)

@@ -3,6 +3,7 @@ use Rattle.std.specs.Prelude.{◌≡◌, ℕ, suc, ◌+◌, ◌<◌, ◌≤◌, 
 use Rattle.mp_names.specs.declared.names.Name.TheVariants.{Packet}
 use Rattle.mp_names.specs.declared.controls.Control.{Control}
 use Rattle.mp_names.specs.declared.controls.Move.{Move}
+use Rattle.mp_names.specs.declared.pointstamps.TimedBin.{TimedBin}
 use Rattle.mp_names.specs.Controls.{owner_below, is_change, move_in}
 use Rattle.mp_bins.specs.declared.finding.StageBin.{StageBin}
 use Rattle.mp_bins.specs.declared.owners.Note.{Note}
@@ -12,24 +13,28 @@ use Rattle.mp_bins.specs.Notes.{Notes, IsSplitAt, note_at, owner_before, is_move
 abbrev pub IsLeaving : Notes → ℕ → ℕ → ℕ → ℕ → Type 0
 IsLeaving notes stage worker bin time = (is_move_of notes (Packet stage bin time) ≡ true) × (owner_before notes stage bin time ≡ worker)
 
--- this time and bin come after a place, which is a time and a bin, if there is one
-abbrev pub IsAfter : Option (ℕ × ℕ) → ℕ → ℕ → Type 0
+-- the bin at the time
+abbrev pub bin_at : ℕ → ℕ → TimedBin
+bin_at time bin = record { time = time; bin = bin }
+
+-- this time and bin come after another, if there is one
+abbrev pub IsAfter : Option TimedBin → ℕ → ℕ → Type 0
 IsAfter None time bin = Unit {0}
-IsAfter (Some place) time bin = (place.0 < time) ⊎ ((place.0 ≡ time) × (place.1 < bin))
+IsAfter (Some last) time bin = (last.time < time) ⊎ ((last.time ≡ time) × (last.bin < bin))
 
 -- the move by which a bin of the stage leaves the worker, and by time and then by bin no other one between the place and this one
-pub record IsNextLeaving (notes : Notes) (stage worker : ℕ) (after : Option (ℕ × ℕ)) (move : Move) : Type 0 where
+pub record IsNextLeaving (notes : Notes) (stage worker : ℕ) (after : Option TimedBin) (move : Move) : Type 0 where
   pub leaves : IsLeaving notes stage worker move.bin move.time
   pub told : move ≡ move_of notes (Packet stage move.bin move.time)
   pub later : IsAfter after move.time move.bin
-  pub least : (bin time : ℕ) → IsLeaving notes stage worker bin time → IsAfter after time bin → IsAfter (Some (time, bin)) move.time move.bin → ⊥
+  pub least : (bin time : ℕ) → IsLeaving notes stage worker bin time → IsAfter after time bin → IsAfter (Some (bin_at time bin)) move.time move.bin → ⊥
 
 -- no bin of the stage leaves the worker after the place
-abbrev pub NoneLeaves : Notes → ℕ → ℕ → Option (ℕ × ℕ) → Type 0
+abbrev pub NoneLeaves : Notes → ℕ → ℕ → Option TimedBin → Type 0
 NoneLeaves notes stage worker after = (bin time : ℕ) → IsLeaving notes stage worker bin time → IsAfter after time bin → ⊥
 
 -- the same for one bin
-pub record IsNextOfBin (notes : Notes) (stage worker bin : ℕ) (after : Option (ℕ × ℕ)) (move : Move) : Type 0 where
+pub record IsNextOfBin (notes : Notes) (stage worker bin : ℕ) (after : Option TimedBin) (move : Move) : Type 0 where
   pub of_bin : move.bin ≡ bin
   pub leaves : IsLeaving notes stage worker bin move.time
   pub told : move ≡ move_of notes (Packet stage bin move.time)
@@ -37,7 +42,7 @@ pub record IsNextOfBin (notes : Notes) (stage worker bin : ℕ) (after : Option 
   pub least : (time : ℕ) → IsLeaving notes stage worker bin time → IsAfter after time bin → time < move.time → ⊥
 
 -- the bin doesn't leave the worker after the place
-abbrev pub BinStays : Notes → ℕ → ℕ → ℕ → Option (ℕ × ℕ) → Type 0
+abbrev pub BinStays : Notes → ℕ → ℕ → ℕ → Option TimedBin → Type 0
 BinStays notes stage worker bin after = (time : ℕ) → IsLeaving notes stage worker bin time → IsAfter after time bin → ⊥
 
 -- the move of the earlier time, the first of two at one time

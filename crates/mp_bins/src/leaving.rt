@@ -5,7 +5,7 @@ ghost use Rattle.mp_bins.specs.Leaving.{IsAfter, IsFirstLeaving, IsOwnerAfter, L
 
 use crate::finding::{StageBin, count_below, is_of, owner_by};
 use crate::owners::Note;
-use mp_names::Move;
+use mp_names::{Move, TimedBin};
 
 /// The first move from `start` on by which the bin leaves the worker.
 pub fn leaving_from(notes: &[Note], of: StageBin, worker: u32, start: u128) -> Option<Move>
@@ -49,12 +49,12 @@ fn owner_after(notes: &[Note], at: usize, owner: u32) -> u32
 }
 
 /// The first time at which the bin comes after a place.
-pub fn first_time(after: Option<(u64, u32)>, bin: u32) -> u128
+pub fn first_time(after: Option<TimedBin>, bin: u32) -> u128
     ensures { (time : _) → (IsAfter after time bin ↔ (result ≤ time)) }
 {
     match after {
-        Some((time, last)) if last < bin => u128::from(time),
-        Some((time, _)) => u128::from(time) + 1,
+        Some(last) if last.bin < bin => u128::from(last.time),
+        Some(last) => u128::from(last.time) + 1,
         None => 0,
     }
 }

@@ -1,3 +1,5 @@
+//! Layer: values, files and text.
+//!
 //! Bins of keys, and who owns a bin at each time, as the control records that were noted say.
 #![tactic(auto)]
 
@@ -7,10 +9,8 @@ mod laws;
 mod leaving;
 mod owners;
 mod places;
-#[cfg(test)]
-mod tests;
 
 pub use bin::bin_of;
 pub use laws::{bins_are_leading_bits, order_does_not_matter, owners_are_told_by_notes};
 pub use mp_names::{Control, Move, Shape};
-pub use owners::Owners;
+pub use owners::{Owners, first_owner};

@@ -7,7 +7,7 @@ ghost use Rattle.mp_bins.specs.Leaving.{BinStays, IsNextLeaving, IsNextOfBin, No
 use crate::finding::{StageBin, owner_below, place_for};
 use crate::leaving::{earlier, first_time, leaving_from};
 use crate::places::{Place, places_of};
-use mp_names::{Control, Move, Shape, Time};
+use mp_names::{Control, Move, Shape, Time, TimedBin};
 use std::alloc::{AllocError, Global};
 use std::marker::Model;
 
@@ -144,7 +144,7 @@ impl Owners {
 
     /// The next move, by time and then by bin, by which a bin of a stage leaves a worker, of those after a
     /// place (a time and a bin); of all where there is none. `None` where none is left. By what was noted.
-    pub fn next_leaving(&self, stage: u32, worker: u32, after: Option<(u64, u32)>) -> Option<Move>
+    pub fn next_leaving(&self, stage: u32, worker: u32, after: Option<TimedBin>) -> Option<Move>
         requires { stage < self.now.shape.stages }
         ensures next { IfSome result (IsNextLeaving self.now stage worker after) }
         ensures none_left { IfNone result (NoneLeaves self.now stage worker after) }
@@ -157,7 +157,7 @@ impl Owners {
     }
 
     // The same for one bin.
-    fn leaving(&self, stage: u32, worker: u32, bin: u32, after: Option<(u64, u32)>) -> Option<Move>
+    fn leaving(&self, stage: u32, worker: u32, bin: u32, after: Option<TimedBin>) -> Option<Move>
         ensures next { IfSome result (IsNextOfBin self.now stage worker bin after) }
         ensures none_left { IfNone result (BinStays self.now stage worker bin after) }
     {
@@ -183,7 +183,16 @@ impl Owners {
         StageBin {
             stage,
             bin,
-            first: bin % self.shape.workers,
+            first: first_owner(self.shape, bin),
         }
     }
+}
+
+/// The owner of a bin of each stage before any control record is noted: worker `bin` modulo the number of workers (this
+/// project's profile). There is at least one worker.
+pub fn first_owner(shape: Shape, bin: u32) -> u32
+    requires { 0 < shape.workers }
+    ensures { result ≡ first_owner shape bin }
+{
+    bin % shape.workers
 }

@@ -1,9 +1,8 @@
+//! Layer: values, files and text.
+//!
 //! A gate that workers pass before they make a step. It changes nothing of the product's: a test can
 //! watch there, or hold a worker back, without a body of its own for the product.
 #![tactic(auto)]
-
-#[cfg(test)]
-mod tests;
 
 pub use mp_names::Kind;
 

@@ -3,5 +3,4 @@ pub mod Laws
 pub mod Legal
 pub mod Parts
 pub mod Records
-pub mod Samples
 pub mod Times

@@ -1,3 +1,5 @@
+//! Layer: a job.
+//!
 //! A job: a query with its events, its control records and its shape; which records each worker takes in; and the
 //! times at which something happens. Nothing here applies a group.
 #![tactic(auto)]
@@ -6,10 +8,9 @@ mod job;
 mod laws;
 mod records;
 mod shares;
-#[cfg(test)]
-mod tests;
 mod times;
 
 pub use job::Job;
 pub use laws::{shares_hold_each_record_once, times_are_ascending};
 pub use mp_model::{Control, Event, Query, Rec, Shape, Time};
+pub use times::put_in_order;

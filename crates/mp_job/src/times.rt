@@ -82,8 +82,8 @@ fn add_control_times(controls: &[Control], times: &mut Vec<Time>) -> Result<(), 
     Ok(())
 }
 
-// Puts times in order, and keeps each once.
-fn put_in_order(times: &mut Vec<Time>)
+/// Puts times in order, and keeps each once.
+pub fn put_in_order(times: &mut Vec<Time>)
     ensures { times.new.items ≡ ascending times.old.items }
 {
     times.sort_unstable();

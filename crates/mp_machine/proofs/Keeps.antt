@@ -4,15 +4,14 @@ use Rattle.mp_names.specs.declared.names.Name.{Name}
 use Rattle.mp_names.specs.declared.names.Name.TheVariants.{Packet, Group, Settled, Written}
 use Rattle.mp_names.specs.declared.locations.Loc.{Loc}
 use Rattle.mp_names.specs.declared.locations.Loc.TheVariants.{CtlMail, Mail, State, Host, OutMail}
-use Rattle.mp_names.specs.declared.locations.Frontier.{Frontier}
-use Rattle.mp_names.specs.declared.locations.Frontier.TheVariants.{At, Done}
 use Rattle.mp_names.specs.declared.kinds.Kind.{Kind}
 use Rattle.mp_names.specs.declared.kinds.Kind.TheVariants.{Ingest, SendControl, Route, Receive, Extract, Settle, Apply, SendRow, Write, Exchange}
 use Rattle.mp_names.specs.Names.{IsLeast, is_ctrl, is_rec, is_row}
 use Rattle.mp_names.specs.Outlines.{Outline, OutlineIsSound, time_of}
 use Rattle.mp_names.specs.Logs.{Log, LogIsLegal, LogGrows, with_sent, with_applied, with_settled}
-use Rattle.mp_names.specs.Frontiers.{HasPassed, HasReached, IsClosedForOne}
+use Rattle.mp_names.specs.Frontiers.{HasPassed, IsClosedForOne}
 use Rattle.mp_names.specs.Keeping.{IsUnsettled, IsWaiting, IsUnwritten, GroupIsWhole}
+use Rattle.mp_names.proofs.Exact.{passed_below}
 use Rattle.mp_names.proofs.Lists.{prefix_refl, prefix_push}
 use Rattle.mp_names.proofs.Grows.{grows_refl}
 use Rattle.mp_names.proofs.Listed.{groups_are}
@@ -22,10 +21,6 @@ use Rattle.std.proofs.lemmas.Bool.{eqb-true}
 use Rattle.mp_machine.specs.Worlds.{Worker}
 use Rattle.mp_machine.specs.Steps.{IsDue, IsNext, IsReady, MayLeave, MaySettle, MayApply, logged}
 use Rattle.mp_machine.specs.Promises.{ComesRightly}
-
-pub passed_below : (f : Frontier) (t u : ℕ) → HasReached f t → u < t → HasPassed f u
-passed_below (At v) t u h l = omega arith
-passed_below Done t u h l = tt
 
 -- the log with one name more has grown
 pub logged_grows : (kind : Kind) (log : Log) (x : Name) → LogGrows log (logged kind log x)

@@ -41,22 +41,22 @@ each n kind i l = in_joined n (λ i. kind i ∷ []) i (kind i) l (here (kind i) 
 
 -- the beginning of the list of kinds, to the end of each of its parts
 
-abbrev to_route : Outline → List Kind
+abbrev pub to_route : Outline → List Kind
 to_route o = Ingest ∷ SendControl ∷ [] ++ each_below o.stages Route
 
-abbrev to_receive : Outline → List Kind
+abbrev pub to_receive : Outline → List Kind
 to_receive o = to_route o ++ each_below o.workers Receive
 
-abbrev to_extract : Outline → List Kind
+abbrev pub to_extract : Outline → List Kind
 to_extract o = to_receive o ++ each_below o.stages Extract
 
-abbrev to_settle : Outline → List Kind
+abbrev pub to_settle : Outline → List Kind
 to_settle o = to_extract o ++ each_below o.stages Settle
 
-abbrev to_apply : Outline → List Kind
+abbrev pub to_apply : Outline → List Kind
 to_apply o = to_settle o ++ each_below o.stages Apply
 
-abbrev last_ones : List Kind
+abbrev pub last_ones : List Kind
 last_ones = SendRow ∷ Write ∷ Exchange ∷ []
 
 in_apply : (o : Outline) (kind : Kind) → Contains (to_apply o) kind → Contains (kinds_of o) kind
@@ -111,14 +111,14 @@ some_passes {X} p (y ∷ ys) =
 
 -- how many there are
 
-length_each : (n : ℕ) (kind : ℕ → Kind) → length (each_below n kind) ≡ n
+pub length_each : (n : ℕ) (kind : ℕ → Kind) → length (each_below n kind) ≡ n
 length_each zero kind = refl
 length_each (suc n) kind =
     let a : length (each_below (suc n) kind) ≡ length (each_below n kind) + length (kind n ∷ []) = length-append (each_below n kind) (kind n ∷ []) in
     let b = length_each n kind in
     omega arith
 
-length_kinds : (o : Outline) → length (kinds_of o) ≡ 4 * o.stages + o.workers + 5
+pub length_kinds : (o : Outline) → length (kinds_of o) ≡ 4 * o.stages + o.workers + 5
 length_kinds o =
     let a = length-append (to_apply o) last_ones in
     let b = length-append (to_settle o) (each_below o.stages Apply) in
@@ -134,7 +134,7 @@ length_kinds o =
     let l : length (kinds_of o) ≡ length (to_apply o) + length last_ones = a in
     omega arith
 
-length_joined : (n m : ℕ) (f : ℕ → List (ℕ × Kind)) → ((w : ℕ) → length (f w) ≡ m) → length (joined_below n f) ≡ n * m
+pub length_joined : {X : Type 0} (n m : ℕ) (f : ℕ → List X) → ((w : ℕ) → length (f w) ≡ m) → length (joined_below n f) ≡ n * m
 length_joined zero m f h = omega arith
 length_joined (suc n) m f h =
     let a : length (joined_below n f ++ f n) ≡ length (joined_below n f) + length (f n) = length-append (joined_below n f) (f n) in

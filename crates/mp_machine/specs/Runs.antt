@@ -1,17 +1,17 @@
 -- Runs: the turn of each step, the world after a list of steps, and when all is over.
-use Rattle.std.specs.Prelude.{◌≡◌, ℕ, ◌<◌, Bool, true, false, cond, List, [], ◌∷◌, count_by, Option}
+use Rattle.std.specs.Prelude.{◌≡◌, ℕ, Bool, true, false, cond, List, [], ◌∷◌, count_by, Option}
 use Rattle.std.specs.Option.{option_map_or}
 use Rattle.mp_names.specs.declared.names.Name.{Name}
 use Rattle.mp_names.specs.declared.names.Name.TheVariants.{Row, Written}
 use Rattle.mp_names.specs.declared.names.Tag.{Tag}
 use Rattle.mp_names.specs.declared.locations.Loc.{Loc}
-use Rattle.mp_names.specs.declared.locations.Loc.TheVariants.{Route, Mail, Move, State, Host}
 use Rattle.mp_names.specs.declared.locations.Frontier.TheVariants.{Done}
 use Rattle.mp_names.specs.declared.kinds.Kind.{Kind}
 use Rattle.mp_names.specs.declared.kinds.Kind.TheVariants.{Exchange}
 use Rattle.mp_names.specs.Names.{In}
 use Rattle.mp_names.specs.Outlines.{Outline}
 use Rattle.mp_names.specs.Frontiers.{IsFrontier}
+use Rattle.mp_names.specs.Locations.{IsLocation}
 use Rattle.mp_machine.specs.Worlds.{World, posted_logs, start_of_machine}
 use Rattle.mp_machine.specs.Steps.{stepped, exchanged, version_after}
 use Rattle.mp_machine.specs.Tests.{next_name, is_allowed, can_exchange}
@@ -64,21 +64,12 @@ is_made _ = true
 abbrev pub made_count : List Turn → ℕ
 made_count turns = count_by is_made turns
 
--- the location is one of the outline's
-abbrev pub IsLocation : Outline → Loc → Type 0
-IsLocation o (Route j) = j < o.stages
-IsLocation o (Mail j) = j < o.stages
-IsLocation o (Move j) = j < o.stages
-IsLocation o (State j) = j < o.stages
-IsLocation o (Host j) = j < o.stages
-IsLocation o _ = Unit {0}
-
 -- All is over: every frontier of the board is Done, and every answer row is written
 pub record IsFinished (o : Outline) (world : World) : Type 0 where
-  pub done : (at : Loc) → IsLocation o at → IsFrontier o (posted_logs world) at Done
+  pub done : (at : Loc) → IsLocation o.stages at → IsFrontier o (posted_logs world) at Done
   pub written : (t : ℕ) (g : Tag) → In (Row t g) o.rows → In (Written t) (world.worker 0).log.settled
 
 -- A worker knows that all is over: every frontier that it saw is Done, and worker 0 has written every row that it took
 pub record WorkerIsFinished (o : Outline) (world : World) (w : ℕ) : Type 0 where
-  pub done : (at : Loc) → IsLocation o at → (world.worker w).seen at ≡ Done
+  pub done : (at : Loc) → IsLocation o.stages at → (world.worker w).seen at ≡ Done
   pub written : w ≡ 0 → (t : ℕ) (g : Tag) → In (Row t g) (world.worker w).log.took → In (Written t) (world.worker w).log.settled

@@ -1,3 +1,5 @@
+//! Layer: the protocol, on names.
+//!
 //! The machine of ten kinds of step, its runs, and what holds in every run: the protocol by which
 //! workers route records, hand over bins and apply groups, on names alone.
 #![tactic(auto)]

@@ -1,3 +1,5 @@
+//! Layer: between workers: mailboxes and the lock.
+//!
 //! Mailboxes between workers: the trait `Post`, and plain queues for one thread.
 #![tactic(auto)]
 
@@ -6,6 +8,3 @@ mod post;
 
 pub use plain::PlainPost;
 pub use post::{Full, Named, Post};
-
-#[cfg(test)]
-mod tests;

@@ -49,7 +49,7 @@ prefix_once xs ys p d = go xs (subst Distinct (sym p.1) d)
     go (x ∷ xs) h = (false_from_ne_true (has xs x) (λ i. both_ways (has (xs ++ p.0) x) h.0 (In_left x xs p.0 i)), go xs h.1)
 
 -- a list of which each name passes a test, of which those that pass stand once
-once_by_tests : (xs : List Name) → ((x : Name) → In x xs → (p : Name → Bool) × (p x ≡ true) × Distinct (filter p xs)) → Distinct xs
+pub once_by_tests : (xs : List Name) → ((x : Name) → In x xs → (p : Name → Bool) × (p x ≡ true) × Distinct (filter p xs)) → Distinct xs
 once_by_tests [] h = tt
 once_by_tests (y ∷ ys) h = (
   false_from_ne_true (has ys y) (λ i. let r = h y (In_here y ys) in twice r.0 r.1 (r.0 y) r.1 r.2 i),

@@ -1,4 +1,5 @@
 pub mod Lists
+pub mod NameParts
 pub mod Orders
 pub mod Mails
 pub mod Owners

@@ -11,6 +11,7 @@ use Rattle.mp_names.specs.Controls.{control_of}
 use Rattle.mp_names.specs.Outlines.{Outline, OutlineIsSound, control_at, time_of, owner_before, owner_at, group_owner, IsMove, is_moving, packets_of, is_posted, groups_made, groups_of, HasControl, control_times, answer_times, sender, receiver, IsOwed, IsOwedBy, IsOwedTo, ctrl_names, owed_names, owed_by, owed_to}
 use Rattle.mp_names.specs.Laws.{IsCaused}
 use Rattle.mp_names.proofs.Lists.{In_here, In_later, In_cases, In_left, In_right, In_append, In_filter, filter_In, In_joined, joined_In, Distinct_append, Distinct_joined}
+use Rattle.mp_names.proofs.NameParts.{stage_in}
 use Rattle.mp_names.proofs.Orders.{ascending_ascends, In_ascending, ascending_In, ascending_once, filter_ascends}
 use Rattle.mp_names.proofs.Owners.{move_found, owner_is_worker, move_in_shape}
 
@@ -247,10 +248,6 @@ row_owed o ok x h = absurd (false≢true (ok.rows_are x h))
 
 -- all that is owed
 
-stage_in : Name → ℕ
-stage_in (Rec j t k g) = j
-stage_in _ = 0
-
 is_some_rec : Name → Bool
 is_some_rec (Rec j t k g) = true
 is_some_rec _ = false
@@ -259,7 +256,7 @@ apart : (p : Name → Bool) (xs ys : List Name) → ((x : Name) → In x xs → 
 apart p xs ys h k x i = false_from_ne_true (has ys x) (λ j. both_ways (p x) (k x j) (h x i))
 
 record_form : (o : Outline) → OutlineIsSound o → (j : ℕ) (x : Name) → In x (o.records j) → (stage_in x ≡ j) × (is_some_rec x ≡ true) × (is_ctrl x ≡ false)
-unfolding stage_in is_some_rec
+unfolding is_some_rec
 record_form o ok j (Rec i t k g) h = (eqb-true i j (ok.records_are j (Rec i t k g) h).1, refl, refl)
 record_form o ok j x h = absurd (false≢true (ok.records_are j x h).1)
 

@@ -1,5 +1,5 @@
 -- Lists of names as sets: what stands in them, and how many pass a test.
-use Rattle.std.proofs.Common.{◌≡◌, ℕ, zero, suc, ◌+◌, ◌<◌, ◌≤◌, ◌⊎◌, Bool, true, false, cond, ◌&&◌, ◌||◌, ◌==◌, List, [], ◌∷◌, ◌++◌, count_by, filter, refl, sym, ap, ◌∙◌, subst, inl, inr, ⊎_elim, arith, append_assoc, append-nil}
+use Rattle.std.proofs.Common.{◌≡◌, ℕ, zero, suc, ◌+◌, ◌<◌, ◌≤◌, ◌⊎◌, Bool, true, false, cond, ◌&&◌, ◌||◌, ◌==◌, List, [], ◌∷◌, ◌++◌, count_by, filter, length, refl, sym, ap, ◌∙◌, subst, inl, inr, ⊎_elim, arith, append_assoc, append-nil}
 use Rattle.std.specs.List.{list_any}
 use Rattle.std.proofs.lemmas.Bool.{false≢true, eqb-true, eq-eqb, and_parts, and_from, and_right, or_cases, or_left, or_right, cases_Bool, false_from_ne_true, both_ways}
 use Rattle.std.proofs.lemmas.List.Sums.{sum_by-cons}
@@ -309,6 +309,19 @@ count_agree p q (y ∷ ys) h =
 
 pub same_count : (p : Name → Bool) (ts ss : List Name) → Distinct ts → Distinct ss → ((x : Name) → In x ts → p x ≡ true → In x ss) → ((x : Name) → In x ss → p x ≡ true → In x ts) → count_by p ss ≡ count_by p ts
 same_count p ts ss d e h k = sym (count_inside p ts ss d e h ∙ count_agree (λ y. p y && has ts y) p ss (λ x i. and_all (p x) (has ts x) (k x i)))
+
+passed_one : (b : Bool) → b ≡ true → cond {A = ℕ} b 1 0 ≡ 1
+passed_one true e = refl
+passed_one false e = absurd (false≢true e)
+
+-- where all pass as many do as there are
+pub all_counted : (p : Name → Bool) (xs : List Name) → ((x : Name) → In x xs → p x ≡ true) → count_by p xs ≡ length xs
+all_counted p [] h = refl
+all_counted p (x ∷ xs) h =
+    let a = counted p x xs in
+    let b = passed_one (p x) (h x (In_here x xs)) in
+    let c = all_counted p xs (λ y i. h y (In_later y x xs i)) in
+    omega arith
 
 -- lists that are joined, mapped and gathered
 

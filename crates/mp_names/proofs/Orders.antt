@@ -174,7 +174,7 @@ rest_ascends : (xs ys : List Name) → IsAscending (xs ++ ys) → IsAscending ys
 rest_ascends [] ys h = h
 rest_ascends (x ∷ xs) ys h = rest_ascends xs ys h.1
 
-before_rest : (xs ys : List Name) → IsAscending (xs ++ ys) → (x y : Name) → In x xs → In y ys → Less x y
+pub before_rest : (xs ys : List Name) → IsAscending (xs ++ ys) → (x y : Name) → In x xs → In y ys → Less x y
 before_rest [] ys h x y i k = absurd (false≢true i)
 before_rest (z ∷ xs) ys h x y i k =
     ⊎_elim

@@ -10,6 +10,7 @@ use Rattle.mp_names.specs.Logs.{LogIsLegal, LogsAreLegal, empty_log, with_ingest
 use Rattle.mp_names.specs.Frontiers.{log_at}
 use Rattle.mp_names.specs.Samples.{tag, two_moves, two_bids, TwoMovesAreSound, first_bid, second_bid, posted_early}
 use Rattle.mp_names.proofs.Lists.{In_cases}
+use Rattle.mp_names.proofs.NameParts.{key_in}
 use Rattle.mp_names.proofs.Keeps.{empty_is_legal, ingested_keeps, held_keeps, took_keeps}
 
 -- what holds of each name of a list, shown name by name
@@ -21,10 +22,6 @@ each : (P : Name → Type 0) (y : Name) (ys : List Name) → P y → ((x : Name)
 each P y ys h k x i = ⊎_elim (λ (e : y ≡ x). subst P e h) (λ (j : In x ys). k x j) (In_cases x y ys i)
 
 -- records that stand by index are told apart by their tags
-
-abbrev key_in : Name → ℕ
-key_in (Rec j t k g) = k
-key_in _ = 0
 
 index_tells : (xs : List Name) → StandByIndex xs → (j t k l : ℕ) (g : Tag) → In (Rec j t k g) xs → In (Rec j t l g) xs → k ≡ l
 index_tells [] s j t k l g h i = absurd (false≢true h)

@@ -1,8 +1,17 @@
 -- Where work is counted, and what could result in what.
-use Rattle.std.specs.Prelude.{◌≡◌, ℕ, suc, ◌⊎◌, Bool, true, false, ◌==◌, nat_lt, nat_le, List, [], ◌∷◌, ◌++◌}
+use Rattle.std.specs.Prelude.{◌≡◌, ℕ, suc, ◌<◌, ◌⊎◌, Bool, true, false, ◌==◌, nat_lt, nat_le, List, [], ◌∷◌, ◌++◌}
 use Rattle.mp_names.specs.declared.locations.Loc.{Loc}
 use Rattle.mp_names.specs.declared.locations.Loc.TheVariants.{Ctl, CtlMail, Source, Route, Mail, Move, State, Host, OutRoute, OutMail}
 use Rattle.mp_names.specs.Names.{joined_below}
+
+-- a job of this many stages has the location
+abbrev pub IsLocation : ℕ → Loc → Type 0
+IsLocation stages (Route j) = j < stages
+IsLocation stages (Mail j) = j < stages
+IsLocation stages (Move j) = j < stages
+IsLocation stages (State j) = j < stages
+IsLocation stages (Host j) = j < stages
+IsLocation stages _ = Unit {0}
 
 -- the edges of the dataflow: what leaves the first location comes to the second. The outputs of a stage go to the next one, or, from the last, to the answer
 abbrev pub Feeds : Loc → Loc → Type 0

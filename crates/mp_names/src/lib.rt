@@ -1,3 +1,5 @@
+//! Layer: the protocol, on names.
+//!
 //! The theory at the bottom of the protocol: the names of a job's things, the outline of a job, the
 //! logs of its workers, what their counts tell, and the theorem that frontiers are exact. It knows no
 //! query, no cell and no value.
@@ -21,7 +23,7 @@ pub use laws::{
 };
 pub use locations::{Frontier, Loc};
 pub use names::{Name, Tag};
-pub use pointstamps::{Change, ControlCursor, Count, Pointstamp, TimedBin, TimedCount, TimedKey};
+pub use pointstamps::{Change, ControlCursor, Count, Pointstamp, TimedBin};
 
 /// A time of an event, in the units of the event file.
 pub type Time = u64;

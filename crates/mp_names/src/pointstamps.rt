@@ -29,15 +29,6 @@ pub struct Count {
     pub count: i64,
 }
 
-/// A key at a time: a wake of a stage, or one of its groups. Ordered by time, then by key.
-#[derive(Clone, Copy, PartialEq, Eq, PartialOrd, Ord, Hash, Debug)]
-pub struct TimedKey {
-    /// In units of the event file.
-    pub time: Time,
-    /// Of the records of the stage.
-    pub key: u64,
-}
-
 /// A bin at the time of its move, as the packets of a stage are ordered: by time, then by bin.
 #[derive(Clone, Copy, PartialEq, Eq, PartialOrd, Ord, Hash, Debug)]
 pub struct TimedBin {
@@ -45,15 +36,6 @@ pub struct TimedBin {
     pub time: Time,
     /// From 0.
     pub bin: u32,
-}
-
-/// How many groups of a stage begin or cease to wait at a time.
-#[derive(Clone, Copy, PartialEq, Eq, Hash, Debug)]
-pub struct TimedCount {
-    /// In units of the event file.
-    pub time: Time,
-    /// How many groups.
-    pub count: u64,
 }
 
 /// The next control record that worker 0 sends: each goes to every worker in turn.

@@ -5,6 +5,7 @@ use Rattle.std.proofs.lemmas.List.Elements.{All-contains_itself, All-weaker}
 use Rattle.mp_names.specs.declared.names.Name.TheVariants.{Rec as RecName}
 use Rattle.mp_names.specs.declared.names.Tag.{Tag}
 use Rattle.mp_names.specs.Names.{In}
+use Rattle.mp_names.proofs.NameParts.{same_parts}
 use Rattle.mp_model.specs.declared.record.Rec.{Rec}
 use Rattle.mp_model.specs.Entry.{Entry}
 use Rattle.mp_model.specs.Facts.{JobFacts, QueryFacts}
@@ -17,7 +18,7 @@ use Rattle.mp_outline.proofs.Found.{found, found_there}
 use Rattle.mp_outline.proofs.Outputs.{group_is, timeline_rises}
 use Rattle.mp_outline.proofs.Pairs.{AllPairs-Pairs, Pairs-filter, Pairs-within}
 use Rattle.mp_outline.proofs.Records.{records_in_order}
-use Rattle.mp_outline.proofs.Stages.{name_stands, record_named, same_parts}
+use Rattle.mp_outline.proofs.Stages.{name_stands, record_named}
 
 module _ {Cell : Type 0} (q : QueryFacts Cell) (job : JobFacts) where
   -- a record of a group is a record of the stage with its time and key

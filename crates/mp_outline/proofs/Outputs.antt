@@ -24,12 +24,12 @@ abbrev output_of : ℕ → ℕ → ℕ × Value → Output
 output_of t k p = record { time = t; tag = record { 0 = k; 1 = p.0 }; value = p.1 }
 
 -- they have its time, and tags of its key
-outputs_are : (t k : ℕ) (values : List Value) (o : Output) → Contains (outputs_at t k values) o → (o.time ≡ t) × (o.tag.0 ≡ k)
+pub outputs_are : (t k : ℕ) (values : List Value) (o : Output) → Contains (outputs_at t k values) o → (o.time ≡ t) × (o.tag.0 ≡ k)
 outputs_are t k values o h =
     let a = found (λ p. output_of t k p ≡ o) (enumerate_from 0 values) (Contains-map (output_of t k) (enumerate_from 0 values) o h) in
     (ap (λ (p : Output). p.time) (sym a.2), ap (λ (p : Output). p.tag.0) (sym a.2))
 
-outputs_in_order : (t k : ℕ) (values : List Value) → Pairs OutputsInOrder (outputs_at t k values)
+pub outputs_in_order : (t k : ℕ) (values : List Value) → Pairs OutputsInOrder (outputs_at t k values)
 outputs_in_order t k values =
     Pairs-map (λ (p r : ℕ × Value). p.0 < r.0) OutputsInOrder (output_of t k) (λ p r l e. inr (refl, l)) (enumerate_from 0 values) (places_rise 0 values)
 
@@ -70,7 +70,7 @@ module _ {Cell : Type 0} (q : QueryFacts Cell) (j : ℕ) where
 
   -- The outputs of several groups
 
-  along_are : (cell : Cell) (es : List Entry) (o : Output) → Contains (outputs_along q j cell es) o → (e : Entry) × Contains es e × (o.time ≡ e.time) × (o.tag.0 ≡ e.key)
+  pub along_are : (cell : Cell) (es : List Entry) (o : Output) → Contains (outputs_along q j cell es) o → (e : Entry) × Contains es e × (o.time ≡ e.time) × (o.tag.0 ≡ e.key)
   along_are cell [] o h = absurd (nothing_in_nil o h)
   along_are cell (e ∷ es) o h =
       ⊎_elim

@@ -8,6 +8,7 @@ use Rattle.mp_names.specs.declared.names.Tag.{Tag}
 use Rattle.mp_names.specs.Names.{Distinct, In, is_rec, is_row}
 use Rattle.mp_names.specs.Controls.{no_control}
 use Rattle.mp_names.specs.Outlines.{control_at, groups_of, is_posted, IsInShape, OutlineIsSound, StandByIndex, time_of}
+use Rattle.mp_names.proofs.NameParts.{same_parts, same_row}
 use Rattle.mp_bins.specs.Bins.{bin_of_key, hash_of, IsBinCount}
 use Rattle.mp_model.specs.declared.record.Output.{Output}
 use Rattle.mp_model.specs.declared.record.Rec.{Rec}
@@ -22,7 +23,7 @@ use Rattle.mp_outline.proofs.Outputs.{output_is, stage_outputs_in_order}
 use Rattle.mp_outline.proofs.Pairs.{Pairs-weaker}
 use Rattle.mp_outline.proofs.Posts.{post_is_later}
 use Rattle.mp_outline.proofs.Records.{ByIndex, given, inputs_by_index, records_in_order, same_record}
-use Rattle.mp_outline.proofs.Stages.{group_named, post_named, record_named, same_parts}
+use Rattle.mp_outline.proofs.Stages.{group_named, post_named, record_named}
 use Rattle.mp_outline.proofs.Tags.{tag_irreflexive}
 
 -- The bin of a key is one of the bins
@@ -34,24 +35,10 @@ bin_is_inside k bins h =
     let turned = subst (λ (n : ℕ). hash_of k * bins < n) (mul_comm (2 ^ 64) bins) less in
     (div-lt_iff_lt-mul {k = 2 ^ 64} {x = hash_of k * bins} {y = bins} (omega arith)).1 turned
 
--- names of rows that are the same have the same parts
-
-row_time : Name → ℕ
-row_time (RowName t g) = t
-row_time _ = 0
-
-row_tag : Name → Tag
-row_tag (RowName t g) = g
-row_tag _ = record { 0 = 0; 1 = 0 }
-
-same_row : (s t : ℕ) (a b : Tag) → RowName s a ≡ RowName t b → (s ≡ t) × (a ≡ b)
-unfolding row_time row_tag
-same_row s t a b e = (ap row_time e, ap row_tag e)
-
 module _ {Cell : Type 0} (q : QueryFacts Cell) (job : JobFacts) where
   -- The records of a stage
 
-  names_once : (j : ℕ) → Distinct (record_names q job j)
+  pub names_once : (j : ℕ) → Distinct (record_names q job j)
   names_once j =
       cond_both (nat_lt j job.shape.stages) (map (name_of_record j) (stage_records q job.events j)) [] Distinct (λ e. once) (λ e. tt)
     where

@@ -1,10 +1,9 @@
 -- What stands in the lists of the outline of a job.
-use Rattle.std.proofs.Common.{◌≡◌, ℕ, ◌<◌, ◌==◌, nat_lt, true, List, map, Contains, sym, ap, subst, ⊎_elim}
+use Rattle.std.proofs.Common.{◌≡◌, ℕ, ◌<◌, ◌==◌, nat_lt, true, List, map, Contains, sym, subst, ⊎_elim}
 use Rattle.std.specs.List.{list_any}
 use Rattle.std.proofs.lemmas.Bool.{lt-ltb, ltb-true}
 use Rattle.mp_names.specs.declared.names.Name.{Name}
-use Rattle.mp_names.specs.declared.names.Name.TheVariants.{Rec as RecName, Group}
-use Rattle.mp_names.specs.declared.names.Tag.{Tag}
+use Rattle.mp_names.specs.declared.names.Name.TheVariants.{Group}
 use Rattle.mp_names.specs.Names.{In}
 use Rattle.mp_names.specs.Outlines.{groups_of, is_posted}
 use Rattle.mp_names.proofs.Listed.{posted_group, record_group}
@@ -18,24 +17,6 @@ use Rattle.mp_outline.proofs.Named.{if_In, In_if, In_named, named_In}
 use Rattle.mp_outline.proofs.Outputs.{HasGroup}
 use Rattle.mp_outline.proofs.Posts.{posts_are}
 use Rattle.mp_outline.proofs.Numbers.{any_Contains, Contains_any}
-
--- names of records that are the same have the same parts
-
-time_in : Name → ℕ
-time_in (RecName j t k g) = t
-time_in _ = 0
-
-key_in : Name → ℕ
-key_in (RecName j t k g) = k
-key_in _ = 0
-
-tag_in : Name → Tag
-tag_in (RecName j t k g) = g
-tag_in _ = record { 0 = 0; 1 = 0 }
-
-pub same_parts : (i j s t k l : ℕ) (a b : Tag) → RecName i s k a ≡ RecName j t l b → (s ≡ t) × (k ≡ l) × (a ≡ b)
-unfolding time_in key_in tag_in
-same_parts i j s t k l a b e = (ap time_in e, ap key_in e, ap tag_in e)
 
 module _ {Cell : Type 0} (q : QueryFacts Cell) (job : JobFacts) where
   -- a name of a stage is that of a record, and the stage is there

@@ -3,6 +3,7 @@ use Rattle.std.proofs.Common.{◌≡◌, ℕ, ◌<◌, Option, None, Some, IsSom
 use Rattle.mp_names.specs.declared.names.Name.TheVariants.{Rec as RecName}
 use Rattle.mp_names.specs.declared.names.Tag.{Tag}
 use Rattle.mp_names.specs.Names.{In}
+use Rattle.mp_names.proofs.NameParts.{same_parts}
 use Rattle.mp_model.specs.declared.record.Rec.{Rec}
 use Rattle.mp_model.specs.Facts.{JobFacts, QueryFacts}
 use Rattle.mp_model.specs.QueryLaws.{HasStages}
@@ -11,7 +12,7 @@ use Rattle.mp_job.specs.Records.{record_at}
 use Rattle.mp_outline.specs.JobOutline.{record_names}
 use Rattle.mp_outline.specs.Laws.{HasParts, NamesTellInputs}
 use Rattle.mp_outline.proofs.Records.{input_is, input_stands}
-use Rattle.mp_outline.proofs.Stages.{name_stands, record_named, same_parts}
+use Rattle.mp_outline.proofs.Stages.{name_stands, record_named}
 
 -- what is there and keeps to something, as a value
 there_is : {X : Type 0} (o : Option X) (P : X → Type 0) → IsSomeAnd o P → (x : X) × (o ≡ Some x) × P x

@@ -7,6 +7,7 @@ use Rattle.mp_names.specs.declared.names.Name.TheVariants.{Rec as RecName, Group
 use Rattle.mp_names.specs.Names.{In}
 use Rattle.mp_names.specs.Outlines.{groups_of, is_posted, Outline, OutlineIsSound, wakes}
 use Rattle.mp_names.proofs.Listed.{group_cause}
+use Rattle.mp_names.proofs.NameParts.{same_parts}
 use Rattle.mp_model.specs.declared.record.Rec.{Rec}
 use Rattle.mp_model.specs.Facts.{JobFacts, QueryFacts}
 use Rattle.mp_model.specs.QueryLaws.{LaterStagesPostNothing}
@@ -16,7 +17,7 @@ use Rattle.mp_outline.specs.JobOutline.{name_of_record, outline_of}
 use Rattle.mp_outline.specs.Laws.{group_at, GroupsAreOnTimelines, WakesAreTimelines}
 use Rattle.mp_outline.proofs.Outputs.{group_is, group_stands, HasGroup}
 use Rattle.mp_outline.proofs.Posts.{posts_are}
-use Rattle.mp_outline.proofs.Stages.{group_named, post_named, record_named, same_parts}
+use Rattle.mp_outline.proofs.Stages.{group_named, post_named, record_named}
 
 -- one of the elements that are kept passes
 any_kept : {X : Type 0} (p : X → Bool) (b : Bool) (x : X) (xs : List X) → list_any p (cond b (x ∷ xs) xs) ≡ (b && p x || list_any p xs)

@@ -8,7 +8,7 @@ use crate::Fault;
 
 /// Files by their names. Contracts see the files, where the depot tells them, and two counts of
 /// faults. `Failed` comes only where the call's own count rose in it or stands at its last value,
-/// 2^64 - 1. A call that is refused, for that or for want of memory, leaves the files as they were.
+/// 2^64 - 1. A call that is refused, for that or for an allocation failure, leaves the files as they were.
 pub trait Depot {
     /// The files that are there. None where the depot doesn't tell, as a folder of the system.
     ghost files: { Self → Option Files };

@@ -12,7 +12,7 @@ pub enum Fault {
     /// The outside failed: the count of faults of the object that was called rose, or stands at its
     /// last value, 2^64 - 1.
     Failed,
-    /// Want of memory.
+    /// An allocation failed.
     NoMemory,
 }
 
@@ -33,7 +33,7 @@ pub enum ReadRefused {
     Failed,
     /// The name holds more bytes than were allowed.
     TooLarge,
-    /// Want of memory.
+    /// An allocation failed.
     NoMemory,
 }
 

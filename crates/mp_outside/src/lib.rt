@@ -1,3 +1,5 @@
+//! Layer: values, files and text.
+//!
 //! What lies outside the program: files by their names, and places that bytes are written to.
 //! Each is a trait, with fakes in memory that can be told to fail, and a thin edge to the system.
 #![tactic(auto)]
@@ -30,6 +32,3 @@ pub use op::Op;
 pub use pieces::write_piece;
 pub use read::read_all;
 pub use sink::Sink;
-
-#[cfg(test)]
-mod tests;

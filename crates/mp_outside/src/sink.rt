@@ -8,7 +8,7 @@ use crate::Fault;
 
 /// A place that bytes are written to. Contracts see the bytes written so far, where the sink tells
 /// them, and a count of faults. `Failed` comes only where the count rose in the call or stands at its
-/// last value, 2^64 - 1. A call that is refused, for that or for want of memory, writes nothing.
+/// last value, 2^64 - 1. A call that is refused, for that or for an allocation failure, writes nothing.
 pub trait Sink {
     /// The bytes written so far. None where the sink doesn't tell, as the system's output.
     ghost written: { Self → Option (List ℕ) };

@@ -22,7 +22,3 @@ by_result (Err b) ok err one two = two err
 pub by_option : {A Q Z : Type 0} (P : A → Type 0) (r : Option A) → IfSome r P → IfNone r Q → ((a : A) → P a → Z) → (Q → Z) → Z
 by_option P (Some a) some none one two = one a some
 by_option P None some none one two = two none
-
-pub IfNone_then : {X P Q : Type 0} (r : Option X) → IfNone r P → (P → Q) → IfNone r Q
-IfNone_then (Some x) says then = tt
-IfNone_then None says then = then says

@@ -1,3 +1,5 @@
+//! Layer: between workers: mailboxes and the lock.
+//!
 //! Mailboxes between threads: what a receiver popped is a prefix of what its sender pushed.
 #![tactic(auto)]
 

@@ -36,7 +36,7 @@ impl<M: Named> Model for SenderEnd<M> {
 }
 
 impl<M: Named + Drop> SenderEnd<M> {
-    /// Pushes a message behind all that wait, or hands it back where the queue was full at one moment of
+    /// Pushes a message behind all that wait. `Full` with the message: the queue was full at one moment of
     /// the call. Takes no memory. It may spin behind a thread that has stalled.
     pub fn push<R: Wait>(&mut self, rt: &R, message: M) -> Result<(), Full<M>>
         requires edge { (M.from message ≡ self.old.from) × (M.to message ≡ self.old.to) }

@@ -1,3 +1,5 @@
+//! Layer: between workers: mailboxes and the lock.
+//!
 //! A lock round one value that has a row for each seat: a seat changes its own row alone.
 #![tactic(auto)]
 

@@ -1,3 +1,5 @@
+//! Layer: values, files and text.
+//!
 //! Lines, fields and numbers of a text file.
 //!
 //! A text is cut into lines at each line feed, and a line into fields at each `|`. Numbers are
@@ -7,8 +9,6 @@
 mod cutting;
 mod numbers;
 mod splitting;
-#[cfg(test)]
-mod tests;
 
 pub use cutting::{Line, Lines};
 pub use numbers::{BadNumber, number, put_number};

@@ -1,3 +1,5 @@
+//! Layer: between workers: mailboxes and the lock.
+//!
 //! Callers of the seat lock and of mailboxes, as a crate above writes them.
 #![tactic(auto)]
 
@@ -16,6 +18,3 @@ pub use crossing::{
 pub use lines::{pop_told, relay};
 pub use numbers::{Number, receive, receive_all, send, send_all};
 pub use posts::two_posts;
-
-#[cfg(test)]
-mod tests;

@@ -1,7 +1,8 @@
 use Rattle.std.proofs.Common.{◌≡◌, ◌∙◌, sym, ap}
 use Rattle.std.proofs.lemmas.Option.{slice_get_read, IfSome_then}
+use Rattle.mp_mailbox.proofs.Cases.{IfNone_then}
 use Rattle.mp_ruled.specs.Ends.{with_got}
-use Rattle.mp_ruled.proofs.Answered.{by_option, IfNone_then}
+use Rattle.mp_ruled.proofs.Answered.{by_option}
 use Rattle.mp_ruled.proofs.Posted.{is_some_and, receiver_set, receiver_others, gets, receiver_kept, receiver_new}
 use Rattle.mp_ruled.proofs.post.RuledPostPost.pop.Goals as goal
 
