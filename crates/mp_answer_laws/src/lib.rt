@@ -1,3 +1,5 @@
+//! Layer: one worker.
+//!
 //! That what worker 0 writes, one time after the other, is the one-thread answer.
 #![tactic(auto)]
 

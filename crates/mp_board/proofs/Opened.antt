@@ -9,12 +9,14 @@ use Rattle.std.proofs.lemmas.Bool.Decides.{Decides-int_eq}
 use Rattle.mp_names.specs.declared.locations.Frontier.{Frontier}
 use Rattle.mp_names.specs.declared.locations.Frontier.TheVariants.{At, Done}
 use Rattle.mp_names.specs.declared.locations.Loc.{Loc}
+use Rattle.mp_names.specs.declared.pointstamps.Pointstamp.{Pointstamp}
 use Rattle.mp_names.specs.Frontiers.{HasPassed, IsFrontierOf, IsQuiet}
 use Rattle.mp_names.specs.Locations.{Reaches, stays}
 use Rattle.mp_names.proofs.Reach.{reach_on}
+use Rattle.mp_stamps.specs.Counts.{is_stamp}
 use Rattle.mp_board.specs.Recount.{HoldBack, IsOpened}
-use Rattle.mp_board.specs.Totals.{is_place, total_at}
-use Rattle.mp_board.proofs.Places.{is_place-self, is_place-true}
+use Rattle.mp_board.specs.Totals.{total_at}
+use Rattle.mp_board.proofs.Places.{stamp, stamp_is, stamp_itself}
 
 -- nothing is counted without a total; and a total holds its location back, or is still among those that are left
 pub record AreCounted (totals left counts : Loc → ℕ → ℤ) : Type 0 where
@@ -25,27 +27,27 @@ pub record AreCounted (totals left counts : Loc → ℕ → ℤ) : Type 0 where
 pub none_counted : (totals counts : Loc → ℕ → ℤ) → ((at : Loc) (t : ℕ) → counts at t ≡ pos 0) → AreCounted totals totals counts
 none_counted totals counts h = record { alone = λ at t e. h at t; opened = λ at t n. inr refl }
 
-module _ (totals : Loc → ℕ → ℤ) (loc : Loc) (time : ℕ) (total : ℤ) (rest : List ((Loc × ℕ) × ℤ)) (old new : Loc → ℕ → ℤ) (is : total ≡ totals loc time) (step : IsOpened loc time total old new) where
+module _ (totals : Loc → ℕ → ℤ) (loc : Loc) (time : ℕ) (total : ℤ) (rest : List (Pointstamp × ℤ)) (old new : Loc → ℕ → ℤ) (is : total ≡ totals loc time) (step : IsOpened loc time total old new) where
   still_held : (at : Loc) (t : ℕ) → HoldBack old at t → HoldBack new at t
   still_held at t h = (h.0, h.1, λ q. h.2 (λ a r. step.kept a h.0 (q a r)))
 
   next_alone : (at : Loc) (t : ℕ) → ((totals at t ≡ pos 0) → old at t ≡ pos 0) → totals at t ≡ pos 0 → new at t ≡ pos 0
   next_alone at t before e = step.alone at t (before e) (λ p. is ∙ subst (λ (l : Loc). totals l time ≡ pos 0) p.0 (subst (λ (u : ℕ). totals at u ≡ pos 0) p.1 e))
 
-  next_opened : (at : Loc) (t : ℕ) → totals at t ≢ pos 0 → (b : Bool) → is_place at t (loc, time) ≡ b → unwrap_or (cond b (Some total) (lookup (is_place at t) rest)) (pos 0) ≡ totals at t → HoldBack new at t ⊎ (total_at rest at t ≡ totals at t)
+  next_opened : (at : Loc) (t : ℕ) → totals at t ≢ pos 0 → (b : Bool) → is_stamp at t (stamp loc time) ≡ b → unwrap_or (cond b (Some total) (lookup (is_stamp at t) rest)) (pos 0) ≡ totals at t → HoldBack new at t ⊎ (total_at rest at t ≡ totals at t)
   next_opened at t n true e f =
-      let p : (loc, time) ≡ (at, t) = is_place-true at t (loc, time) e in
-      let l : loc ≡ at = ap (λ (q : Loc × ℕ). q.0) p in
-      let u : time ≡ t = ap (λ (q : Loc × ℕ). q.1) p in
+      let p : (stamp loc time) ≡ stamp at t = stamp_is at t (stamp loc time) e in
+      let l : loc ≡ at = ap (λ (q : Pointstamp). q.loc) p in
+      let u : time ≡ t = ap (λ (q : Pointstamp). q.time) p in
       inl (subst (λ (a : Loc). HoldBack new a t) l (subst (λ (v : ℕ). HoldBack new loc v) u (step.opened (λ z. n (sym f ∙ z)))))
   next_opened at t n false e f = inr f
 
   -- one more place, the first of those that are left
-  pub one_counted : AreCounted totals (total_at (((loc, time), total) ∷ rest)) old → AreCounted totals (total_at rest) new
+  pub one_counted : AreCounted totals (total_at (((stamp loc time), total) ∷ rest)) old → AreCounted totals (total_at rest) new
   one_counted h =
       record {
         alone = λ at t e. next_alone at t (h.alone at t) e;
-        opened = λ at t n. ⊎_elim (λ (k : HoldBack old at t). inl (still_held at t k)) (λ (k : total_at (((loc, time), total) ∷ rest) at t ≡ totals at t). next_opened at t n (is_place at t (loc, time)) refl k) (h.opened at t n);
+        opened = λ at t n. ⊎_elim (λ (k : HoldBack old at t). inl (still_held at t k)) (λ (k : total_at (((stamp loc time), total) ∷ rest) at t ≡ totals at t). next_opened at t n (is_stamp at t (stamp loc time)) refl k) (h.opened at t n);
       }
 
 is_zero : (z : ℤ) → int_eq z (pos 0) ≡ true → z ≡ pos 0
@@ -102,11 +104,11 @@ one_is_not_zero a b e f g = omega (arith, ints)
 -- a total that is counted
 module _ (loc : Loc) (time : ℕ) (total : ℤ) (old new : Loc → ℕ → ℤ) (some : total ≢ pos 0) (zero : old loc time ≡ pos 0) (here : new loc time ≡ old loc time +ℤ pos 1) (others : (at : Loc) (t : ℕ) → ((at ≡ loc) × (t ≡ time) → ⊥) → new at t ≡ old at t) where
   by_place : (at : Loc) (t : ℕ) (P : Type 0) → ((at ≡ loc) × (t ≡ time) → P) → (((at ≡ loc) × (t ≡ time) → ⊥) → P) → P
-  by_place at t P f g = pick (is_place loc time (at, t)) refl
+  by_place at t P f g = pick (is_stamp loc time (stamp at t)) refl
     where
-      pick : (b : Bool) → is_place loc time (at, t) ≡ b → P
-      pick true e = let p : (at, t) ≡ (loc, time) = is_place-true loc time (at, t) e in f (ap (λ (q : Loc × ℕ). q.0) p, ap (λ (q : Loc × ℕ). q.1) p)
-      pick false e = g (λ p. false≢true (sym e ∙ subst (λ (a : Loc). is_place loc time (a, t) ≡ true) (sym p.0) (subst (λ (u : ℕ). is_place loc time (loc, u) ≡ true) (sym p.1) (is_place-self loc time))))
+      pick : (b : Bool) → is_stamp loc time (stamp at t) ≡ b → P
+      pick true e = let p : (stamp at t) ≡ stamp loc time = stamp_is loc time (stamp at t) e in f (ap (λ (q : Pointstamp). q.loc) p, ap (λ (q : Pointstamp). q.time) p)
+      pick false e = g (λ p. false≢true (sym e ∙ subst (λ (a : Loc). is_stamp loc time (stamp a t) ≡ true) (sym p.0) (subst (λ (u : ℕ). is_stamp loc time (stamp loc u) ≡ true) (sym p.1) (stamp_itself loc time))))
 
   pub first_opened : IsOpened loc time total old new
   first_opened = record {

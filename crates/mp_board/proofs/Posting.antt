@@ -15,11 +15,12 @@ use Rattle.mp_names.proofs.Exact.{closed_from_passed}
 use Rattle.mp_names.proofs.Keeps.{empty_is_legal}
 use Rattle.mp_stamps.specs.declared.seen.Seen.{Seen}
 use Rattle.mp_names.specs.Limits.{most_stages_seen}
-use Rattle.mp_stamps.specs.Seen.{HasLoc, seen_at}
+use Rattle.mp_names.specs.Locations.{IsLocation}
+use Rattle.mp_stamps.specs.Seen.{SeenIsDone, seen_at}
 use Rattle.mp_machine.specs.Steps.{same_log, same_names}
 use Rattle.mp_rows.specs.Entries.{AreContributions, sum_at}
 use Rattle.mp_board.specs.declared.posted.PostedLog.{PostedLog}
-use Rattle.mp_board.specs.Boards.{ShowsFrontiers, TellsWorker}
+use Rattle.mp_board.specs.Boards.{ShowsFrontiers}
 use Rattle.mp_board.specs.Posted.{logs_of, posted_log}
 use Rattle.mp_board.specs.Recount.{posted_sum}
 use Rattle.mp_board.specs.Soundness.{BoardIsSound, HoldContributions}
@@ -73,7 +74,7 @@ posted_count o ps e h loc t =
     ∙ ap (λ (n : ℕ). sum_below n (λ w. contribution o w (log_at (logs_of ps) w) loc t)) e
 
 -- and its frontiers are those of the logs
-pub shown : (o : Outline) (ps : List PostedLog) (seen : Seen) → length ps ≡ o.workers → HoldContributions o ps → ((at : Loc) → HasLoc o.stages at → IsFrontierOf (posted_sum ps) at (seen_at seen at)) → ShowsFrontiers o (logs_of ps) seen
+pub shown : (o : Outline) (ps : List PostedLog) (seen : Seen) → length ps ≡ o.workers → HoldContributions o ps → ((at : Loc) → IsLocation o.stages at → IsFrontierOf (posted_sum ps) at (seen_at seen at)) → ShowsFrontiers o (logs_of ps) seen
 shown o ps seen e h k = λ at has. frontier_of_equal (posted_sum ps) (count_at o (log_at (logs_of ps))) (posted_count o ps e h) at (seen_at seen at) (k at has)
 
 -- The logs with one posted
@@ -152,7 +153,7 @@ module _ (o : Outline) (posted : List PostedLog) (seen next : Seen) (w : ℕ) (p
       → AreContributions o w (posted_log p) p.entries.items
       → next.version ≡ cond (same_log (posted_log p) (log_at (logs_of posted) w)) seen.version (suc seen.version)
       → next.stages ≡ seen.stages
-      → ((at : Loc) → HasLoc seen.stages at → IsFrontierOf (posted_sum (set posted w p)) at (seen_at next at))
+      → ((at : Loc) → IsLocation seen.stages at → IsFrontierOf (posted_sum (set posted w p)) at (seen_at next at))
       → BoardIsSound o (set posted w p) next
   log_posted l legal grows entries version stages frontiers =
       let inside : w < length posted = omega (arith, sound.each_worker) in
@@ -169,12 +170,12 @@ module _ (o : Outline) (posted : List PostedLog) (seen next : Seen) (w : ℕ) (p
         contributions = held;
         few_versions = few seen.version next.version (names_in o.workers (log_at (logs_of posted))) (names_in o.workers (log_at (logs_of (set posted w p)))) (log_size (log_at (logs_of posted) w)) (log_size (posted_log p)) (same_log (posted_log p) (log_at (logs_of posted) w)) sound.few_versions sized (grows_in_size (log_at (logs_of posted) w) (posted_log p) grows) (changes_in_size (log_at (logs_of posted) w) (posted_log p) grows) version;
         stages = stages ∙ sound.stages;
-        frontiers = shown o (set posted w p) next count held (λ at has. frontiers at (subst (λ (n : ℕ). HasLoc n at) (sym sound.stages) has));
+        frontiers = shown o (set posted w p) next count held (λ at has. frontiers at (subst (λ (n : ℕ). IsLocation n at) (sym sound.stages) has));
       }
 
 -- What an exchange tells the worker
 
-pub told : (o : Outline) (logs : List Log) (w : ℕ) (log : Log) (seen : Seen) → OutlineIsSound o → LogsAreLegal o (log_at logs) → w < o.workers → log_at logs w ≡ log → ShowsFrontiers o logs seen → TellsWorker o w log seen
+pub told : (o : Outline) (logs : List Log) (w : ℕ) (log : Log) (seen : Seen) → OutlineIsSound o → LogsAreLegal o (log_at logs) → w < o.workers → log_at logs w ≡ log → ShowsFrontiers o logs seen → SeenIsDone o w log seen
 told o logs w log seen ok good l here shows = λ at t has h.
     subst (λ (x : Log). IsClosedForOne o w x at t) here (closed_from_passed o (log_at logs) ok good at (seen_at seen at) t (shows at has) h w l)
 
@@ -193,7 +194,7 @@ module _ (o : Outline) (posted : List PostedLog) (seen : Seen) where
       → HoldContributions o posted
       → seen.version ≡ 0
       → seen.stages ≡ o.stages
-      → ((at : Loc) → HasLoc o.stages at → IsFrontierOf (posted_sum posted) at (seen_at seen at))
+      → ((at : Loc) → IsLocation o.stages at → IsFrontierOf (posted_sum posted) at (seen_at seen at))
       → BoardIsSound o posted seen
   empty_sound ok few empty held version stages frontiers =
       let count : length posted ≡ o.workers = sym (length-map posted posted_log) ∙ ap length empty ∙ length-replicate o.workers empty_log in

@@ -5,6 +5,7 @@ use Rattle.std.proofs.lemmas.List.{take_more}
 use Rattle.mp_names.specs.declared.locations.Frontier.{Frontier}
 use Rattle.mp_names.specs.declared.locations.Frontier.TheVariants.{At, Done}
 use Rattle.mp_names.specs.declared.locations.Loc.{Loc}
+use Rattle.mp_names.specs.declared.pointstamps.Change.{Change}
 use Rattle.mp_names.specs.Frontiers.{IsFrontierOf}
 use Rattle.mp_rows.specs.Entries.{sum_at}
 use Rattle.mp_board.specs.declared.posted.PostedLog.{PostedLog}
@@ -30,7 +31,7 @@ next_sum : (new old before here after : ℤ) → new ≡ old +ℤ here → old �
 next_sum new old before here after e f g = omega (arith, ints)
 
 -- one more log
-pub more_logs : (ps : List PostedLog) (i : ℕ) (p : PostedLog) (xs : List (Loc × ℕ × ℤ)) (loc : Loc) (t : ℕ) (old new : ℤ) → i < length ps → p ≡ get_or ps i p → xs ≡ p.entries.items → new ≡ old +ℤ sum_at xs loc t → old ≡ posted_sum (take i ps) loc t → new ≡ posted_sum (take (i + 1) ps) loc t
+pub more_logs : (ps : List PostedLog) (i : ℕ) (p : PostedLog) (xs : List Change) (loc : Loc) (t : ℕ) (old new : ℤ) → i < length ps → p ≡ get_or ps i p → xs ≡ p.entries.items → new ≡ old +ℤ sum_at xs loc t → old ≡ posted_sum (take i ps) loc t → new ≡ posted_sum (take (i + 1) ps) loc t
 more_logs ps i p xs loc t old new l is same e f =
     let g : posted_sum (take (i + 1) ps) loc t ≡ posted_sum (take i ps) loc t +ℤ sum_at p.entries.items loc t =
     ap (λ (qs : List PostedLog). posted_sum qs loc t) (take_more ps i p l)

@@ -1,11 +1,12 @@
 -- What contracts see of a board, and what an exchange makes of it.
 use Rattle.std.specs.Prelude.{ℕ, suc, List, Option, slice_set, if◌then◌else◌}
 use Rattle.mp_names.specs.declared.locations.Loc.{Loc}
-use Rattle.mp_names.specs.Frontiers.{HasPassed, IsClosedForOne, IsFrontier, log_at}
+use Rattle.mp_names.specs.Frontiers.{IsFrontier, log_at}
 use Rattle.mp_names.specs.Logs.{Log}
 use Rattle.mp_names.specs.Outlines.{Outline}
+use Rattle.mp_names.specs.Locations.{IsLocation}
 use Rattle.mp_stamps.specs.declared.seen.Seen.{Seen}
-use Rattle.mp_stamps.specs.Seen.{HasLoc, seen_at}
+use Rattle.mp_stamps.specs.Seen.{seen_at}
 use Rattle.mp_machine.specs.Steps.{same_log}
 use Rattle.mp_board.specs.declared.causes.Cause.{Cause}
 
@@ -21,11 +22,7 @@ version_with board w log = if same_log log (log_at board.logs w) then board.vers
 
 -- what was seen are the frontiers of the logs, at each location that the job has
 abbrev pub ShowsFrontiers : Outline → List Log → Seen → Type 0
-ShowsFrontiers o logs seen = (at : Loc) → HasLoc o.stages at → IsFrontier o (log_at logs) at (seen_at seen at)
-
--- where a frontier that was seen has passed a time, the worker has done its part in its log
-abbrev pub TellsWorker : Outline → ℕ → Log → Seen → Type 0
-TellsWorker o w log seen = (at : Loc) (t : ℕ) → HasLoc o.stages at → HasPassed (seen_at seen at) t → IsClosedForOne o w log at t
+ShowsFrontiers o logs seen = (at : Loc) → IsLocation o.stages at → IsFrontier o (log_at logs) at (seen_at seen at)
 
 -- the board after an exchange of a worker's log
 abbrev pub exchanged : Posted → ℕ → Log → Posted

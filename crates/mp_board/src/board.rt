@@ -4,9 +4,10 @@ ghost use Rattle.std.specs.Option.{unwrap_or};
 ghost use Rattle.mp_names.specs.Frontiers.{log_at};
 ghost use Rattle.mp_names.specs.Laws.{names_in};
 ghost use Rattle.mp_names.specs.Logs.{LogGrows, LogIsLegal, empty_log};
+ghost use Rattle.mp_stamps.specs.Seen.{SeenIsDone};
 ghost use Rattle.mp_outline.specs.JobOutline.{outline_of};
 ghost use Rattle.mp_rows.specs.Entries.{AreContributions};
-ghost use Rattle.mp_board.specs.Boards.{ShowsFrontiers, TellsWorker, version_with};
+ghost use Rattle.mp_board.specs.Boards.{ShowsFrontiers, version_with};
 ghost use Rattle.mp_board.specs.Posted.{logs_of, posted_log};
 ghost use Rattle.mp_board.specs.Soundness.{HoldContributions};
 
@@ -81,7 +82,7 @@ impl<O: Outlined> Board<O> {
 
         ensures seen_version { IfOk result (λ seen. seen.version ≡ self.new.version) }
         ensures frontiers { IfOk result (λ seen. ShowsFrontiers O.outline self.new.logs seen) }
-        ensures told { IfOk result (λ seen. TellsWorker O.outline worker (posted_log log) seen) }
+        ensures told { IfOk result (λ seen. SeenIsDone O.outline worker (posted_log log) seen) }
 
         ensures unchanged { OnErr result (self.new ≡ self.old) }
     {

@@ -4,10 +4,11 @@ ghost use Rattle.mp_names.specs.Frontiers.{log_at};
 ghost use Rattle.mp_stamps.specs.declared.seen.Seen.{Seen};
 ghost use Rattle.mp_board.specs.declared.causes.Cause.{Cause};
 ghost use Rattle.mp_names.specs.Logs.{Log, LogGrows, LogIsLegal};
+ghost use Rattle.mp_stamps.specs.Seen.{SeenIsDone};
 ghost use Rattle.mp_rows.specs.Entries.{AreContributions};
 ghost use Rattle.mp_board.specs.Answers.{IfBusy, IfGot, IfNotPosted, IfStopped, IfTried};
 ghost use Rattle.mp_board.specs.Posted.{posted_log};
-ghost use Rattle.mp_board.specs.Boards.{ShowsFrontiers, TellsWorker, exchanged};
+ghost use Rattle.mp_board.specs.Boards.{ShowsFrontiers, exchanged};
 
 use crate::board::Board;
 use crate::causes::{Answer, Cause, HubStop};
@@ -55,7 +56,7 @@ pub trait Hub<O: Outlined> {
         ensures after { IfGot result (λ _. after self.old worker (posted_log log) self.new) }
         ensures posted { IfGot result (λ _. posted self.new worker ≡ posted_log log) }
         ensures shows { IfGot result (λ seen. shows self.new seen) }
-        ensures told { IfGot result (λ seen. TellsWorker O.outline worker (posted_log log) seen) }
+        ensures told { IfGot result (λ seen. SeenIsDone O.outline worker (posted_log log) seen) }
 
         ensures busy { IfBusy result (was_busy self.old) }
         ensures stopped { IfStopped result (λ cause. was_stopped self.old cause) }

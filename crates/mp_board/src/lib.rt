@@ -1,3 +1,5 @@
+//! Layer: the parts of a worker.
+//!
 //! The board on which the workers post their logs, and what it tells each of them of all.
 #![tactic(auto)]
 
@@ -7,8 +9,6 @@ mod hub;
 mod outlined;
 mod posted;
 mod recount;
-#[cfg(test)]
-mod tests;
 mod totals;
 
 pub use board::Board;

@@ -8,17 +8,13 @@ ghost use Rattle.mp_rows.specs.Entries.{AreContributions};
 ghost use Rattle.mp_board.specs.Posted.{posted_log};
 
 use mp_names::Name;
-use mp_rows::{Change, Log, LogList, Naming, Query};
+use mp_rows::{Change, Lists, Log, LogList, Naming, Query};
 use std::alloc::{AllocError, Global};
 
 /// A copy of a log with its contributions, as it is posted.
 #[derive(Drop)]
 pub struct PostedLog {
-    ingested: Vec<Name>,
-    sent: Vec<Name>,
-    took: Vec<Name>,
-    applied: Vec<Name>,
-    settled: Vec<Name>,
+    lists: Lists,
     // At each location and time they sum to the log's contribution.
     entries: Vec<Change>,
 }
@@ -30,12 +26,15 @@ impl PostedLog {
         ensures entries { let o = outline_of (Q.facts J.job.rules) J.job in
             IfOk result (λ posted. AreContributions o log.now.worker log.now.log posted.entries.items) }
     {
-        Ok(PostedLog {
+        let lists = Lists {
             ingested: copy_of(alloc, log.names(LogList::Ingested))?,
             sent: copy_of(alloc, log.names(LogList::Sent))?,
             took: copy_of(alloc, log.names(LogList::Took))?,
             applied: copy_of(alloc, log.names(LogList::Applied))?,
             settled: copy_of(alloc, log.names(LogList::Settled))?,
+        };
+        Ok(PostedLog {
+            lists,
             entries: copy_of(alloc, log.contributions())?,
         })
     }
@@ -45,11 +44,12 @@ impl PostedLog {
         requires { LogGrows (posted_log self.now) (posted_log log.now) }
         ensures { result ≡ same_log (posted_log log.now) (posted_log self.now) }
     {
-        let ingested = is_same(&self.ingested, &log.ingested);
-        let sent = is_same(&self.sent, &log.sent);
-        let took = is_same(&self.took, &log.took);
-        let applied = is_same(&self.applied, &log.applied);
-        let settled = is_same(&self.settled, &log.settled);
+        let (posted, grown) = (&self.lists, &log.lists);
+        let ingested = is_same(&posted.ingested, &grown.ingested);
+        let sent = is_same(&posted.sent, &grown.sent);
+        let took = is_same(&posted.took, &grown.took);
+        let applied = is_same(&posted.applied, &grown.applied);
+        let settled = is_same(&posted.settled, &grown.settled);
         ingested && sent && took && applied && settled
     }
 

@@ -4,15 +4,15 @@ ghost use Rattle.mp_names.specs.declared.locations.Frontier.{Frontier};
 ghost use Rattle.mp_names.specs.declared.locations.Loc.{Loc};
 ghost use Rattle.mp_names.specs.Frontiers.{IsFrontierOf};
 ghost use Rattle.mp_names.specs.Limits.{most_stages_seen};
+ghost use Rattle.mp_names.specs.Locations.{IsLocation};
 ghost use Rattle.mp_stamps.specs.Counts.{count_in};
-ghost use Rattle.mp_stamps.specs.Seen.{HasLoc, seen_at};
+ghost use Rattle.mp_stamps.specs.Seen.{seen_at};
 ghost use Rattle.mp_board.specs.Recount.{IsOpened, posted_sum};
 ghost use Rattle.mp_board.specs.Totals.{total_at};
 
 use crate::posted::PostedLog;
 use crate::totals::{Totals, add_entries};
-use mp_names::Loc;
-use mp_rows::Time;
+use mp_names::Pointstamp;
 use mp_stamps::{Counts, Seen, passed};
 use std::alloc::{AllocError, Global};
 use std::collections::BTreeMap;
@@ -28,7 +28,7 @@ pub fn seen_of(
     requires { stages ≤ most_stages_seen }
     ensures version { IfOk result (λ seen. seen.version ≡ version) }
     ensures stages { IfOk result (λ seen. seen.stages ≡ stages) }
-    ensures frontiers { IfOk result (λ seen. (at : Loc) → HasLoc stages at →
+    ensures frontiers { IfOk result (λ seen. (at : Loc) → IsLocation stages at →
         IsFrontierOf (posted_sum posted.now) at (seen_at seen at)) }
 {
     let totals = totals_of(alloc, posted)?;
@@ -51,7 +51,7 @@ pub fn post(
     ensures posted { OnOk result (posted.new.items ≡ slice_set posted.old.items index log) }
     ensures version { IfOk result (λ seen. seen.version ≡ version) }
     ensures stages { IfOk result (λ seen. seen.stages ≡ stages) }
-    ensures frontiers { IfOk result (λ seen. (at : Loc) → HasLoc stages at →
+    ensures frontiers { IfOk result (λ seen. (at : Loc) → IsLocation stages at →
         IsFrontierOf (posted_sum posted.new.items) at (seen_at seen at)) }
     ensures unchanged { OnErr result (posted.new.items ≡ posted.old.items) }
 {
@@ -83,22 +83,21 @@ fn counts_of(alloc: Global, totals: &Totals) -> Result<Counts, AllocError>
 {
     let mut counts = Counts::new(alloc);
     for (place, total) in totals {
-        let (loc, time) = *place;
-        open(&mut counts, loc, time, *total)?;
+        open(&mut counts, *place, *total)?;
     }
     Ok(counts)
 }
 
 // Lets the counts show the total of one more place.
-fn open(counts: &mut Counts, loc: Loc, time: Time, total: i128) -> Result<(), AllocError>
-    ensures { OnOk result (IsOpened loc time total (count_in counts.old) (count_in counts.new)) }
+fn open(counts: &mut Counts, at: Pointstamp, total: i128) -> Result<(), AllocError>
+    ensures { OnOk result (IsOpened at.loc at.time total (count_in counts.old) (count_in counts.new)) }
 {
     if total == 0 {
         return Ok(());
     }
-    if !passed(counts.frontier(loc), time) {
+    if !passed(counts.frontier(at.loc), at.time) {
         return Ok(());
     }
-    counts.add(loc, time, 1)?;
+    counts.add(at.loc, at.time, 1)?;
     Ok(())
 }

@@ -4,13 +4,12 @@ ghost use Rattle.mp_names.specs.declared.locations.Loc.{Loc};
 ghost use Rattle.mp_rows.specs.Entries.{sum_at};
 ghost use Rattle.mp_board.specs.Totals.{total_at};
 
-use mp_names::Loc;
-use mp_rows::{Change, Time};
+use mp_names::{Change, Pointstamp};
 use std::alloc::AllocError;
 use std::collections::BTreeMap;
 
-/// What the entries of each location and time sum to.
-pub type Totals = BTreeMap<(Loc, Time), i128>;
+/// What the entries of each pointstamp sum to.
+pub type Totals = BTreeMap<Pointstamp, i128>;
 
 /// Adds entries to the totals. `AllocError`: no memory, which a total past an `i128` counts as: no memory holds entries
 /// for that.
@@ -28,16 +27,15 @@ fn add_entry(totals: &mut Totals, entry: &Change) -> Result<(), AllocError>
     ensures { OnOk result ((loc : Loc) (t : ℕ) →
         total_at totals.new.entries loc t ≡ total_at totals.old.entries loc t +ℤ sum_at (entry.now ∷ []) loc t) }
 {
-    let (loc, time, by) = *entry;
-    let sum = plus(total_of(totals, loc, time), by)?;
-    totals.insert((loc, time), sum)?;
+    let sum = plus(total_of(totals, entry.at), entry.by)?;
+    totals.insert(entry.at, sum)?;
     Ok(())
 }
 
-fn total_of(totals: &Totals, loc: Loc, time: Time) -> i128
-    ensures { result ≡ total_at totals.now.entries loc time }
+fn total_of(totals: &Totals, at: Pointstamp) -> i128
+    ensures { result ≡ total_at totals.now.entries at.loc at.time }
 {
-    match totals.get(&(loc, time)) {
+    match totals.get(&at) {
         Some(total) => *total,
         None => 0,
     }

@@ -9,6 +9,7 @@ use Rattle.std.proofs.lemmas.List.Kept.{AllPairs-cons}
 use Rattle.mp_names.specs.declared.locations.Loc.{Loc}
 use Rattle.mp_names.specs.declared.locations.Loc.TheVariants.{Ctl, CtlMail, Source, Route, Mail, Move, State, Host, OutRoute, OutMail}
 use Rattle.mp_names.specs.declared.names.Name.TheVariants.{Group}
+use Rattle.mp_names.specs.declared.pointstamps.Change.{Change}
 use Rattle.mp_names.specs.Frontiers.{contribution, is_held, number_at}
 use Rattle.mp_names.specs.Keeping.{IsWaiting}
 use Rattle.mp_names.specs.Logs.{Log, LogIsLegal, is_pending, with_applied}
@@ -18,10 +19,10 @@ use Rattle.mp_names.proofs.Hosts.{pending_new}
 use Rattle.mp_names.proofs.Listed.{groups_are}
 use Rattle.mp_names.proofs.Lists.{count_none}
 use Rattle.mp_stamps.specs.Counts.{same_loc}
-use Rattle.mp_rows.specs.Entries.{AreChanges, sum_at}
+use Rattle.mp_rows.specs.Entries.{AreChanges, change_at, sum_at}
 use Rattle.mp_rows.proofs.Sums.{sum_at-append, sum_elsewhere, sum_here}
-use Rattle.mp_count_laws.specs.Changes.{Change, applied_at, is_output, one_less, one_more, outputs_of, route_after, some_more}
-use Rattle.mp_count_laws.proofs.Entries.{IsApart, IsNotZero}
+use Rattle.mp_count_laws.specs.Changes.{applied_at, is_output, location_after, one_less, one_more, outputs_of, some_more}
+use Rattle.mp_count_laws.proofs.Entries.{IsApart, IsNotZero, same_loc_of, same_time_of}
 use Rattle.mp_count_laws.proofs.Given.{controls_held, inputs_held, records_held, rows_held}
 use Rattle.mp_count_laws.proofs.Places.{both}
 use Rattle.mp_count_laws.proofs.Times.{once_at, times_in}
@@ -44,7 +45,7 @@ none_anyway false n e = refl
 sum_some : (at : Loc) (t n : ℕ) (loc : Loc) (u : ℕ) → sum_at (some_more at t n) loc u ≡ pos (cond (same_loc at loc && t == u) n 0)
 sum_some at t n loc u = by_zero (n == 0) refl
   where
-    by_zero : (b : Bool) → (n == 0) ≡ b → sum_at (if b then [] else (at, t, pos n) ∷ []) loc u ≡ pos (cond (same_loc at loc && t == u) n 0)
+    by_zero : (b : Bool) → (n == 0) ≡ b → sum_at (if b then [] else change_at at t (pos n) ∷ []) loc u ≡ pos (cond (same_loc at loc && t == u) n 0)
     by_zero true e = none_there (same_loc at loc && t == u) n (eqb-true n 0 e)
     by_zero false e = some_there (same_loc at loc && t == u) n
 
@@ -119,7 +120,7 @@ module _
   -- each place
 
   abbrev elsewhere : Loc → Bool
-  elsewhere loc = same_loc (route_after o j) loc
+  elsewhere loc = same_loc (location_after j o.stages) loc
 
   not_route : (loc : Loc) → same_loc OutRoute loc ≡ false → same_loc (Route (suc j)) loc ≡ false → elsewhere loc ≡ false
   not_route loc e f = route_by (suc j == o.stages) (suc j) loc e f
@@ -150,11 +151,11 @@ module _
 
   sums : (loc : Loc) (u : ℕ) → sum_at (applied_at o j t k woken) loc u ≡ contribution o w (with_applied log (Group j t k)) loc u -ℤ contribution o w log loc u
   sums loc u =
-      let given = some_more (route_after o j) t (outputs_of o j t k) in
+      let given = some_more (location_after j o.stages) t (outputs_of o j t k) in
       let first = cond (same_loc (Host j) loc && t == u) (negsuc 0) (pos 0) in
       ap (λ (z : ℤ). first +ℤ z) (sum_at-append given (map (one_more (Host j)) woken) loc u)
       ∙ two_more first (sum_at given loc u) (sum_at (map (one_more (Host j)) woken) loc u) (cond (elsewhere loc && t == u) (outputs_of o j t k) 0) (cond (same_loc (Host j) loc) (times_in woken u) 0)
-      (sum_some (route_after o j) t (outputs_of o j t k) loc u)
+      (sum_some (location_after j o.stages) t (outputs_of o j t k) loc u)
       (sum_times (Host j) woken loc u)
       ∙ body loc u
 
@@ -170,26 +171,26 @@ module _
   host_apart : All (IsApart (one_less (Host j) t)) more
   host_apart =
       All-map (IsApart (one_less (Host j) t)) (one_more (Host j)) woken
-      (All-weaker (Contains woken) (λ u. IsApart (one_less (Host j) t) (one_more (Host j) u)) (λ u c e. not_itself o w log ok good j t k waits woken once are (subst (λ (v : ℕ). Contains woken v) (sym e.1) c)) woken (All-contains_itself woken))
+      (All-weaker (Contains woken) (λ u. IsApart (one_less (Host j) t) (one_more (Host j) u)) (λ u c e. not_itself o w log ok good j t k waits woken once are (subst (λ (v : ℕ). Contains woken v) (sym (same_time_of (one_less (Host j) t) (one_more (Host j) u) e)) c)) woken (All-contains_itself woken))
 
-  route_apart : (n : ℕ) → All (IsApart (route_after o j, t, pos n)) more
+  route_apart : (n : ℕ) → All (IsApart (change_at (location_after j o.stages) t (pos n))) more
   route_apart n =
-      All-map (IsApart (route_after o j, t, pos n)) (one_more (Host j)) woken
-      (All-weaker (Contains woken) (λ u. IsApart (route_after o j, t, pos n) (one_more (Host j) u)) (λ u c e. not_host (suc j == o.stages) j e.0) woken (All-contains_itself woken))
+      All-map (IsApart (change_at (location_after j o.stages) t (pos n))) (one_more (Host j)) woken
+      (All-weaker (Contains woken) (λ u. IsApart (change_at (location_after j o.stages) t (pos n)) (one_more (Host j) u)) (λ u c e. not_host (suc j == o.stages) j (same_loc_of (change_at (location_after j o.stages) t (pos n)) (one_more (Host j) u) e)) woken (All-contains_itself woken))
 
-  places : (n : ℕ) → AllPairs IsApart (one_less (Host j) t ∷ (some_more (route_after o j) t n ++ more))
+  places : (n : ℕ) → AllPairs IsApart (one_less (Host j) t ∷ (some_more (location_after j o.stages) t n ++ more))
   places n = by_zero (n == 0)
     where
-      by_zero : (b : Bool) → AllPairs IsApart (one_less (Host j) t ∷ ((if b then [] else (route_after o j, t, pos n) ∷ []) ++ more))
+      by_zero : (b : Bool) → AllPairs IsApart (one_less (Host j) t ∷ ((if b then [] else change_at (location_after j o.stages) t (pos n) ∷ []) ++ more))
       by_zero true = AllPairs-cons IsApart (one_less (Host j) t) more host_apart (once_at (Host j) (λ u. u) (λ u. pos 1) woken once)
       by_zero false =
-          let given : Change = (route_after o j, t, pos n) in
+          let given : Change = change_at (location_after j o.stages) t (pos n) in
           AllPairs-cons IsApart (one_less (Host j) t) (given ∷ more)
-          (All-cons (IsApart (one_less (Host j) t)) given more (λ e. not_host (suc j == o.stages) j (sym e.0)) host_apart)
+          (All-cons (IsApart (one_less (Host j) t)) given more (λ e. not_host (suc j == o.stages) j (sym (same_loc_of (one_less (Host j) t) given e))) host_apart)
           (AllPairs-cons IsApart given more (route_apart n) (once_at (Host j) (λ u. u) (λ u. pos 1) woken once))
 
-  none_zero : (n : ℕ) → All IsNotZero (one_less (Host j) t ∷ (some_more (route_after o j) t n ++ more))
-  none_zero n = All-cons IsNotZero (one_less (Host j) t) (some_more (route_after o j) t n ++ more) (λ e. cc) (by_zero (n == 0) refl)
+  none_zero : (n : ℕ) → All IsNotZero (one_less (Host j) t ∷ (some_more (location_after j o.stages) t n ++ more))
+  none_zero n = All-cons IsNotZero (one_less (Host j) t) (some_more (location_after j o.stages) t n ++ more) (λ e. cc) (by_zero (n == 0) refl)
     where
       last : All IsNotZero more
       last = All-map IsNotZero (one_more (Host j)) woken (All-weaker (Contains woken) (λ u. IsNotZero (one_more (Host j) u)) (λ u c e. one_not_zero e) woken (All-contains_itself woken))
@@ -197,9 +198,9 @@ module _
           one_not_zero : pos 1 ≡ pos 0 → ⊥
           one_not_zero e = cc
 
-      by_zero : (b : Bool) → (n == 0) ≡ b → All IsNotZero ((if b then [] else (route_after o j, t, pos n) ∷ []) ++ more)
+      by_zero : (b : Bool) → (n == 0) ≡ b → All IsNotZero ((if b then [] else change_at (location_after j o.stages) t (pos n) ∷ []) ++ more)
       by_zero true e = last
-      by_zero false e = All-cons IsNotZero (route_after o j, t, pos n) more (λ f. eqb-false n 0 e (same_number n 0 f)) last
+      by_zero false e = All-cons IsNotZero (change_at (location_after j o.stages) t (pos n)) more (λ f. eqb-false n 0 e (same_number n 0 f)) last
         where
           same_number : (m n : ℕ) → pos m ≡ pos n → m ≡ n
           same_number m n e = cc

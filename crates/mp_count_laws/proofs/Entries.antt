@@ -1,14 +1,16 @@
 -- Short lists of changes: their sums, that each place stands once, that none is zero.
-use Rattle.std.proofs.Common.{◌≡◌, ◌≢◌, ℕ, ◌+◌, ◌&&◌, ◌==◌, Bool, true, false, cond, [], ◌∷◌, ℤ, pos, negsuc, ◌+ℤ◌, ◌-ℤ◌, refl, arith}
+use Rattle.std.proofs.Common.{◌≡◌, ◌≢◌, ℕ, ◌+◌, ◌&&◌, ◌==◌, Bool, true, false, cond, [], ◌∷◌, ℤ, pos, negsuc, ◌+ℤ◌, ◌-ℤ◌, refl, ap, arith}
 use Rattle.std.specs.Prelude.{if◌then◌else◌, not}
 use Rattle.std.specs.List.{All, AllPairs}
 use Rattle.std.proofs.lemmas.Int.{ints}
 use Rattle.std.proofs.lemmas.List.Elements.{All-cons, All-nil}
 use Rattle.std.proofs.lemmas.List.Kept.{AllPairs-cons}
 use Rattle.mp_names.specs.declared.locations.Loc.{Loc}
+use Rattle.mp_names.specs.declared.pointstamps.Change.{Change}
+use Rattle.mp_names.specs.declared.pointstamps.Pointstamp.{Pointstamp}
 use Rattle.mp_stamps.specs.Counts.{same_loc}
 use Rattle.mp_rows.specs.Entries.{sum_at}
-use Rattle.mp_count_laws.specs.Changes.{Change, one_more}
+use Rattle.mp_count_laws.specs.Changes.{one_more}
 
 -- sums
 
@@ -38,10 +40,16 @@ taken_first false n m k e = omega (arith, ints)
 -- places
 
 abbrev pub IsApart : Change → Change → Type 0
-IsApart c d = (c.0 ≡ d.0) × (c.1 ≡ d.1) → ⊥
+IsApart c d = c.at ≢ d.at
 
 abbrev pub IsNotZero : Change → Type 0
-IsNotZero c = c.2 ≢ pos 0
+IsNotZero c = c.by ≢ pos 0
+
+pub same_loc_of : (c d : Change) → c.at ≡ d.at → c.at.loc ≡ d.at.loc
+same_loc_of c d e = ap (λ (p : Pointstamp). p.loc) e
+
+pub same_time_of : (c d : Change) → c.at ≡ d.at → c.at.time ≡ d.at.time
+same_time_of c d e = ap (λ (p : Pointstamp). p.time) e
 
 pub none_once : AllPairs IsApart []
 none_once = λ i j d l k. absurd (omega arith)
@@ -49,16 +57,16 @@ none_once = λ i j d l k. absurd (omega arith)
 pub one_once : (c : Change) → AllPairs IsApart (c ∷ [])
 one_once c = AllPairs-cons IsApart c [] (All-nil (IsApart c)) none_once
 
-pub two_once : (c d : Change) → (c.0 ≡ d.0 → ⊥) → AllPairs IsApart (c ∷ d ∷ [])
-two_once c d h = AllPairs-cons IsApart c (d ∷ []) (All-cons (IsApart c) d [] (λ e. h e.0) (All-nil (IsApart c))) (one_once d)
+pub two_once : (c d : Change) → (c.at.loc ≡ d.at.loc → ⊥) → AllPairs IsApart (c ∷ d ∷ [])
+two_once c d h = AllPairs-cons IsApart c (d ∷ []) (All-cons (IsApart c) d [] (λ e. h (same_loc_of c d e)) (All-nil (IsApart c))) (one_once d)
 
 pub none_zero : All IsNotZero []
 none_zero = All-nil IsNotZero
 
-pub one_not_zero : (c : Change) → c.2 ≢ pos 0 → All IsNotZero (c ∷ [])
+pub one_not_zero : (c : Change) → c.by ≢ pos 0 → All IsNotZero (c ∷ [])
 one_not_zero c h = All-cons IsNotZero c [] h none_zero
 
-pub two_not_zero : (c d : Change) → c.2 ≢ pos 0 → d.2 ≢ pos 0 → All IsNotZero (c ∷ d ∷ [])
+pub two_not_zero : (c d : Change) → c.by ≢ pos 0 → d.by ≢ pos 0 → All IsNotZero (c ∷ d ∷ [])
 two_not_zero c d h k = All-cons IsNotZero c (d ∷ []) h (one_not_zero d k)
 
 -- an entry that is there unless b
@@ -79,10 +87,10 @@ pub sum_unless : (b : Bool) (at : Loc) (t : ℕ) (loc : Loc) (u : ℕ) → sum_a
 sum_unless true at t loc u = none_of (same_loc at loc && t == u)
 sum_unless false at t loc u = alone (same_loc at loc && t == u)
 
-pub once_unless : (b : Bool) (c d : Change) → (c.0 ≡ d.0 → ⊥) → AllPairs IsApart (c ∷ (if b then [] else d ∷ []))
+pub once_unless : (b : Bool) (c d : Change) → (c.at.loc ≡ d.at.loc → ⊥) → AllPairs IsApart (c ∷ (if b then [] else d ∷ []))
 once_unless true c d h = one_once c
 once_unless false c d h = two_once c d h
 
-pub not_zero_unless : (b : Bool) (c d : Change) → c.2 ≢ pos 0 → d.2 ≢ pos 0 → All IsNotZero (c ∷ (if b then [] else d ∷ []))
+pub not_zero_unless : (b : Bool) (c d : Change) → c.by ≢ pos 0 → d.by ≢ pos 0 → All IsNotZero (c ∷ (if b then [] else d ∷ []))
 not_zero_unless true c d h k = one_not_zero c h
 not_zero_unless false c d h k = two_not_zero c d h k

@@ -12,11 +12,11 @@ use Rattle.mp_names.specs.Names.{has, In, Distinct}
 use Rattle.mp_names.specs.Outlines.{Outline, OutlineIsSound, groups_of, time_of}
 use Rattle.mp_names.proofs.Listed.{groups_are}
 use Rattle.mp_names.proofs.Lists.{In_cases, In_here, In_later, In_push, count_inside, counted}
+use Rattle.mp_ordered.proofs.Placing.{pairs_head, pairs_tail}
 use Rattle.mp_count_laws.specs.Changes.{waiting_at}
 use Rattle.mp_count_laws.proofs.Grown.{brought_grows, waiting_group, waiting_grows}
 use Rattle.mp_count_laws.proofs.Places.{groups_once}
 use Rattle.mp_count_laws.proofs.Pushes.{any_push}
-use Rattle.mp_count_laws.proofs.Times.{pairs_head, pairs_tail}
 
 abbrev one : Bool → ℕ
 one b = cond b 1 0

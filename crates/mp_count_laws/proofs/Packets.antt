@@ -17,9 +17,9 @@ use Rattle.mp_names.specs.Names.{has, In, is_ctrl, is_packet, is_rec, is_row}
 use Rattle.mp_names.specs.Outlines.{Outline, OutlineIsSound, ctrl_names, groups_of}
 use Rattle.mp_names.proofs.Listed.{groups_are}
 use Rattle.mp_stamps.specs.Counts.{same_loc}
-use Rattle.mp_rows.specs.Entries.{AreChanges, sum_at}
+use Rattle.mp_rows.specs.Entries.{AreChanges, change_at, sum_at}
 use Rattle.mp_count_laws.specs.Changes.{AreMore, number_in, one_less, one_more, packet_sent_at, packet_taken_at, waiting_at}
-use Rattle.mp_count_laws.proofs.Entries.{IsApart, IsNotZero, nothing}
+use Rattle.mp_count_laws.proofs.Entries.{IsApart, IsNotZero, nothing, same_loc_of}
 use Rattle.mp_count_laws.proofs.Numbers.{number_same}
 use Rattle.mp_count_laws.proofs.Parts.{brought_same, pending_same}
 use Rattle.mp_count_laws.proofs.Places.{no_control, no_record, no_row}
@@ -38,7 +38,7 @@ add_one true true n m k z e f = omega (arith, ints)
 add_one true false n m k z e f = omega (arith, ints)
 add_one false d n m k z e f = omega (arith, ints)
 
-pub sum_come : (at : Loc) (ns : List (ℕ × ℕ)) (loc : Loc) (u : ℕ) → sum_at (map (λ n. (at, n.0, pos n.1)) ns) loc u ≡ pos (cond (same_loc at loc) (number_in ns u) 0)
+pub sum_come : (at : Loc) (ns : List (ℕ × ℕ)) (loc : Loc) (u : ℕ) → sum_at (map (λ n. change_at at n.0 (pos n.1)) ns) loc u ≡ pos (cond (same_loc at loc) (number_in ns u) 0)
 sum_come at [] loc u = none (same_loc at loc)
   where
     none : (b : Bool) → pos 0 ≡ pos (cond b 0 0)
@@ -51,7 +51,7 @@ take_one true true n m k z e f = omega (arith, ints)
 take_one true false n m k z e f = omega (arith, ints)
 take_one false d n m k z e f = omega (arith, ints)
 
-pub sum_left : (at : Loc) (ns : List (ℕ × ℕ)) (loc : Loc) (u : ℕ) → sum_at (map (λ n. (at, n.0, neg_ℤ (pos n.1))) ns) loc u ≡ pos 0 -ℤ pos (cond (same_loc at loc) (number_in ns u) 0)
+pub sum_left : (at : Loc) (ns : List (ℕ × ℕ)) (loc : Loc) (u : ℕ) → sum_at (map (λ n. change_at at n.0 (neg_ℤ (pos n.1))) ns) loc u ≡ pos 0 -ℤ pos (cond (same_loc at loc) (number_in ns u) 0)
 sum_left at [] loc u = none (same_loc at loc)
   where
     none : (b : Bool) → pos 0 ≡ pos 0 -ℤ pos (cond b 0 0)
@@ -113,8 +113,8 @@ module _ (o : Outline) (w : ℕ) (log : Log) (ok : OutlineIsSound o) (j b t : �
   sent_body OutRoute u = nothing _ _ (ap pos (sent_held o w log packet u o.rows (no_row o ok packet refl)))
   sent_body OutMail u = nothing _ _ (sent_mail o w log packet is_row u refl)
 
-  sent_apart : All (IsApart (one_more (State j) t)) (map (λ n. (Host j, n.0, neg_ℤ (pos n.1))) left)
-  sent_apart = All-map (IsApart (one_more (State j) t)) (λ n. (Host j, n.0, neg_ℤ (pos n.1))) left (All-weaker (λ n. n.1 ≢ 0) (λ n. IsApart (one_more (State j) t) (Host j, n.0, neg_ℤ (pos n.1))) (λ n h e. other_place e.0) left more.none_is_zero)
+  sent_apart : All (IsApart (one_more (State j) t)) (map (λ n. change_at (Host j) n.0 (neg_ℤ (pos n.1))) left)
+  sent_apart = All-map (IsApart (one_more (State j) t)) (λ n. change_at (Host j) n.0 (neg_ℤ (pos n.1))) left (All-weaker (λ n. n.1 ≢ 0) (λ n. IsApart (one_more (State j) t) (change_at (Host j) n.0 (neg_ℤ (pos n.1)))) (λ n h e. other_place (same_loc_of (one_more (State j) t) (change_at (Host j) n.0 (neg_ℤ (pos n.1))) e)) left more.none_is_zero)
     where
       other_place : State j ≡ Host j → ⊥
       other_place e = cc
@@ -126,10 +126,10 @@ module _ (o : Outline) (w : ℕ) (log : Log) (ok : OutlineIsSound o) (j b t : �
   pub packet_sent : AreChanges o w log (with_sent log (Packet j b t)) (packet_sent_at j t left)
   packet_sent = record {
     sums = λ loc u. ap (λ (z : ℤ). cond (same_loc (State j) loc && t == u) (pos 1) (pos 0) +ℤ z) (sum_left (Host j) left loc u) ∙ sent_body loc u;
-    once = AllPairs-cons IsApart (one_more (State j) t) (map (λ n. (Host j, n.0, neg_ℤ (pos n.1))) left) sent_apart (once_at (Host j) (λ n. n.0) (λ n. neg_ℤ (pos n.1)) left more.once);
+    once = AllPairs-cons IsApart (one_more (State j) t) (map (λ n. change_at (Host j) n.0 (neg_ℤ (pos n.1))) left) sent_apart (once_at (Host j) (λ n. n.0) (λ n. neg_ℤ (pos n.1)) left more.once);
     none_by_zero =
-        All-cons IsNotZero (one_more (State j) t) (map (λ n. (Host j, n.0, neg_ℤ (pos n.1))) left) (λ e. cc)
-        (All-map IsNotZero (λ n. (Host j, n.0, neg_ℤ (pos n.1))) left (All-weaker (λ n. n.1 ≢ 0) (λ n. IsNotZero (Host j, n.0, neg_ℤ (pos n.1))) (λ n h. not_nothing n.1 h) left more.none_is_zero));
+        All-cons IsNotZero (one_more (State j) t) (map (λ n. change_at (Host j) n.0 (neg_ℤ (pos n.1))) left) (λ e. cc)
+        (All-map IsNotZero (λ n. change_at (Host j) n.0 (neg_ℤ (pos n.1))) left (All-weaker (λ n. n.1 ≢ 0) (λ n. IsNotZero (change_at (Host j) n.0 (neg_ℤ (pos n.1)))) (λ n h. not_nothing n.1 h) left more.none_is_zero));
   }
 
 module _ (o : Outline) (w : ℕ) (log : Log) (ok : OutlineIsSound o) (j b t : ℕ) (come : List (ℕ × ℕ)) (more : AreMore o j log (with_took log (Packet j b t)) come) where
@@ -162,8 +162,8 @@ module _ (o : Outline) (w : ℕ) (log : Log) (ok : OutlineIsSound o) (j b t : �
   taken_body OutRoute u = nothing _ _ (ap pos (took_held o w log bin_packet u o.rows))
   taken_body OutMail u = nothing _ _ (took_mail o w log bin_packet is_row u refl)
 
-  taken_apart : All (IsApart (one_less (State j) t)) (map (λ n. (Host j, n.0, pos n.1)) come)
-  taken_apart = All-map (IsApart (one_less (State j) t)) (λ n. (Host j, n.0, pos n.1)) come (All-weaker (λ n. n.1 ≢ 0) (λ n. IsApart (one_less (State j) t) (Host j, n.0, pos n.1)) (λ n h e. other_place e.0) come more.none_is_zero)
+  taken_apart : All (IsApart (one_less (State j) t)) (map (λ n. change_at (Host j) n.0 (pos n.1)) come)
+  taken_apart = All-map (IsApart (one_less (State j) t)) (λ n. change_at (Host j) n.0 (pos n.1)) come (All-weaker (λ n. n.1 ≢ 0) (λ n. IsApart (one_less (State j) t) (change_at (Host j) n.0 (pos n.1))) (λ n h e. other_place (same_loc_of (one_less (State j) t) (change_at (Host j) n.0 (pos n.1)) e)) come more.none_is_zero)
     where
       other_place : State j ≡ Host j → ⊥
       other_place e = cc
@@ -174,8 +174,8 @@ module _ (o : Outline) (w : ℕ) (log : Log) (ok : OutlineIsSound o) (j b t : �
   pub packet_taken : AreChanges o w log (with_took log (Packet j b t)) (packet_taken_at j t come)
   packet_taken = record {
     sums = λ loc u. ap (λ (z : ℤ). cond (same_loc (State j) loc && t == u) (negsuc 0) (pos 0) +ℤ z) (sum_come (Host j) come loc u) ∙ taken_body loc u;
-    once = AllPairs-cons IsApart (one_less (State j) t) (map (λ n. (Host j, n.0, pos n.1)) come) taken_apart (once_at (Host j) (λ n. n.0) (λ n. pos n.1) come more.once);
+    once = AllPairs-cons IsApart (one_less (State j) t) (map (λ n. change_at (Host j) n.0 (pos n.1)) come) taken_apart (once_at (Host j) (λ n. n.0) (λ n. pos n.1) come more.once);
     none_by_zero =
-        All-cons IsNotZero (one_less (State j) t) (map (λ n. (Host j, n.0, pos n.1)) come) (λ e. cc)
-        (All-map IsNotZero (λ n. (Host j, n.0, pos n.1)) come (All-weaker (λ n. n.1 ≢ 0) (λ n. IsNotZero (Host j, n.0, pos n.1)) (λ n h e. h (same_number n.1 0 e)) come more.none_is_zero));
+        All-cons IsNotZero (one_less (State j) t) (map (λ n. change_at (Host j) n.0 (pos n.1)) come) (λ e. cc)
+        (All-map IsNotZero (λ n. change_at (Host j) n.0 (pos n.1)) come (All-weaker (λ n. n.1 ≢ 0) (λ n. IsNotZero (change_at (Host j) n.0 (pos n.1))) (λ n h e. h (same_number n.1 0 e)) come more.none_is_zero));
   }

@@ -2,30 +2,25 @@
 use Rattle.std.proofs.Common.{◌≡◌, ◌≢◌, ℕ, suc, ◌==◌, Bool, true, false, cond, List, [], ◌∷◌, map, ℤ, refl, ap, ⊎_elim, arith}
 use Rattle.std.specs.List.{All, AllPairs, Contains, sum_by}
 use Rattle.std.proofs.lemmas.Bool.{cases_Bool, eqb-false, eqb-true}
-use Rattle.std.proofs.lemmas.List.Elements.{All-contains, All-from_get_or, All-map, All-weaker}
+use Rattle.std.proofs.lemmas.List.Elements.{All-contains, All-map, All-weaker}
 use Rattle.std.proofs.lemmas.List.Kept.{AllPairs-cons}
 use Rattle.std.proofs.lemmas.List.Sums.{sum_by-cons}
 use Rattle.std.proofs.lemmas.Map.Made.{Contains-tail}
 use Rattle.mp_names.specs.declared.locations.Loc.{Loc}
-use Rattle.mp_count_laws.proofs.Entries.{IsApart, none_once}
-
-module _ {X : Type 0} (R : X → X → Type 0) where
-  pub pairs_head : (x : X) (xs : List X) → AllPairs R (x ∷ xs) → All (R x) xs
-  pairs_head x xs h = All-from_get_or (R x) xs x (λ i l. h 0 (suc i) x (omega arith) (omega arith))
-
-  pub pairs_tail : (x : X) (xs : List X) → AllPairs R (x ∷ xs) → AllPairs R xs
-  pairs_tail x xs h = λ i j d l m. h (suc i) (suc j) d (omega arith) (omega arith)
+use Rattle.mp_ordered.proofs.Placing.{pairs_head, pairs_tail}
+use Rattle.mp_rows.specs.Entries.{change_at}
+use Rattle.mp_count_laws.proofs.Entries.{IsApart, none_once, same_time_of}
 
 -- each place once
-pub once_at : {X : Type 0} (at : Loc) (f : X → ℕ) (z : X → ℤ) (xs : List X) → AllPairs (λ x y. f x ≢ f y) xs → AllPairs IsApart (map (λ x. (at, f x, z x)) xs)
+pub once_at : {X : Type 0} (at : Loc) (f : X → ℕ) (z : X → ℤ) (xs : List X) → AllPairs (λ x y. f x ≢ f y) xs → AllPairs IsApart (map (λ x. change_at at (f x) (z x)) xs)
 once_at at f z [] h = none_once
 once_at {X} at f z (x ∷ xs) h =
-    AllPairs-cons IsApart (at, f x, z x) (map (λ x. (at, f x, z x)) xs)
-    (All-map (IsApart (at, f x, z x)) (λ x. (at, f x, z x)) xs (apart xs (pairs_head (λ x y. f x ≢ f y) x xs h)))
+    AllPairs-cons IsApart (change_at at (f x) (z x)) (map (λ x. change_at at (f x) (z x)) xs)
+    (All-map (IsApart (change_at at (f x) (z x))) (λ x. change_at at (f x) (z x)) xs (apart xs (pairs_head (λ x y. f x ≢ f y) x xs h)))
     (once_at at f z xs (pairs_tail (λ x y. f x ≢ f y) x xs h))
   where
-    apart : (ys : List X) → All (λ y. f x ≢ f y) ys → All (λ y. IsApart (at, f x, z x) (at, f y, z y)) ys
-    apart ys a = All-weaker (λ y. f x ≢ f y) (λ y. IsApart (at, f x, z x) (at, f y, z y)) (λ y n e. n e.1) ys a
+    apart : (ys : List X) → All (λ y. f x ≢ f y) ys → All (λ y. IsApart (change_at at (f x) (z x)) (change_at at (f y) (z y))) ys
+    apart ys a = All-weaker (λ y. f x ≢ f y) (λ y. IsApart (change_at at (f x) (z x)) (change_at at (f y) (z y))) (λ y n e. n (same_time_of (change_at at (f x) (z x)) (change_at at (f y) (z y)) e)) ys a
 
 -- how often a time stands in a list that has each once
 

@@ -1,29 +1,27 @@
 -- What each step of a worker changes at the counts of outstanding work, as entries by location and time.
-use Rattle.std.specs.Prelude.{◌≡◌, ◌≢◌, ℕ, suc, ◌+◌, ◌&&◌, ◌==◌, Bool, false, cond, if◌then◌else◌, List, [], ◌∷◌, ◌++◌, map, count_by, All, AllPairs, ℤ, pos, negsuc, neg_ℤ}
+use Rattle.std.specs.Prelude.{◌≡◌, ◌≢◌, ℕ, suc, ◌+◌, ◌&&◌, ◌==◌, Bool, false, cond, if◌then◌else◌, List, [], ◌∷◌, ◌++◌, map, count_by, All, AllPairs, pos, negsuc, neg_ℤ}
 use Rattle.std.specs.List.{sum_by}
 use Rattle.mp_names.specs.declared.locations.Loc.{Loc}
 use Rattle.mp_names.specs.declared.locations.Loc.TheVariants.{Ctl, CtlMail, Source, Route, Mail, Move, State, Host, OutRoute, OutMail}
 use Rattle.mp_names.specs.declared.names.Name.{Name}
 use Rattle.mp_names.specs.declared.names.Name.TheVariants.{Rec, Row}
+use Rattle.mp_names.specs.declared.pointstamps.Change.{Change}
 use Rattle.mp_names.specs.Frontiers.{number_at}
 use Rattle.mp_names.specs.Logs.{Log, is_pending}
 use Rattle.mp_names.specs.Outlines.{Outline, groups_of}
-
--- a location, a time, and by how much the count there changes
-abbrev pub Change : Type 0
-Change = Loc × ℕ × ℤ
+use Rattle.mp_rows.specs.Entries.{change_at}
 
 -- one more at a location and time
 abbrev pub one_more : Loc → ℕ → Change
-one_more loc t = (loc, t, pos 1)
+one_more loc t = change_at loc t (pos 1)
 
 -- one less
 abbrev pub one_less : Loc → ℕ → Change
-one_less loc t = (loc, t, negsuc 0)
+one_less loc t = change_at loc t (negsuc 0)
 
 -- so many more, where there are any
 abbrev pub some_more : Loc → ℕ → ℕ → List Change
-some_more loc t n = if n == 0 then [] else (loc, t, pos n) ∷ []
+some_more loc t n = if n == 0 then [] else change_at loc t (pos n) ∷ []
 
 -- Names that come and go
 
@@ -71,9 +69,9 @@ is_output t k _ = false
 abbrev pub given_by : Outline → ℕ → List Name
 given_by o j = if suc j == o.stages then o.rows else o.records (suc j)
 
--- where that is counted until it is sent
-abbrev pub route_after : Outline → ℕ → Loc
-route_after o j = if suc j == o.stages then OutRoute else Route (suc j)
+-- where that is counted until it is sent, in a job of this many stages
+abbrev pub location_after : ℕ → ℕ → Loc
+location_after j stages = if suc j == stages then OutRoute else Route (suc j)
 
 -- how many the group of the key at the time gives
 abbrev pub outputs_of : Outline → ℕ → ℕ → ℕ → ℕ
@@ -81,7 +79,7 @@ outputs_of o j t k = count_by (is_output t k) (given_by o j)
 
 -- a group is applied: it waits no longer, what it gives is the router's, and the key's groups at these times wait from now on
 abbrev pub applied_at : Outline → ℕ → ℕ → ℕ → List ℕ → List Change
-applied_at o j t k woken = one_less (Host j) t ∷ (some_more (route_after o j) t (outputs_of o j t k) ++ map (one_more (Host j)) woken)
+applied_at o j t k woken = one_less (Host j) t ∷ (some_more (location_after j o.stages) t (outputs_of o j t k) ++ map (one_more (Host j)) woken)
 
 -- Bins that move
 
@@ -101,8 +99,8 @@ pub record AreMore (o : Outline) (j : ℕ) (fewer more : Log) (ns : List (ℕ ×
 
 -- a packet is sent: these groups, which waited by wakes that leave with it, wait no longer
 abbrev pub packet_sent_at : ℕ → ℕ → List (ℕ × ℕ) → List Change
-packet_sent_at j t left = one_more (State j) t ∷ map (λ n. (Host j, n.0, neg_ℤ (pos n.1))) left
+packet_sent_at j t left = one_more (State j) t ∷ map (λ n. change_at (Host j) n.0 (neg_ℤ (pos n.1))) left
 
 -- a packet is taken: these groups wait from now on, by wakes that come with it
 abbrev pub packet_taken_at : ℕ → ℕ → List (ℕ × ℕ) → List Change
-packet_taken_at j t come = one_less (State j) t ∷ map (λ n. (Host j, n.0, pos n.1)) come
+packet_taken_at j t come = one_less (State j) t ∷ map (λ n. change_at (Host j) n.0 (pos n.1)) come

@@ -7,6 +7,7 @@ use Rattle.mp_names.specs.declared.locations.Frontier.TheVariants.{At, Done}
 use Rattle.mp_names.specs.declared.locations.Loc.TheVariants.{CtlMail, Host}
 use Rattle.mp_names.specs.declared.names.Name.{Name}
 use Rattle.mp_names.specs.declared.names.Name.TheVariants.{Packet}
+use Rattle.mp_names.specs.declared.pointstamps.TimedBin.{TimedBin}
 use Rattle.mp_names.specs.Frontiers.{HasPassed, HasReached}
 use Rattle.mp_names.specs.Logs.{Log}
 use Rattle.mp_names.specs.Names.{has, Less}
@@ -24,7 +25,7 @@ use Rattle.mp_handoff.specs.MoversOf.{IsMoversOf, KnowsMoves}
 use Rattle.mp_handoff.proofs.After.{after_from, after_is, less_after, no_later}
 
 -- the movers of these fields
-abbrev pub moving : ℕ → ℕ → InOrder ℕ → Option (ℕ × ℕ) → List Sent → ℕ → MoversState
+abbrev pub moving : ℕ → ℕ → InOrder ℕ → Option TimedBin → List Sent → ℕ → MoversState
 moving j w times last sent room = record {
   stage = j;
   worker = w;

@@ -5,4 +5,3 @@ pub mod Leaving
 pub mod Sending
 pub mod Noting
 pub mod Settling
-pub mod Empty

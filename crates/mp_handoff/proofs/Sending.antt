@@ -5,6 +5,7 @@ use Rattle.std.proofs.lemmas.Bool.{eq-eqb, false_from_ne_true, true_from_ne_fals
 use Rattle.mp_names.specs.declared.locations.Loc.TheVariants.{CtlMail}
 use Rattle.mp_names.specs.declared.names.Name.{Name}
 use Rattle.mp_names.specs.declared.names.Name.TheVariants.{Packet, Settled}
+use Rattle.mp_names.specs.declared.pointstamps.TimedBin.{TimedBin}
 use Rattle.mp_names.specs.Frontiers.{HasPassed}
 use Rattle.mp_names.specs.Logs.{Log, with_sent}
 use Rattle.mp_names.specs.Names.{has, In, is_packet}
@@ -14,7 +15,7 @@ use Rattle.mp_names.proofs.Lists.{In_left, In_push}
 use Rattle.mp_stamps.specs.declared.seen.Seen.{Seen}
 use Rattle.mp_stamps.specs.Seen.{seen_at}
 use Rattle.mp_bins.specs.Notes.{Notes}
-use Rattle.mp_bins.specs.Leaving.{IsAfter}
+use Rattle.mp_bins.specs.Leaving.{IsAfter, bin_at}
 use Rattle.mp_handoff.specs.declared.sent.Sent.{Sent}
 use Rattle.mp_handoff.specs.Due.{MoversMatchLogAndSeen, IsLeastDue}
 use Rattle.mp_handoff.specs.MoversState.{MoversState, is_after}
@@ -33,34 +34,34 @@ module _ (o : Outline) (log : Log) (notes : Notes) (seen : Seen) (m : MoversStat
   comes_next = unsent_after o log m i.0 c u least.0.0.1 least.0.0.2
 
   module _ (b t : ℕ) (owed : IsOwedBy o m.worker (Packet m.stage b t)) where
-    in_front : (IsAfter (Some (u, c)) t b → ⊥) → is_after (Some (u, c)) t b ≡ false
-    in_front n = false_from_ne_true (is_after (Some (u, c)) t b) (λ h. n (after_is (Some (u, c)) t b h))
+    in_front : (IsAfter (Some (bin_at u c)) t b → ⊥) → is_after (Some (bin_at u c)) t b ≡ false
+    in_front n = false_from_ne_true (is_after (Some (bin_at u c)) t b) (λ h. n (after_is (Some (bin_at u c)) t b h))
 
-    the_last : (u ≡ t) × (c ≡ b) → has (log.sent ++ Packet m.stage c u ∷ []) (Packet m.stage b t) ≡ not (is_after (Some (u, c)) t b)
+    the_last : (u ≡ t) × (c ≡ b) → has (log.sent ++ Packet m.stage c u ∷ []) (Packet m.stage b t) ≡ not (is_after (Some (bin_at u c)) t b)
     the_last e =
         let same : Packet m.stage c u ≡ Packet m.stage b t = cc in
-        let none = in_front (λ h. never_itself t b (subst (λ (p : ℕ × ℕ). IsAfter (Some p) t b) (cc) h)) in
+        let none = in_front (λ h. never_itself t b (subst (λ (p : TimedBin). IsAfter (Some p) t b) (cc) h)) in
         subst (λ (x : Name). In x (log.sent ++ Packet m.stage c u ∷ [])) same (In_last (Packet m.stage c u) log.sent) ∙ sym (ap not none)
 
-    a_later : IsAfter (Some (u, c)) t b → has (log.sent ++ Packet m.stage c u ∷ []) (Packet m.stage b t) ≡ not (is_after (Some (u, c)) t b)
+    a_later : IsAfter (Some (bin_at u c)) t b → has (log.sent ++ Packet m.stage c u ∷ []) (Packet m.stage b t) ≡ not (is_after (Some (bin_at u c)) t b)
     a_later a =
-        has_other (Packet m.stage c u) (Packet m.stage b t) log.sent (λ e. let s = same_packet m.stage c u b t e in never_itself t b (subst (λ (p : ℕ × ℕ). IsAfter (Some p) t b) (cc) a))
+        has_other (Packet m.stage c u) (Packet m.stage b t) log.sent (λ e. let s = same_packet m.stage c u b t e in never_itself t b (subst (λ (p : TimedBin). IsAfter (Some p) t b) (cc) a))
         ∙ after_unsent o log m i.0 b t owed (after_trans m.last u c t b comes_next a)
-        ∙ sym (ap not (after_from (Some (u, c)) t b a))
+        ∙ sym (ap not (after_from (Some (bin_at u c)) t b a))
 
-    an_earlier : IsAfter (Some (t, b)) u c → has (log.sent ++ Packet m.stage c u ∷ []) (Packet m.stage b t) ≡ not (is_after (Some (u, c)) t b)
+    an_earlier : IsAfter (Some (bin_at t b)) u c → has (log.sent ++ Packet m.stage c u ∷ []) (Packet m.stage b t) ≡ not (is_after (Some (bin_at u c)) t b)
     an_earlier a =
-        let before = λ (h : IsAfter (Some (u, c)) t b). never_itself u c (after_trans (Some (u, c)) t b u c h a) in
+        let before = λ (h : IsAfter (Some (bin_at u c)) t b). never_itself u c (after_trans (Some (bin_at u c)) t b u c h a) in
         let passed = passed_earlier (seen_at seen CtlMail) u t least.0.1 (no_later u c t b before) in
         let was = true_from_ne_false (has log.sent (Packet m.stage b t)) (λ n. least.1 (Packet m.stage b t) ((refl, owed, n), passed) (after_less m.stage t b u c a)) in
         In_left (Packet m.stage b t) log.sent (Packet m.stage c u ∷ []) was ∙ sym (ap not (in_front before))
 
-    sent_to : has (log.sent ++ Packet m.stage c u ∷ []) (Packet m.stage b t) ≡ not (is_after (Some (u, c)) t b)
+    sent_to : has (log.sent ++ Packet m.stage c u ∷ []) (Packet m.stage b t) ≡ not (is_after (Some (bin_at u c)) t b)
     sent_to =
-        ⊎_elim the_last (λ (h : IsAfter (Some (u, c)) t b ⊎ IsAfter (Some (t, b)) u c). ⊎_elim a_later an_earlier h) (after_connected u c t b)
+        ⊎_elim the_last (λ (h : IsAfter (Some (bin_at u c)) t b ⊎ IsAfter (Some (bin_at t b)) u c). ⊎_elim a_later an_earlier h) (after_connected u c t b)
 
   pub sent_on : (keys room : ℕ)
-      → IsMoversOf o (with_sent log (Packet m.stage c u)) (record m { last = Some (u, c); sent = m.sent ++ record { bin = c; time = u; keys = keys } ∷ []; room_for_sent = room })
+      → IsMoversOf o (with_sent log (Packet m.stage c u)) (record m { last = Some (bin_at u c); sent = m.sent ++ record { bin = c; time = u; keys = keys } ∷ []; room_for_sent = room })
   sent_on keys room = record {
     unsettled = i.0.unsettled;
     sent = sent_to;

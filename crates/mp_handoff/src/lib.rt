@@ -1,3 +1,5 @@
+//! Layer: the parts of a worker.
+//!
 //! The handing off of bins: of a stage, which bins are due to leave a worker, and which times of control records it has
 //! settled, since all that it had to hand off then is sent. And how many keys each bin had that left.
 #![tactic(auto)]
@@ -6,8 +8,6 @@ mod by_time;
 mod laws;
 mod movers;
 mod sent;
-#[cfg(test)]
-mod tests;
 
 pub use laws::movers_stay;
 pub use movers::Movers;

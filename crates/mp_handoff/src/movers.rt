@@ -5,6 +5,7 @@ ghost use Rattle.mp_names.specs.Frontiers.{HasReached};
 ghost use Rattle.mp_names.specs.Logs.{Log, empty_log, is_noted, with_sent, with_settled, with_took};
 ghost use Rattle.mp_names.specs.Names.{has};
 ghost use Rattle.mp_stamps.specs.declared.seen.Seen.{Seen};
+ghost use Rattle.mp_bins.specs.Leaving.{bin_at};
 ghost use Rattle.mp_bins.specs.Notes.{Notes};
 ghost use Rattle.mp_model.specs.Ascending.{placed};
 ghost use Rattle.mp_outline.specs.JobOutline.{outline_of};
@@ -16,7 +17,7 @@ use crate::by_time::ByTime;
 use crate::sent::Sent;
 use mp_bins::{Move, Owners};
 use mp_model::{Naming, Query, Time};
-use mp_names::{Frontier, Loc};
+use mp_names::{Frontier, Loc, TimedBin};
 use mp_ordered::Ordered;
 use mp_stamps::{Seen, passed};
 use std::alloc::{AllocError, Global};
@@ -31,8 +32,8 @@ pub struct Movers<Q: Query, J: Naming> {
     worker: u32,
     // Each once.
     unsettled: Ordered<Time, ByTime>,
-    // The time and the bin of the last packet that was sent.
-    last: Option<(Time, u32)>,
+    // The last packet that was sent.
+    last: Option<TimedBin>,
     // In the order in which they were sent.
     sent: Vec<Sent>,
     of: PhantomData<(Q, J)>,
@@ -170,7 +171,7 @@ impl<Q: Query, J: Naming> Movers<Q, J> {
         requires room { 0 < self.old.room_for_sent }
         requires keys { HasKeys (Q.facts J.job.rules) J.job self.old.stage moved.bin moved.time keys }
         ensures same { self.new ≡ record self.old {
-          last = Some (moved.time, moved.bin);
+          last = Some (bin_at moved.time moved.bin);
           sent = self.old.sent ++ record { bin = moved.bin; time = moved.time; keys = keys } ∷ [];
           room_for_sent = self.new.room_for_sent;
         } }
@@ -180,7 +181,7 @@ impl<Q: Query, J: Naming> Movers<Q, J> {
             → IsMoversOf o (with_sent log (Packet self.old.stage moved.bin moved.time)) self.new }
     {
         let Move { time, bin, .. } = moved;
-        self.last = Some((time, bin));
+        self.last = Some(TimedBin { time, bin });
         self.sent.push_reserved(Sent { bin, time, keys });
     }
 

@@ -3,12 +3,10 @@ use Rattle.std.proofs.Common.{◌≡◌, ℕ, ◌==◌, Bool, true, false, cond,
 use Rattle.std.specs.BTreeMap.{BTreeMap, is_at}
 use Rattle.std.specs.Map.{lookup}
 use Rattle.std.specs.Option.{unwrap_or}
-use Rattle.std.specs.Ordering.{is_eq, nat_cmp}
+use Rattle.std.specs.Ordering.{nat_cmp}
 use Rattle.mp_msg.specs.States.{cell_in}
+use Rattle.mp_msg.proofs.Cells.{same_key}
 use Rattle.mp_host.specs.Cells.{cell_of}
-
-same_key : (k l : ℕ) → is_eq (nat_cmp k l) ≡ (l == k)
-same_key k l = grind arith
 
 module _ {Cell : Type 0} (fresh : Cell) where
   one_more : (b : Bool) (c rest : Cell) (others : Option Cell) → rest ≡ unwrap_or others fresh → cond b c rest ≡ unwrap_or (cond b (Some c) others) fresh

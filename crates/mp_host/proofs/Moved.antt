@@ -6,10 +6,11 @@ use Rattle.mp_names.specs.declared.names.Name.{Name}
 use Rattle.mp_names.specs.declared.names.Name.TheVariants.{Rec as RecName}
 use Rattle.mp_names.specs.Outlines.{OutlineIsSound, is_posted}
 use Rattle.mp_names.proofs.Owners.{move_in_shape}
+use Rattle.mp_names.proofs.NameParts.{same_parts}
 use Rattle.mp_model.specs.Facts.{JobFacts, QueryFacts}
 use Rattle.mp_model.specs.QueryLaws.{LaterStagesPostNothing}
 use Rattle.mp_outline.specs.JobOutline.{outline_of}
-use Rattle.mp_outline.proofs.Stages.{post_named, record_named, same_parts}
+use Rattle.mp_outline.proofs.Stages.{post_named, record_named}
 use Rattle.mp_msg.specs.Contents.{IsPacketOf}
 use Rattle.mp_msg.specs.States.{BinContent}
 use Rattle.mp_host_laws.specs.declared.held.Held.{Held}

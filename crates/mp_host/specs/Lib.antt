@@ -4,6 +4,5 @@ pub mod Hosts
 pub mod Moves
 pub mod Numbers
 pub mod Ready
-pub mod Samples
 pub mod Telling
 pub mod Waiting

@@ -13,10 +13,11 @@ ghost use Rattle.mp_host.specs.Ready.{IsReadyHere};
 ghost use Rattle.mp_host.specs.Telling.{AppliesGroup, IfDid};
 
 use crate::groups::first_records;
-use crate::posts::{posts_of, put_in_order};
+use crate::posts::posts_of;
 use crate::stepping::step_state;
 use crate::{Applied, Host};
 use mp_bins::Owners;
+use mp_job::put_in_order;
 use mp_model::{Group, Naming, Query, Time, Value};
 use mp_stamps::Seen;
 use std::alloc::{AllocError, Global};

@@ -9,6 +9,7 @@ ghost use Rattle.mp_host_laws.specs.HostOf.{IsHostOf};
 ghost use Rattle.mp_host.specs.Telling.{TakesRecord};
 
 use crate::order::ByGroup;
+use mp_bins::first_owner;
 use mp_host_laws::Held;
 use mp_job::Job;
 use mp_model::{Naming, Query, Rec};
@@ -109,7 +110,7 @@ fn first_held<Q: Query>(
     let shape = job.shape();
     let mut held = Vec::new(alloc);
     for bin in 0..shape.bins {
-        if bin % shape.workers == worker {
+        if first_owner(shape, bin) == worker {
             held.push(Held {
                 bin,
                 since: None,

@@ -1,3 +1,5 @@
+//! Layer: the parts of a worker.
+//!
 //! The hosting half of a stage, as in Megaphone: it keeps the cells of keys, the records whose group waits and the wakes,
 //! and applies each group once all that belongs to it has come.
 #![tactic(auto)]
@@ -15,8 +17,6 @@ mod posts;
 mod reading;
 mod states;
 mod stepping;
-#[cfg(test)]
-mod tests;
 mod waiting;
 
 pub use applied::Applied;

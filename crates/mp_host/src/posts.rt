@@ -2,7 +2,6 @@
 ghost use Rattle.std.specs.Prelude.{◌≡◌, ◌≤◌, ◌-◌, ◌^◌, All, IfOk, length, min};
 ghost use Rattle.std.specs.List.{flat_map};
 ghost use Rattle.mp_names.specs.Limits.{last_time};
-ghost use Rattle.mp_model.specs.Ascending.{ascending};
 
 use mp_model::{Query, Rec, Time};
 use std::alloc::{AllocError, Global};
@@ -22,14 +21,6 @@ pub fn posts_of<Q: Query>(
         times.extend_from_slice(query.posts(stage, rec).as_slice())?;
     }
     Ok(times)
-}
-
-/// Puts times in order, and keeps each once.
-pub fn put_in_order(times: &mut Vec<Time>)
-    ensures { times.new.items ≡ ascending times.old.items }
-{
-    times.sort_unstable();
-    times.dedup();
 }
 
 /// How many times records post, each time of each of them counted; 2^64 - 1 where there are more.

@@ -11,6 +11,7 @@ use Rattle.mp_names.specs.Logs.{Log, LogIsLegal, has_record, has_wake, is_pendin
 use Rattle.mp_names.specs.Keeping.{GroupIsWhole}
 use Rattle.mp_names.proofs.Hosts.{Brought, left_at}
 use Rattle.mp_names.proofs.Lists.{In_left, In_push}
+use Rattle.mp_names.proofs.NameParts.{same_group, same_parts}
 use Rattle.mp_bins.specs.Bins.{bin_of_key}
 use Rattle.mp_model.specs.declared.record.Rec.{Rec}
 use Rattle.mp_model.specs.Entry.{Entry}
@@ -25,7 +26,7 @@ use Rattle.mp_outline.specs.Laws.{group_at, timeline_of}
 use Rattle.mp_outline.proofs.Found.{found, found_there}
 use Rattle.mp_outline.proofs.Outputs.{timeline_rises}
 use Rattle.mp_outline.proofs.Pairs.{AllPairs-Pairs, Pairs}
-use Rattle.mp_outline.proofs.Stages.{name_posts, name_stands, post_named, record_named, same_parts}
+use Rattle.mp_outline.proofs.Stages.{name_posts, name_stands, post_named, record_named}
 use Rattle.mp_postdated.specs.Wakes.{Has, IsWake}
 use Rattle.mp_msg.specs.Contents.{IsRecordOf}
 use Rattle.mp_msg.specs.States.{IsPostedAt, cell_in}
@@ -38,7 +39,7 @@ use Rattle.mp_host_laws.proofs.Changed.{All-changed, Any-changed, Contains-front
 use Rattle.mp_host_laws.proofs.Groups.{in_group}
 use Rattle.mp_host_laws.proofs.Holding.{AreApart, by_parts}
 use Rattle.mp_host_laws.proofs.Lists.{Pairs-AllPairs, filter_within, fold_upto}
-use Rattle.mp_host_laws.proofs.Logs.{has_push, here_wake, pending_is, push_has, record_pends, same_group, wake_here, wake_pends}
+use Rattle.mp_host_laws.proofs.Logs.{has_push, here_wake, pending_is, push_has, record_pends, wake_here, wake_pends}
 use Rattle.mp_host_laws.proofs.Stays.{StaysSince, stay_began}
 use Rattle.mp_host_laws.proofs.Waiting.{from_is_of, is_of_from, waits_is_pending}
 use Rattle.mp_host_laws.proofs.Whole.{earlier_taken, full_here, group_is_whole, later_not_taken, later_unapplied, least_here, none_sent, on_timeline, records_are_whole, state_cell, state_here, unapplied_here}

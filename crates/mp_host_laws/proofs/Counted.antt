@@ -1,5 +1,5 @@
 -- As many groups wait at a host at a time as wait by its worker's log.
-use Rattle.std.proofs.Common.{◌≡◌, ◌++◌, ℕ, ◌<◌, ◌==◌, ◌&&◌, Bool, true, false, cond, List, [], ◌∷◌, length, filter, map, count_by, Contains, refl, sym, ◌∙◌, subst, ⊎_elim, arith}
+use Rattle.std.proofs.Common.{◌≡◌, ◌++◌, ℕ, ◌<◌, ◌==◌, ◌&&◌, Bool, true, false, List, length, filter, map, Contains, refl, sym, ◌∙◌, subst, ⊎_elim, arith}
 use Rattle.std.proofs.lemmas.Bool.{and_from, and_parts, eq-eqb, eqb-true, false≢true}
 use Rattle.std.proofs.lemmas.List.{length-map}
 use Rattle.std.proofs.lemmas.List.Elements.{Contains-append_cases, Contains-append_left, Contains-append_right}
@@ -9,9 +9,10 @@ use Rattle.mp_names.specs.Names.{In, Distinct}
 use Rattle.mp_names.specs.Outlines.{OutlineIsSound, groups_of, time_of}
 use Rattle.mp_names.specs.Logs.{Log, LogIsLegal, is_pending}
 use Rattle.mp_names.specs.Frontiers.{number_at}
-use Rattle.mp_names.proofs.Lists.{In_here, In_later, counted, same_count}
+use Rattle.mp_names.proofs.Lists.{all_counted, same_count}
 use Rattle.mp_names.proofs.Listed.{groups_are, groups_ascend}
 use Rattle.mp_names.proofs.Orders.{ascending_once}
+use Rattle.mp_names.proofs.NameParts.{same_group}
 use Rattle.mp_model.specs.declared.record.Rec.{Rec}
 use Rattle.mp_model.specs.Facts.{JobFacts, QueryFacts}
 use Rattle.mp_job.proofs.Ascents.{Rises, Rises-ascending, ascending-Contains, Contains-ascending}
@@ -24,21 +25,7 @@ use Rattle.mp_host_laws.specs.declared.held.Held.{Held}
 use Rattle.mp_host_laws.specs.Hosted.{Hosted, StandsInOrder, all_wakes, has_wake_at, keys_at, waits_at, wakes_in}
 use Rattle.mp_host_laws.specs.HostOf.{IsHostOf}
 use Rattle.mp_host_laws.specs.Laws.{WaitingAreCounted}
-use Rattle.mp_host_laws.proofs.Logs.{same_group}
 use Rattle.mp_host_laws.proofs.Waiting.{in_state, pending_in_groups, record_waits, state_wakes, waits_is_pending, waits_why, wake_waits}
-
-one : (b : Bool) → b ≡ true → cond {A = ℕ} b 1 0 ≡ 1
-one true e = refl
-one false e = absurd (false≢true e)
-
--- where all pass as many do as there are
-all_counted : (p : Name → Bool) (xs : List Name) → ((x : Name) → In x xs → p x ≡ true) → count_by p xs ≡ length xs
-all_counted p [] h = refl
-all_counted p (x ∷ xs) h =
-    let a = counted p x xs in
-    let b = one (p x) (h x (In_here x xs)) in
-    let c = all_counted p xs (λ y i. h y (In_later y x xs i)) in
-    omega arith
 
 -- names of one stage and time, one for each key
 names_of : ℕ → ℕ → List ℕ → List Name

@@ -1,5 +1,5 @@
 -- Lists: what holds between their elements, what a filter keeps, and items that are put in order.
-use Rattle.std.proofs.Common.{◌≡◌, ◌⊎◌, ℕ, suc, ◌<◌, ◌≤◌, Bool, true, false, nat_lt, List, [], ◌∷◌, length, filter, fold, take_while, All, AllPairs, Contains, refl, sym, ap, ◌∙◌, subst, inl, inr, ⊎_elim, arith}
+use Rattle.std.proofs.Common.{◌≡◌, ◌⊎◌, ℕ, suc, ◌<◌, ◌≤◌, Bool, true, false, nat_lt, List, [], ◌∷◌, length, filter, fold, take_while, All, AllPairs, Contains, refl, ap, ◌∙◌, subst, inl, inr, ⊎_elim, arith}
 use Rattle.std.specs.List.{list_any}
 use Rattle.std.proofs.lemmas.Bool.{cases_lt, cond_both, le-ltb, lt-ltb}
 use Rattle.std.proofs.lemmas.List.Elements.{All-contains_itself, All-weaker}
@@ -30,31 +30,6 @@ module _ {X : Type 0} where
     (λ y i. let l : i.0 < length xs = i.1 in subst (R x) i.2 (h 0 (suc i.0) y (omega arith) (omega arith))),
     Pairs-AllPairs R xs (λ i j d l m. h (suc i) (suc j) d (omega arith) (omega arith)),
   )
-
-  -- two lists in an order that have the same elements are one
-  pub same_ordered : (R : X → X → Type 0) → ((x y : X) → R x y → R y x → ⊥) → (xs ys : List X) → Pairs R xs → Pairs R ys
-      → ((x : X) → Contains xs x → Contains ys x) → ((x : X) → Contains ys x → Contains xs x) → xs ≡ ys
-  same_ordered R apart [] [] h k f g = refl
-  same_ordered R apart [] (y ∷ ys) h k f g = absurd (nothing_in_nil y (g y (Contains-here y ys)))
-  same_ordered R apart (x ∷ xs) [] h k f g = absurd (nothing_in_nil x (f x (Contains-here x xs)))
-  same_ordered R apart (x ∷ xs) (y ∷ ys) h k f g =
-      let e : x ≡ y = first in
-      let rest : xs ≡ ys = same_ordered R apart xs ys h.1 k.1 (later x y xs ys e h.0 (λ z i. f z (Contains-later x z xs i))) (later y x ys xs (sym e) k.0 (λ z i. g z (Contains-later y z ys i))) in
-      cc
-    where
-      first : x ≡ y
-      first =
-          ⊎_elim
-          (λ (e : y ≡ x). sym e)
-          (λ (i : Contains ys x). ⊎_elim (λ (e : x ≡ y). e) (λ (m : Contains xs y). absurd (apart x y (h.0 y m) (k.0 x i))) (Contains-cases x y xs (g y (Contains-here y ys))))
-          (Contains-cases y x ys (f x (Contains-here x xs)))
-
-      later : (a b : X) (l m : List X) → a ≡ b → ((z : X) → Contains l z → R a z) → ((z : X) → Contains l z → Contains (b ∷ m) z) → (z : X) → Contains l z → Contains m z
-      later a b l m e before there z i =
-          ⊎_elim
-          (λ (s : b ≡ z). let own : R a a = subst (R a) (sym (e ∙ s)) (before z i) in absurd (apart a a own own))
-          (λ (k : Contains m z). k)
-          (Contains-cases b z m (there z i))
 
   -- tests that agree at the elements keep the same ones
   pub filter_within : (p q : X → Bool) (xs : List X) → ((x : X) → Contains xs x → p x ≡ q x) → filter p xs ≡ filter q xs

@@ -1,5 +1,5 @@
 -- What the log of a worker says of wakes: each came into a state that is in hand.
-use Rattle.std.proofs.Common.{◌≡◌, ◌⊎◌, ℕ, suc, ◌<◌, ◌≤◌, ◌==◌, ◌&&◌, ◌||◌, Bool, true, false, not, Option, None, Some, List, [], ◌∷◌, ◌++◌, filter, refl, sym, ap, subst, inl, inr, ⊎_elim, arith}
+use Rattle.std.proofs.Common.{◌≡◌, ◌⊎◌, ℕ, suc, ◌<◌, ◌≤◌, ◌==◌, ◌&&◌, ◌||◌, Bool, true, false, not, Option, None, Some, List, [], ◌∷◌, ◌++◌, filter, refl, sym, subst, inl, inr, ⊎_elim, arith}
 use Rattle.std.specs.List.{list_any}
 use Rattle.std.proofs.lemmas.Bool.{false≢true, and_from, and_parts, both_ways, eq-eqb, eqb-true, false_from_ne_true, not-true, ltb-true, not_from_false, or_cases, or_left, or_right}
 use Rattle.mp_names.specs.declared.names.Name.{Name}
@@ -8,8 +8,8 @@ use Rattle.mp_names.specs.declared.names.Tag.{Tag}
 use Rattle.mp_names.specs.Names.{has, In, is_group, IsAscending, IsPrefix, Less}
 use Rattle.mp_names.specs.Outlines.{Outline, OutlineIsSound, group_owner, groups_of, is_posted}
 use Rattle.mp_names.specs.Logs.{Log, LogIsLegal, brings_wake, has_record, has_wake, is_pending, is_record_of, is_owned, is_wake_here, left_since, owned_groups}
-use Rattle.mp_names.proofs.Lists.{any_at, any_from, filter_In, In_append, In_cases, In_filter, In_here, In_left, In_push, In_right}
-use Rattle.mp_names.proofs.Orders.{filter_ascends, less_irreflexive, less_trans}
+use Rattle.mp_names.proofs.Lists.{any_at, any_from, filter_In, In_append, In_filter, In_here, In_left, In_push, In_right}
+use Rattle.mp_names.proofs.Orders.{before_rest, filter_ascends, less_irreflexive, less_trans}
 use Rattle.mp_names.proofs.Listed.{groups_ascend, posted_group}
 use Rattle.mp_names.proofs.Hosts.{Brought, brought_at, brought_from, left_at, left_from}
 use Rattle.mp_model.specs.Facts.{JobFacts, QueryFacts}
@@ -155,20 +155,6 @@ pub taken_record : (log : Log) (j u k : ℕ) (g : Tag) → In (Rec j u k g) log.
 taken_record log j u k g i =
     any_from (is_record_of j u k) (Rec j u k g) log.took i (and_from (j == j) (u == u && k == k) (eq-eqb j j refl) (and_from (u == u) (k == k) (eq-eqb u u refl) (eq-eqb k k refl)))
 
--- groups of a stage that have one name have one time and one key
-
-time_in : Name → ℕ
-time_in (Group j t k) = t
-time_in _ = 0
-
-key_in : Name → ℕ
-key_in (Group j t k) = k
-key_in _ = 0
-
-pub same_group : (j t k u l : ℕ) → Group j t k ≡ Group j u l → (t ≡ u) × (k ≡ l)
-unfolding time_in key_in
-same_group j t k u l e = (ap time_in e, ap key_in e)
-
 -- Lists that grow
 
 -- a name of a longer list is the last, or one of the others
@@ -180,14 +166,6 @@ has_push xs x y apart =
 
 pub push_has : (xs : List Name) (y : Name) → In y (xs ++ y ∷ [])
 push_has xs y = In_right y xs (y ∷ []) (In_here y [])
-
-before_rest : (xs ys : List Name) → IsAscending (xs ++ ys) → (x y : Name) → In x xs → In y ys → Less x y
-before_rest [] ys h x y i k = absurd (false≢true i)
-before_rest (z ∷ xs) ys h x y i k =
-    ⊎_elim
-    (λ (e : z ≡ x). subst (λ (u : Name). Less u y) e (h.0 y (In_right y xs ys k)))
-    (λ (j : In x xs). before_rest xs ys h.1 x y j k)
-    (In_cases x z xs i)
 
 -- what comes before a name of the beginning of an ascending list stands in that beginning
 pub prefix_before : (xs ys : List Name) (x y : Name) → IsAscending ys → IsPrefix xs ys → In x xs → In y ys → Less y x → In y xs

@@ -7,13 +7,14 @@ use Rattle.mp_names.specs.declared.names.Name.TheVariants.{Group, Packet}
 use Rattle.mp_names.specs.Names.{has, In, is_packet}
 use Rattle.mp_names.specs.Logs.{Log, LogIsLegal, with_took}
 use Rattle.mp_names.proofs.Lists.{In_left, In_push}
+use Rattle.mp_names.proofs.NameParts.{same_parts}
 use Rattle.mp_model.specs.declared.record.Rec.{Rec}
 use Rattle.mp_model.specs.Facts.{JobFacts, QueryFacts}
 use Rattle.mp_ordered.specs.InOrder.{put_in_order}
 use Rattle.mp_outline.specs.JobOutline.{name_of_record, outline_of}
 use Rattle.mp_outline.proofs.Pairs.{AllPairs-Pairs}
 use Rattle.mp_outline.proofs.Records.{same_record}
-use Rattle.mp_outline.proofs.Stages.{name_stands, same_parts}
+use Rattle.mp_outline.proofs.Stages.{name_stands}
 use Rattle.mp_msg.specs.Contents.{IsRecordOf}
 use Rattle.mp_host_laws.specs.Hosted.{Hosted, group_rank}
 use Rattle.mp_host_laws.specs.Applying.{IsReceived}

@@ -9,12 +9,13 @@ use Rattle.mp_names.specs.Names.{has, In}
 use Rattle.mp_names.specs.Outlines.{OutlineIsSound, groups_of}
 use Rattle.mp_names.specs.Logs.{Log, LogIsLegal, has_record, has_wake, is_pending}
 use Rattle.mp_names.proofs.Listed.{record_group}
+use Rattle.mp_names.proofs.NameParts.{same_parts}
 use Rattle.mp_bins.specs.Bins.{bin_of_key}
 use Rattle.mp_model.specs.declared.record.Rec.{Rec}
 use Rattle.mp_model.specs.Facts.{JobFacts, QueryFacts}
 use Rattle.mp_outline.specs.JobOutline.{outline_of}
 use Rattle.mp_outline.proofs.Found.{found, found_there}
-use Rattle.mp_outline.proofs.Stages.{record_named, same_parts}
+use Rattle.mp_outline.proofs.Stages.{record_named}
 use Rattle.mp_postdated.specs.Wakes.{Has}
 use Rattle.mp_host_laws.specs.declared.held.Held.{Held}
 use Rattle.mp_host_laws.specs.Hosted.{Hosted, StandsInOrder, StateStands, has_wake_at, has_wake_in, is_of, is_wake, wakes_in, waits_at}

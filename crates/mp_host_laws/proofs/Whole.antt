@@ -33,6 +33,7 @@ use Rattle.mp_outline.proofs.Records.{records_in_order, same_record}
 use Rattle.mp_outline.proofs.Stages.{group_named, name_stands}
 use Rattle.mp_outline.proofs.Timelines.{groups_are_on, wakes_are}
 use Rattle.mp_msg.specs.States.{cell_in}
+use Rattle.mp_msg.proofs.Ordered.{same_ordered}
 use Rattle.mp_host_laws.specs.declared.held.Held.{Held}
 use Rattle.mp_host_laws.specs.Hosted.{Hosted, StandsInOrder, began_before, cell_at, first_group, group_rank, has_wake_at, is_of, records_of}
 use Rattle.mp_host_laws.specs.Applying.{group_here}
@@ -40,7 +41,7 @@ use Rattle.mp_host_laws.specs.HostOf.{IsHostOf, HostMatchesLogAndSeen, IsReadyAt
 use Rattle.mp_host_laws.specs.Laws.{FirstIsWhole, IsWholeHere}
 use Rattle.mp_host_laws.proofs.Groups.{in_group, of_group}
 use Rattle.mp_host_laws.proofs.Least.{first_least}
-use Rattle.mp_host_laws.proofs.Lists.{Pairs-AllPairs, same_ordered, take_below}
+use Rattle.mp_host_laws.proofs.Lists.{Pairs-AllPairs, take_below}
 use Rattle.mp_host_laws.proofs.Logs.{applied_before, same_test}
 use Rattle.mp_host_laws.proofs.Stays.{IsStateThen, StaysSince, none_from_group, owned_in, state_then, stay_began}
 use Rattle.mp_host_laws.proofs.Waiting.{from_is_of, is_of_from, log_wake_here, wake_in_log}

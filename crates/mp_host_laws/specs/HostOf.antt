@@ -1,15 +1,14 @@
 -- What it means that a host holds what its worker's log says, and which group may be applied.
 use Rattle.std.specs.Prelude.{◌≡◌, ◌≢◌, ◌↔◌, ◌⊎◌, ◌<◌, ◌≤◌, ◌||◌, ℕ, Bool, false, nat_lt, Option, None, Some, All, AllPairs, Any, Contains, filter}
-use Rattle.mp_names.specs.declared.locations.Loc.{Loc}
 use Rattle.mp_names.specs.declared.locations.Loc.TheVariants.{Mail, State}
 use Rattle.mp_names.specs.declared.names.Name.TheVariants.{Packet, Group}
 use Rattle.mp_names.specs.Names.{has, In, IsLeast}
 use Rattle.mp_names.specs.Outlines.{Outline, IsOwedBy, owner_at}
 use Rattle.mp_names.specs.Logs.{Log, LogIsLegal, InHand, left_since}
-use Rattle.mp_names.specs.Frontiers.{HasPassed, IsClosedForOne}
+use Rattle.mp_names.specs.Frontiers.{HasPassed}
 use Rattle.mp_names.specs.Keeping.{IsWaiting}
 use Rattle.mp_stamps.specs.declared.seen.Seen.{Seen}
-use Rattle.mp_stamps.specs.Seen.{HasLoc, seen_at}
+use Rattle.mp_stamps.specs.Seen.{SeenIsDone, seen_at}
 use Rattle.mp_bins.specs.Bins.{bin_of_key}
 use Rattle.mp_bins.specs.Notes.{Notes, first_owner, owner_at as noted_owner}
 use Rattle.mp_model.specs.declared.record.Rec.{Rec}
@@ -66,7 +65,7 @@ module _ {Cell : Type 0} (q : QueryFacts Cell) (job : JobFacts) where
   pub record HostMatchesLogAndSeen (log : Log) (seen : Seen) (h : Hosted Cell) : Type 0 where
     pub host : IsHostOf log h
     pub legal : LogIsLegal (outline_of q job) h.worker log
-    pub done : (at : Loc) (t : ℕ) → HasLoc job.shape.stages at → HasPassed (seen_at seen at) t → IsClosedForOne (outline_of q job) h.worker log at t
+    pub done : SeenIsDone (outline_of q job) h.worker log seen
 
   -- every control record whose time the frontier of packets has passed is noted: up to there the owners are the job's
   pub record OwnersAreCurrent (notes : Notes) (seen : Seen) (stage : ℕ) : Type 0 where

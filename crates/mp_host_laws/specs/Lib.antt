@@ -4,4 +4,3 @@ pub mod Applying
 pub mod Moving
 pub mod HostOf
 pub mod Laws
-pub mod Samples

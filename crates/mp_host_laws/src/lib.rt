@@ -1,10 +1,10 @@
+//! Layer: the parts of a worker.
+//!
 //! What a host holds by its worker's log, and what becomes of it: definitions and their laws.
 #![tactic(auto)]
 
 mod held;
 mod laws;
-#[cfg(test)]
-mod tests;
 
 pub use held::Held;
 pub use laws::{

@@ -16,7 +16,7 @@ use Rattle.mp_outline.proofs.Pairs.{Pairs}
 use Rattle.mp_msg.proofs.Ordered.{same_ordered}
 use Rattle.mp_msg.specs.States.{cell_in}
 
-same_key : (k l : ℕ) → is_eq (nat_cmp k l) ≡ (l == k)
+pub same_key : (k l : ℕ) → is_eq (nat_cmp k l) ≡ (l == k)
 same_key k l = grind arith
 
 less : (k l : ℕ) → nat_cmp k l ≡ Less → k < l

@@ -1,8 +1,8 @@
 -- A name tells what a message of it holds.
 use Rattle.std.proofs.Common.{◌≡◌, ◌⊎◌, ℕ, ◌-◌, List, [], Contains, refl, sym, ap, ◌∙◌, subst, ⊎_elim}
-use Rattle.mp_names.specs.declared.names.Name.{Name}
-use Rattle.mp_names.specs.declared.names.Name.TheVariants.{Rec as RecName, Packet as PacketName, Row as RowName}
+use Rattle.mp_names.specs.declared.names.Name.TheVariants.{Packet as PacketName}
 use Rattle.mp_names.specs.declared.names.Tag.{Tag}
+use Rattle.mp_names.proofs.NameParts.{same_parts, same_row, same_stage}
 use Rattle.mp_model.specs.declared.fields.Field.{Field}
 use Rattle.mp_model.specs.declared.record.Output.{Output}
 use Rattle.mp_model.specs.declared.record.Rec.{Rec as Record}
@@ -14,7 +14,6 @@ use Rattle.mp_outline.specs.Laws.{OutputsInOrder}
 use Rattle.mp_outline.proofs.Outputs.{stage_outputs_in_order}
 use Rattle.mp_outline.proofs.Pairs.{Pairs-two}
 use Rattle.mp_outline.proofs.Records.{same_record}
-use Rattle.mp_outline.proofs.Stages.{same_parts}
 use Rattle.mp_outline.proofs.Tags.{tag_irreflexive}
 use Rattle.mp_msg.specs.declared.message.Body.TheVariants.{Ctrl, Rec, Packet, Row}
 use Rattle.mp_msg.specs.Contents.{IsRecordOf, IsRowOf}
@@ -31,35 +30,13 @@ same_fields : (a b : List Field) → RowValue a ≡ RowValue b → a ≡ b
 unfolding fields_in
 same_fields a b e = ap fields_in e
 
--- the stage, time and tag of a name
-
-stage_in : Name → ℕ
-stage_in (RecName j t k g) = j
-stage_in _ = 0
-
-time_in : Name → ℕ
-time_in (RowName t g) = t
-time_in _ = 0
-
-tag_in : Name → Tag
-tag_in (RowName t g) = g
-tag_in _ = record { 0 = 0; 1 = 0 }
-
-same_stage : (i j s t k l : ℕ) (a b : Tag) → RecName i s k a ≡ RecName j t l b → i ≡ j
-unfolding stage_in
-same_stage i j s t k l a b e = ap stage_in e
-
-same_row : (s t : ℕ) (a b : Tag) → RowName s a ≡ RowName t b → (s ≡ t) × (a ≡ b)
-unfolding time_in tag_in
-same_row s t a b e = (ap time_in e, ap tag_in e)
-
 module _ {Cell : Type 0} (q : QueryFacts Cell) (job : JobFacts) where
   pub records_follow_names : RecordsFollowNames q job
   records_follow_names j r s h i e =
       let same = same_parts j j r.time s.time r.key s.key r.tag s.tag e in same_record q job.events j r s h.1 i.1 same.0 same.2
 
   -- a time and a tag tell an answer row
-  same_output : (o p : Output) → Contains (answer_rows q job.events) o → Contains (answer_rows q job.events) p → o.time ≡ p.time → o.tag ≡ p.tag → o ≡ p
+  pub same_output : (o p : Output) → Contains (answer_rows q job.events) o → Contains (answer_rows q job.events) p → o.time ≡ p.time → o.tag ≡ p.tag → o ≡ p
   same_output o p h i same tags =
       ⊎_elim
       (λ (e : o ≡ p). e)

@@ -3,4 +3,3 @@ pub mod States
 pub mod Bodies
 pub mod Contents
 pub mod Laws
-pub mod Samples

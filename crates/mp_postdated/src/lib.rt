@@ -1,8 +1,8 @@
+//! Layer: the parts of a worker.
+//!
 //! Post-dated wakes: at which times which keys are to be woken, as Megaphone's post-dated records.
 #![tactic(auto)]
 
-#[cfg(test)]
-mod tests;
 mod wakes;
 
 pub use mp_model::Time;

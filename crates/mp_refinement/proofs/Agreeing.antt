@@ -10,15 +10,15 @@ use Rattle.mp_names.specs.declared.names.Name.TheVariants.{Packet, Group, Settle
 use Rattle.mp_names.specs.Outlines.{Outline, time_of}
 use Rattle.mp_names.specs.Logs.{Log}
 use Rattle.mp_names.specs.Frontiers.{HasPassed, HasReached}
+use Rattle.mp_names.specs.Locations.{IsLocation}
 use Rattle.mp_machine.specs.Steps.{IsDue, IsNext, IsReady, KindFits, MayApply, MayLeave, MaySettle}
 use Rattle.mp_machine.specs.Worlds.{Worker}
-use Rattle.mp_stamps.specs.Seen.{HasLoc}
 
 abbrev pub SeesAs : Outline → Worker → Worker → Type 0
-SeesAs o a b = (at : Loc) → HasLoc o.stages at → a.seen at ≡ b.seen at
+SeesAs o a b = (at : Loc) → IsLocation o.stages at → a.seen at ≡ b.seen at
 
 module _ (o : Outline) (w : ℕ) where
-  passed : (a b : Worker) → SeesAs o a b → (at : Loc) (t : ℕ) → HasLoc o.stages at → HasPassed (a.seen at) t → HasPassed (b.seen at) t
+  passed : (a b : Worker) → SeesAs o a b → (at : Loc) (t : ℕ) → IsLocation o.stages at → HasPassed (a.seen at) t → HasPassed (b.seen at) t
   passed a b same at t l h = subst (λ (f : Frontier). HasPassed f t) (same at l) h
 
   -- the worker that sees as the second does, with the log of the first
@@ -47,7 +47,7 @@ module _ (o : Outline) (w : ℕ) where
   agree a b same (Route j) x fits next ready = (next, passed a b same CtlMail (time_of o x) tt ready)
   agree a b same (Receive v) x fits next ready = (tt, tt)
   agree a b same (Extract j) x fits next ready =
-      let back = λ (at : Loc) (l : HasLoc o.stages at). sym (same at l) in
+      let back = λ (at : Loc) (l : IsLocation o.stages at). sym (same at l) in
       ((due a b same j x next.0, (λ y h l. next.1 y (due (seeing a b) a back j y h) l)), leave a b same j fits x ready)
   agree a b same (Settle j) x fits next ready = (next, settle a b same j x ready)
   agree a b same (Apply j) x fits next ready = (next, apply a b same j fits x ready)

@@ -10,10 +10,11 @@ use Rattle.mp_names.specs.declared.names.Name.{Name}
 use Rattle.mp_names.specs.Frontiers.{IsFrontier, contribution, count_at, frontier_of, log_at, sum_below}
 use Rattle.mp_names.specs.Outlines.{Outline, OutlineIsSound}
 use Rattle.mp_names.specs.Logs.{Log, LogIsLegal, LogsAreLegal, empty_log}
+use Rattle.mp_names.specs.Locations.{IsLocation}
 use Rattle.mp_names.proofs.Exact.{frontier_unique}
 use Rattle.mp_names.proofs.Exists.{frontier_is}
 use Rattle.mp_stamps.specs.declared.seen.Seen.{Seen}
-use Rattle.mp_stamps.specs.Seen.{HasLoc, seen_at}
+use Rattle.mp_stamps.specs.Seen.{seen_at}
 use Rattle.mp_mailbox.specs.Queues.{Queues}
 use Rattle.mp_machine.specs.Worlds.{Worker, World, posted_logs, put}
 use Rattle.mp_machine.specs.Steps.{CanExchange, exchanged as world_exchanged, having_seen, posted_with, same_log, version_after}
@@ -76,7 +77,7 @@ module _ (o : Outline) (ok : OutlineIsSound o) (depth : ℕ) (t : SystemState) (
     legal : LogsAreLegal o (posted_with world w)
     legal = put_all (λ v (l : Log). v < o.workers → LogIsLegal o v l) w (world.worker w).log (posted_logs world) (right.logs w) (λ v n. right.posted v)
 
-    seen_is : (at : Loc) → HasLoc o.stages at → seen_at seen at ≡ frontier_of o (posted_with world w) at
+    seen_is : (at : Loc) → IsLocation o.stages at → seen_at seen at ≡ frontier_of o (posted_with world w) at
     seen_is at has =
         frontier_unique (count_at o (posted_with world w)) at (seen_at seen at) (frontier_of o (posted_with world w) at)
         (frontier_of_logs o (log_at logs_after) (posted_with world w) posted_is at (seen_at seen at) (shows at has))

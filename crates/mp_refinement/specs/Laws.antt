@@ -10,7 +10,8 @@ use Rattle.mp_stamps.specs.declared.seen.Seen.{Seen}
 use Rattle.mp_mailbox.specs.Queues.{HadRoom, Queues, WasEmpty, WasFull, empty_queues}
 use Rattle.mp_machine.specs.Worlds.{World, start_of_machine}
 use Rattle.mp_machine.specs.Runs.{Did, NotNow, Saw, WorkerIsFinished, run_of_machine, step_of_machine, turn_of_machine}
-use Rattle.mp_board.specs.Boards.{ShowsFrontiers, TellsWorker, exchanged}
+use Rattle.mp_stamps.specs.Seen.{SeenIsDone}
+use Rattle.mp_board.specs.Boards.{ShowsFrontiers, exchanged}
 use Rattle.mp_refinement.specs.Ends.{PostMatchesLog, FollowsLog}
 use Rattle.mp_refinement.specs.Mail.{MailboxBlocks, MailboxAllows}
 use Rattle.mp_refinement.specs.State.{CanMake, Makes, WorkerState}
@@ -68,7 +69,7 @@ StepsMayAlwaysBeAsked = WhereverTheyAre (λ o depth t world. StepsMayBeAsked o t
 -- what the board shows at the opening is true of every empty log
 abbrev pub OpeningIsTold : Type 0
 OpeningIsTold =
-    (o : Outline) (w : ℕ) (seen : Seen) → OutlineIsSound o → w < o.workers → ShowsFrontiers o (replicate o.workers empty_log) seen → TellsWorker o w empty_log seen
+    (o : Outline) (w : ℕ) (seen : Seen) → OutlineIsSound o → w < o.workers → ShowsFrontiers o (replicate o.workers empty_log) seen → SeenIsDone o w empty_log seen
 
 -- a worker that has done nothing, and saw what the opening board shows
 pub record IsNewWorker (o : Outline) (w : ℕ) (s : WorkerState) : Type 0 where

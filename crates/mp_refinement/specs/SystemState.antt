@@ -8,7 +8,8 @@ use Rattle.mp_names.specs.declared.names.Tag.{Tag}
 use Rattle.mp_names.specs.Frontiers.{log_at}
 use Rattle.mp_names.specs.Names.{In}
 use Rattle.mp_names.specs.Outlines.{Outline, receiver, sender}
-use Rattle.mp_stamps.specs.Seen.{HasLoc, seen_at}
+use Rattle.mp_names.specs.Locations.{IsLocation}
+use Rattle.mp_stamps.specs.Seen.{seen_at}
 use Rattle.mp_mailbox.specs.Queues.{PlainDenotes, Queues}
 use Rattle.mp_machine.specs.Worlds.{Worker, World}
 use Rattle.mp_board.specs.Boards.{Posted}
@@ -29,7 +30,7 @@ pub record SystemState : Type 0 where
 pub record IsWorkerOf (o : Outline) (w : ℕ) (s : WorkerState) (worker : Worker) : Type 0 where
   pub number : s.number ≡ w
   pub log : s.log ≡ worker.log
-  pub seen : (at : Loc) → HasLoc o.stages at → seen_at s.seen at ≡ worker.seen at
+  pub seen : (at : Loc) → IsLocation o.stages at → seen_at s.seen at ≡ worker.seen at
   pub version : s.seen.version ≡ worker.version
 
 -- The workers, the board and the mailboxes are those of this state of the machine; a mailbox holds what was sent and isn't taken
@@ -49,5 +50,5 @@ with_worker t w s post = record t { workers = slice_set t.workers w s; post = po
 
 -- The worker knows that all is over: each frontier that it saw is Done, and worker 0 has written each row that it took
 pub record KnowsTheEnd (o : Outline) (s : WorkerState) : Type 0 where
-  pub done : (at : Loc) → HasLoc o.stages at → seen_at s.seen at ≡ Done
+  pub done : (at : Loc) → IsLocation o.stages at → seen_at s.seen at ≡ Done
   pub written : s.number ≡ 0 → (t : ℕ) (g : Tag) → In (Row t g) s.log.took → In (Written t) s.log.settled

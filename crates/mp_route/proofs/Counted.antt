@@ -1,25 +1,20 @@
 -- As many records of a time are held as the log adds to the count of the location.
-use Rattle.std.proofs.Common.{◌≡◌, ℕ, ◌+◌, ◌&&◌, ◌==◌, not, Bool, true, false, cond, List, [], ◌∷◌, map, count_by, nat_lt, pos, Contains, refl, sym, ap, ◌∙◌, subst, arith}
-use Rattle.std.proofs.lemmas.Bool.{and_from, and_parts, cond_both, eq-eqb, eqb-true, false≢true}
+use Rattle.std.proofs.Common.{◌≡◌, ℕ, ◌+◌, ◌&&◌, ◌==◌, not, Bool, true, false, cond, List, [], ◌∷◌, map, count_by, pos, Contains, refl, sym, ap, ◌∙◌, subst, arith}
+use Rattle.std.proofs.lemmas.Bool.{and_from, and_parts, eq-eqb, eqb-true, false≢true}
 use Rattle.std.proofs.lemmas.List.Sums.{sum_by-cons}
 use Rattle.mp_names.specs.declared.names.Name.{Name}
 use Rattle.mp_names.specs.declared.names.Name.TheVariants.{Ctrl, Rec as RecName, Packet, Row, Group, Settled, Written}
 use Rattle.mp_names.specs.Frontiers.{is_held}
 use Rattle.mp_names.specs.Logs.{is_given}
-use Rattle.mp_names.specs.Names.{Distinct, In, has, is_rec}
+use Rattle.mp_names.specs.Names.{In, has, is_rec}
 use Rattle.mp_names.specs.Outlines.{IsOwed, Outline, time_of}
 use Rattle.mp_names.proofs.Lists.{same_count}
-use Rattle.mp_model.specs.declared.record.Rec.{Rec}
 use Rattle.mp_model.specs.Facts.{JobFacts, QueryFacts}
-use Rattle.mp_model.specs.Stages.{stage_records}
 use Rattle.mp_job.proofs.Members.{Contains-here, Contains-later}
 use Rattle.mp_outline.specs.JobOutline.{name_of_record, outline_of, record_names}
-use Rattle.mp_outline.proofs.Named.{named_In, named_once}
-use Rattle.mp_outline.proofs.Pairs.{Pairs-weaker}
-use Rattle.mp_outline.proofs.Records.{records_in_order}
-use Rattle.mp_outline.proofs.Stages.{record_named, same_parts}
-use Rattle.mp_outline.proofs.Tags.{tag_irreflexive}
-use Rattle.mp_outline.specs.Laws.{RecordsInOrder}
+use Rattle.mp_outline.proofs.Named.{named_In}
+use Rattle.mp_outline.proofs.Stages.{record_named}
+use Rattle.mp_outline.proofs.Soundness.{names_once}
 use Rattle.mp_route.specs.Laws.{HeldAreCounted}
 use Rattle.mp_route.specs.Unsent.{names_held}
 
@@ -59,17 +54,6 @@ under_true true c e = refl
 under_true false c e = absurd (false≢true e)
 
 module _ {Cell : Type 0} (q : QueryFacts Cell) (job : JobFacts) where
-  names_once : (j : ℕ) → Distinct (record_names q job j)
-  names_once j =
-      cond_both (nat_lt j job.shape.stages) (map (name_of_record j) (stage_records q job.events j)) [] Distinct (λ e. once) (λ e. tt)
-    where
-      apart : (r s : Rec) → RecordsInOrder r s → name_of_record j r ≡ name_of_record j s → ⊥
-      apart r s less e = let same = same_parts j j r.time s.time r.key s.key r.tag s.tag e in tag_irreflexive r.tag s.tag (less same.0) same.2
-
-      once : Distinct (map (name_of_record j) (stage_records q job.events j))
-      once =
-          named_once (name_of_record j) (stage_records q job.events j) (Pairs-weaker RecordsInOrder (λ r s. name_of_record j r ≡ name_of_record j s → ⊥) apart (stage_records q job.events j) (records_in_order q job.events j))
-
   -- a name that is listed is that of a record, which has to be sent
   listed_owed : (j : ℕ) (x : Name) → In x (record_names q job j) → (is_rec j x ≡ true) × IsOwed (outline_of q job) x
   listed_owed j x i =
@@ -82,7 +66,7 @@ module _ {Cell : Type 0} (q : QueryFacts Cell) (job : JobFacts) where
       let at_time : Name → Bool = λ x. is_held o w log x && time_of o x == t in
       ap pos
       (sym (count_named (name_of_record h.stage) at_time (λ r. r.time == t) h.held (λ r i. under_true (is_held o w log (name_of_record h.stage r)) (r.time == t) (held (name_of_record h.stage r) (named_In (name_of_record h.stage) h.held r i))))
-      ∙ sym (same_count at_time (names_held h) (record_names q job h.stage) u.once (names_once h.stage) listed denotes))
+      ∙ sym (same_count at_time (names_held h) (record_names q job h.stage) u.once (names_once q job h.stage) listed denotes))
     where
       held : (x : Name) → In x (names_held h) → is_held (outline_of q job) w log x ≡ true
       held x i =

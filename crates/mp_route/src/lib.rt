@@ -1,3 +1,5 @@
+//! Layer: the parts of a worker.
+//!
 //! The routing half of a stage: a worker keeps the records that the stage is given until they are free to go, which
 //! they are once every control record that decides who owns them has come.
 #![tactic(auto)]
@@ -5,8 +7,6 @@
 mod by_tag;
 mod laws;
 mod router;
-#[cfg(test)]
-mod tests;
 
 pub use laws::held_records_are_counted;
 pub use router::Router;

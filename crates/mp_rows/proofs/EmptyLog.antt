@@ -8,6 +8,7 @@ use Rattle.mp_names.specs.declared.controls.Control.{Control}
 use Rattle.mp_names.specs.declared.locations.Loc.{Loc}
 use Rattle.mp_names.specs.declared.locations.Loc.TheVariants.{Ctl, CtlMail, Source, Route, Mail, Move, State, Host, OutRoute, OutMail}
 use Rattle.mp_names.specs.declared.names.Name.{Name}
+use Rattle.mp_names.specs.declared.pointstamps.Change.{Change}
 use Rattle.mp_names.specs.Controls.{control_of}
 use Rattle.mp_names.specs.Frontiers.{contribution, is_held}
 use Rattle.mp_names.specs.Logs.{empty_log}
@@ -18,7 +19,7 @@ use Rattle.mp_model.specs.Facts.{JobFacts, QueryFacts}
 use Rattle.mp_job.specs.Records.{share_of}
 use Rattle.mp_job.proofs.Sharing.{record_is_there, record_of_place}
 use Rattle.mp_outline.specs.JobOutline.{outline_of}
-use Rattle.mp_rows.specs.Entries.{AreContributions, sum_at}
+use Rattle.mp_rows.specs.Entries.{AreContributions, change_at, sum_at}
 use Rattle.mp_rows.specs.Opening.{control_entries, source_entries, time_at}
 use Rattle.mp_rows.proofs.Controls.{count_controls, count_no_controls}
 use Rattle.mp_rows.proofs.Nothing.{adds_nothing}
@@ -44,8 +45,8 @@ module _ {Cell : Type 0} (q : QueryFacts Cell) (job : JobFacts) (w : ℕ) where
   held_at t x = is_held (outline_of q job) w empty_log x && time_of (outline_of q job) x == t
 
   -- what all control records add, on the worker that sends them
-  all_controls : List (Loc × ℕ × ℤ)
-  all_controls = map (λ c. (Ctl, c.time, pos job.shape.workers)) job.controls
+  all_controls : List Change
+  all_controls = map (λ c. change_at Ctl c.time (pos job.shape.workers)) job.controls
 
   controls_here : (t : ℕ) → sum_at (control_entries job.shape.workers w job.controls) Ctl t ≡ contribution (outline_of q job) w empty_log Ctl t
   unfolding held_at all_controls
@@ -106,6 +107,6 @@ module _ {Cell : Type 0} (q : QueryFacts Cell) (job : JobFacts) (w : ℕ) where
     each OutMail t = elsewhere OutMail t refl refl
 
     -- so these entries, made of what a job gives, are the contributions
-    pub opening_sums : (workers : ℕ) (controls : List Control) (events : List Event) (share : List ℕ) (none some all : List (Loc × ℕ × ℤ)) → workers ≡ job.shape.workers → controls ≡ job.controls → events ≡ job.events → share ≡ share_of q job.events job.shape.workers w → none ≡ [] → some ≡ none ++ control_entries workers w controls → all ≡ some ++ source_entries events share → AreContributions (outline_of q job) w empty_log all
+    pub opening_sums : (workers : ℕ) (controls : List Control) (events : List Event) (share : List ℕ) (none some all : List Change) → workers ≡ job.shape.workers → controls ≡ job.controls → events ≡ job.events → share ≡ share_of q job.events job.shape.workers w → none ≡ [] → some ≡ none ++ control_entries workers w controls → all ≡ some ++ source_entries events share → AreContributions (outline_of q job) w empty_log all
     unfolding Adds
     opening_sums workers controls events share none some all ws cs es is n s a = λ loc t. rw (a, s, n, ws, cs, es, is) (each loc t)

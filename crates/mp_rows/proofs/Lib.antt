@@ -6,5 +6,4 @@ pub mod Sources
 pub mod EmptyLog
 pub mod RowTaken
 pub mod Netted
-pub mod RowSent
 pub mod Single

@@ -10,11 +10,12 @@ use Rattle.mp_names.specs.declared.locations.Loc.TheVariants.{Ctl, CtlMail, Sour
 use Rattle.mp_names.specs.declared.names.Name.{Name}
 use Rattle.mp_names.specs.declared.names.Name.TheVariants.{Ctrl, Rec, Packet, Row, Group, Settled}
 use Rattle.mp_names.specs.declared.names.Tag.{Tag}
+use Rattle.mp_names.specs.declared.pointstamps.Change.{Change}
 use Rattle.mp_names.specs.Frontiers.{contribution, is_held, number_at, sent_less_took}
 use Rattle.mp_names.specs.Logs.{Log, brings_wake, has_record, has_wake, is_ctrl_of, is_given, is_pending, is_record_of, is_wake_here, left_since, with_took}
 use Rattle.mp_names.specs.Names.{has, is_ctrl, is_packet, is_rec, is_row}
 use Rattle.mp_names.specs.Outlines.{Outline, ctrl_names, groups_of, is_posted, time_of}
-use Rattle.mp_rows.specs.Entries.{AreChanges, sum_at}
+use Rattle.mp_rows.specs.Entries.{AreChanges, change_at, sum_at}
 
 pub or_none : (b : Bool) → b ≡ false → (b || false) ≡ false
 or_none true e = absurd (false≢true (sym e))
@@ -32,8 +33,8 @@ one_less a true n m e = omega (arith, ints)
 one_less a false n m e = omega (arith, ints)
 
 -- the change
-abbrev pub one_row_less : ℕ → List (Loc × ℕ × ℤ)
-one_row_less s = (OutMail, s, negsuc 0) ∷ []
+abbrev pub one_row_less : ℕ → List Change
+one_row_less s = change_at OutMail s (negsuc 0) ∷ []
 
 module _ (o : Outline) (w : ℕ) (log : Log) (s : ℕ) (g : Tag) where
   abbrev taken : Log
@@ -90,5 +91,5 @@ module _ (o : Outline) (w : ℕ) (log : Log) (s : ℕ) (g : Tag) where
   row_taken = record {
     sums = each;
     once = λ i j d l k. absurd (omega arith);
-    none_by_zero = All-cons (λ (c : Loc × ℕ × ℤ). c.2 ≡ pos 0 → ⊥) (OutMail, s, negsuc 0) [] (λ e. cc) (All-nil (λ (c : Loc × ℕ × ℤ). c.2 ≡ pos 0 → ⊥));
+    none_by_zero = All-cons (λ (c : Change). c.by ≡ pos 0 → ⊥) (change_at OutMail s (negsuc 0)) [] (λ e. cc) (All-nil (λ (c : Change). c.by ≡ pos 0 → ⊥));
   }

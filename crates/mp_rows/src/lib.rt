@@ -1,3 +1,5 @@
+//! Layer: the parts of a worker.
+//!
 //! The log of one worker, with what it adds to the counts of outstanding work.
 #![tactic(auto)]
 
@@ -5,14 +7,9 @@ mod lists;
 mod log;
 mod netting;
 mod opening;
-#[cfg(test)]
-mod tests;
 
-pub use lists::LogList;
+pub use lists::{Lists, LogList};
 pub use log::Log;
 pub use mp_job::{Job, Query, Time};
 pub use mp_model::Naming;
-pub use mp_names::{Loc, Name};
-
-/// What is added to the count of a location at a time: Naiad's occurrence counts.
-pub type Change = (Loc, Time, i64);
+pub use mp_names::{Change, Loc, Name, Pointstamp};

@@ -5,7 +5,7 @@ ghost use Rattle.mp_outline.specs.JobOutline.{outline_of};
 ghost use Rattle.mp_rows.specs.Entries.{AreContributions};
 ghost use Rattle.mp_rows.specs.Opening.{control_entries, source_entries};
 
-use crate::Change;
+use crate::{Change, Pointstamp};
 use mp_job::{Control, Event, Job, Query};
 use mp_names::Loc;
 use std::alloc::{AllocError, Global};
@@ -42,7 +42,13 @@ fn add_controls(
     }
     let receivers = i64::from(workers);
     for control in controls {
-        entries.push((Loc::Ctl, control.time, receivers))?;
+        entries.push(Change {
+            at: Pointstamp {
+                loc: Loc::Ctl,
+                time: control.time,
+            },
+            by: receivers,
+        })?;
     }
     Ok(())
 }
@@ -54,7 +60,13 @@ fn add_records(events: &[Event], share: &[u32], entries: &mut Vec<Change>) -> Re
 {
     for index in share {
         let event = &events[*index as usize];
-        entries.push((Loc::Source, event.time, 1))?;
+        entries.push(Change {
+            at: Pointstamp {
+                loc: Loc::Source,
+                time: event.time,
+            },
+            by: 1,
+        })?;
     }
     Ok(())
 }

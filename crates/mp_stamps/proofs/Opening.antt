@@ -9,14 +9,14 @@ use Rattle.mp_names.specs.declared.locations.Loc.{Loc}
 use Rattle.mp_names.specs.Locations.{Reaches, reaches}
 use Rattle.mp_names.specs.Frontiers.{IsQuiet, IsFrontierOf}
 use Rattle.mp_names.proofs.Reach.{table_from_path, path_from_table}
-use Rattle.mp_stamps.specs.declared.counts.Count.{Count}
+use Rattle.mp_names.specs.declared.pointstamps.Count.{Count}
 use Rattle.mp_stamps.specs.Counts.{is_of, count_in, NoneIsHidden, is_open, open_times}
-use Rattle.mp_stamps.proofs.Places.{is_of-true, is_of-self}
+use Rattle.mp_stamps.proofs.Places.{is_stamp-true, is_stamp-self}
 
 -- an entry of the list is open at the time
 abbrev pub IsOpen : Loc → ℕ → List Count → Type 0
 IsOpen at t [] = ⊥
-IsOpen at t (c ∷ cs) = ((is_open at c ≡ true) × (c.time ≡ t)) ⊎ IsOpen at t cs
+IsOpen at t (c ∷ cs) = ((is_open at c ≡ true) × (c.at.time ≡ t)) ⊎ IsOpen at t cs
 
 zero_is_zero : (z : ℤ) → z ≡ pos 0 → int_eq z (pos 0) ≡ true
 zero_is_zero z e = rw e refl
@@ -31,10 +31,10 @@ both false q h = absurd (false≢true h)
 
 -- an open entry counts
 open_counts : (at : Loc) (c : Count) → is_open at c ≡ true → c.count ≡ pos 0 → ⊥
-open_counts at c h e = let k = both (not (int_eq c.count (pos 0))) (reaches c.loc at) h in false≢true (sym (ap (λ (b : Bool). not b) (zero_is_zero c.count e)) ∙ k.0)
+open_counts at c h e = let k = both (not (int_eq c.count (pos 0))) (reaches c.at.loc at) h in false≢true (sym (ap (λ (b : Bool). not b) (zero_is_zero c.count e)) ∙ k.0)
 
-open_reaches : (at : Loc) (c : Count) → is_open at c ≡ true → Reaches c.loc at
-open_reaches at c h = path_from_table c.loc at (both (not (int_eq c.count (pos 0))) (reaches c.loc at) h).1
+open_reaches : (at : Loc) (c : Count) → is_open at c ≡ true → Reaches c.at.loc at
+open_reaches at c h = path_from_table c.at.loc at (both (not (int_eq c.count (pos 0))) (reaches c.at.loc at) h).1
 
 -- what could result in something there, and isn't open, is no count
 not_open : (z : ℤ) (q : Bool) → q ≡ true → (not (int_eq z (pos 0)) && q) ≡ false → z ≡ pos 0
@@ -49,8 +49,8 @@ quiet_unless_open [] at t h = λ a r. refl
 quiet_unless_open (c ∷ cs) at t h = λ a r. pick a r (quiet_unless_open cs at t (λ o. h (inr o)) a r) (is_of a t c) refl
   where
     here : (a : Loc) → Reaches a at → is_of a t c ≡ true → (b : Bool) → is_open at c ≡ b → c.count ≡ pos 0
-    here a r e true f = absurd (h (inl (f, (is_of-true a t c e).1)))
-    here a r e false f = not_open c.count (reaches c.loc at) (table_from_path c.loc at (subst (λ (b : Loc). Reaches b at) (sym (is_of-true a t c e).0) r)) f
+    here a r e true f = absurd (h (inl (f, (is_stamp-true a t c.at e).1)))
+    here a r e false f = not_open c.count (reaches c.at.loc at) (table_from_path c.at.loc at (subst (λ (b : Loc). Reaches b at) (sym (is_stamp-true a t c.at e).0) r)) f
 
     pick : (a : Loc) → Reaches a at → count_in cs a t ≡ pos 0 → (b : Bool) → is_of a t c ≡ b → cond b c.count (count_in cs a t) ≡ pos 0
     pick a r k true e = here a r e (is_open at c) refl
@@ -64,13 +64,13 @@ open_is_counted : (cs : List Count) (at : Loc) (t : ℕ) → NoneIsHidden cs →
 open_is_counted [] at t k o = absurd o
 open_is_counted (c ∷ cs) at t k o = ⊎_elim first (λ (p : IsOpen at t cs). later (open_is_counted cs at t k.1 p)) o
   where
-    first : (is_open at c ≡ true) × (c.time ≡ t) → Counts (c ∷ cs) at t
-    first h = (c.loc, open_reaches at c h.0, λ e. open_counts at c h.0 (sym (let f = is_of-self c.loc t c refl h.1 in ap (λ (b : Bool). cond b c.count (count_in cs c.loc t)) f) ∙ e))
+    first : (is_open at c ≡ true) × (c.at.time ≡ t) → Counts (c ∷ cs) at t
+    first h = (c.at.loc, open_reaches at c h.0, λ e. open_counts at c h.0 (sym (let f = is_stamp-self c.at.loc t c.at refl h.1 in ap (λ (b : Bool). cond b c.count (count_in cs c.at.loc t)) f) ∙ e))
 
     unhidden : (a : Loc) → (count_in cs a t ≡ pos 0 → ⊥) → (b : Bool) → is_of a t c ≡ b → cond b c.count (count_in cs a t) ≡ pos 0 → ⊥
     unhidden a n true e z =
-        let p = is_of-true a t c e in
-        n (subst (λ (b : Loc). count_in cs b t ≡ pos 0) p.0 (subst (λ (u : ℕ). count_in cs c.loc u ≡ pos 0) p.1 k.0))
+        let p = is_stamp-true a t c.at e in
+        n (subst (λ (b : Loc). count_in cs b t ≡ pos 0) p.0 (subst (λ (u : ℕ). count_in cs c.at.loc u ≡ pos 0) p.1 k.0))
     unhidden a n false e z = n z
 
     later : Counts cs at t → Counts (c ∷ cs) at t
@@ -89,17 +89,17 @@ open_if_among : (cs : List Count) (at : Loc) (t : ℕ) → Among t (open_times a
 open_if_among [] at t h = absurd h
 open_if_among (c ∷ cs) at t h = pick (λ g. open_if_among cs at t g) (is_open at c) refl h
   where
-    pick : (Among t (open_times at cs) → IsOpen at t cs) → (b : Bool) → is_open at c ≡ b → Among t (map (λ (d : Count). d.time) (cond b (c ∷ filter (is_open at) cs) (filter (is_open at) cs))) → IsOpen at t (c ∷ cs)
-    pick rest true e g = ⊎_elim (λ (f : c.time ≡ t). inl (e, f)) (λ (p : Among t (open_times at cs)). inr (rest p)) g
+    pick : (Among t (open_times at cs) → IsOpen at t cs) → (b : Bool) → is_open at c ≡ b → Among t (map (λ (d : Count). d.at.time) (cond b (c ∷ filter (is_open at) cs) (filter (is_open at) cs))) → IsOpen at t (c ∷ cs)
+    pick rest true e g = ⊎_elim (λ (f : c.at.time ≡ t). inl (e, f)) (λ (p : Among t (open_times at cs)). inr (rest p)) g
     pick rest false e g = inr (rest g)
 
 among_if_open : (cs : List Count) (at : Loc) (t : ℕ) → IsOpen at t cs → Among t (open_times at cs)
 among_if_open [] at t o = absurd o
 among_if_open (c ∷ cs) at t o = pick (λ p. among_if_open cs at t p) (is_open at c) refl
   where
-    pick : (IsOpen at t cs → Among t (open_times at cs)) → (b : Bool) → is_open at c ≡ b → Among t (map (λ (d : Count). d.time) (cond b (c ∷ filter (is_open at) cs) (filter (is_open at) cs)))
-    pick rest true e = ⊎_elim (λ (h : (is_open at c ≡ true) × (c.time ≡ t)). inl h.1) (λ (p : IsOpen at t cs). inr (rest p)) o
-    pick rest false e = ⊎_elim (λ (h : (is_open at c ≡ true) × (c.time ≡ t)). absurd (false≢true (sym e ∙ h.0))) (λ (p : IsOpen at t cs). rest p) o
+    pick : (IsOpen at t cs → Among t (open_times at cs)) → (b : Bool) → is_open at c ≡ b → Among t (map (λ (d : Count). d.at.time) (cond b (c ∷ filter (is_open at) cs) (filter (is_open at) cs)))
+    pick rest true e = ⊎_elim (λ (h : (is_open at c ≡ true) × (c.at.time ≡ t)). inl h.1) (λ (p : IsOpen at t cs). inr (rest p)) o
+    pick rest false e = ⊎_elim (λ (h : (is_open at c ≡ true) × (c.at.time ≡ t)). absurd (false≢true (sym e ∙ h.0))) (λ (p : IsOpen at t cs). rest p) o
 
 -- the least of a list is in it, and none is less
 

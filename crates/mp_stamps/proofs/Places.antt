@@ -1,10 +1,10 @@
--- Which entry is of which location and time.
+-- Which pointstamp is of which location and time.
 use Rattle.std.proofs.Common.{◌≡◌, ℕ, true, false, Bool, ◌&&◌, ◌==◌, refl, sym, ap, ◌∙◌}
 use Rattle.std.proofs.lemmas.Bool.{false≢true, eqb-true, eq-eqb}
 use Rattle.mp_names.specs.declared.locations.Loc.{Loc}
 use Rattle.mp_names.specs.declared.locations.Loc.TheVariants.{Ctl, CtlMail, Source, Route, Mail, Move, State, Host, OutRoute, OutMail}
-use Rattle.mp_stamps.specs.declared.counts.Count.{Count}
-use Rattle.mp_stamps.specs.Counts.{same_loc, is_of}
+use Rattle.mp_names.specs.declared.pointstamps.Pointstamp.{Pointstamp}
+use Rattle.mp_stamps.specs.Counts.{same_loc, is_stamp}
 
 pub same_loc-true : (a b : Loc) → same_loc a b ≡ true → a ≡ b
 same_loc-true Ctl Ctl h = refl
@@ -36,20 +36,20 @@ both true true h = (refl, refl)
 both true false h = absurd (false≢true h)
 both false q h = absurd (false≢true h)
 
--- the test says that location and time are the entry's
-pub is_of-true : (a : Loc) (t : ℕ) (c : Count) → is_of a t c ≡ true → (c.loc ≡ a) × (c.time ≡ t)
-is_of-true a t c h = let k = both (same_loc c.loc a) (c.time == t) h in (same_loc-true c.loc a k.0, eqb-true c.time t k.1)
+-- the test says that location and time are the pointstamp's
+pub is_stamp-true : (a : Loc) (t : ℕ) (p : Pointstamp) → is_stamp a t p ≡ true → (p.loc ≡ a) × (p.time ≡ t)
+is_stamp-true a t p h = let k = both (same_loc p.loc a) (p.time == t) h in (same_loc-true p.loc a k.0, eqb-true p.time t k.1)
 
-pub is_of-self : (a : Loc) (t : ℕ) (c : Count) → c.loc ≡ a → c.time ≡ t → is_of a t c ≡ true
-is_of-self a t c e f = rw (e, f, same_loc-self a) (eq-eqb t t refl)
+pub is_stamp-self : (a : Loc) (t : ℕ) (p : Pointstamp) → p.loc ≡ a → p.time ≡ t → is_stamp a t p ≡ true
+is_stamp-self a t p e f = rw (e, f, same_loc-self a) (eq-eqb t t refl)
 
 not_true : (b : Bool) → (b ≡ true → ⊥) → b ≡ false
 not_true true h = absurd (h refl)
 not_true false h = refl
 
-pub is_of-other : (a : Loc) (t : ℕ) (c : Count) → ((c.loc ≡ a) × (c.time ≡ t) → ⊥) → is_of a t c ≡ false
-is_of-other a t c h = not_true (is_of a t c) (λ e. h (is_of-true a t c e))
+pub is_stamp-other : (a : Loc) (t : ℕ) (p : Pointstamp) → ((p.loc ≡ a) × (p.time ≡ t) → ⊥) → is_stamp a t p ≡ false
+is_stamp-other a t p h = not_true (is_stamp a t p) (λ e. h (is_stamp-true a t p e))
 
--- one of the two isn't of the other's place: so the other isn't of its place
-pub is_of-turned : (c d : Count) → is_of c.loc c.time d ≡ false → is_of d.loc d.time c ≡ false
-is_of-turned c d h = is_of-other d.loc d.time c (λ e. false≢true (sym h ∙ is_of-self c.loc c.time d (sym e.0) (sym e.1)))
+-- one of the two isn't the other: so the other isn't the one
+pub is_stamp-turned : (p q : Pointstamp) → is_stamp p.loc p.time q ≡ false → is_stamp q.loc q.time p ≡ false
+is_stamp-turned p q h = is_stamp-other q.loc q.time p (λ e. false≢true (sym h ∙ is_stamp-self p.loc p.time q (sym e.0) (sym e.1)))

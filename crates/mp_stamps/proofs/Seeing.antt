@@ -6,7 +6,7 @@ use Rattle.mp_names.specs.declared.locations.Frontier.{Frontier}
 use Rattle.mp_names.specs.declared.locations.Frontier.TheVariants.{Done}
 use Rattle.mp_names.specs.declared.locations.Loc.{Loc}
 use Rattle.mp_names.specs.Frontiers.{IsFrontierOf}
-use Rattle.mp_stamps.specs.declared.counts.Count.{Count}
+use Rattle.mp_names.specs.declared.pointstamps.Count.{Count}
 use Rattle.mp_stamps.specs.Counts.{count_in}
 use Rattle.mp_stamps.specs.Seen.{place_of}
 

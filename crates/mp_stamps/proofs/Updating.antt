@@ -4,9 +4,9 @@ use Rattle.std.specs.List.{position, position_or_len}
 use Rattle.std.proofs.lemmas.List.Quantifiers.{position-Some}
 use Rattle.std.proofs.lemmas.List.Sums.{fails_before_first}
 use Rattle.mp_names.specs.declared.locations.Loc.{Loc}
-use Rattle.mp_stamps.specs.declared.counts.Count.{Count}
+use Rattle.mp_names.specs.declared.pointstamps.Count.{Count}
 use Rattle.mp_stamps.specs.Counts.{is_of, count_in, NoneIsHidden}
-use Rattle.mp_stamps.proofs.Places.{is_of-turned, is_of-true, is_of-self, is_of-other}
+use Rattle.mp_stamps.proofs.Places.{is_stamp-turned, is_stamp-true, is_stamp-self, is_stamp-other}
 
 -- the first entry of the place stands at the index
 abbrev pub IsFirst : Loc → ℕ → List Count → ℕ → Type 0
@@ -72,13 +72,13 @@ changed_elsewhere [] at d new b u h e = refl
 changed_elsewhere (c ∷ cs) zero d new b u h e = rw (h, e) refl
 changed_elsewhere (c ∷ cs) (suc at) d new b u h e = ap (λ (z : ℤ). cond (is_of b u c) c.count z) (changed_elsewhere cs at d new b u h e)
 
-pub changed_hides_none : (cs : List Count) (at : ℕ) (d new : Count) → IsFirst new.loc new.time cs at → (get_or cs at d).loc ≡ new.loc → (get_or cs at d).time ≡ new.time → NoneIsHidden cs → NoneIsHidden (set cs at new)
+pub changed_hides_none : (cs : List Count) (at : ℕ) (d new : Count) → IsFirst new.at.loc new.at.time cs at → (get_or cs at d).at.loc ≡ new.at.loc → (get_or cs at d).at.time ≡ new.at.time → NoneIsHidden cs → NoneIsHidden (set cs at new)
 changed_hides_none [] at d new h e f k = absurd h
-changed_hides_none (c ∷ cs) zero d new h e f k = (subst (λ (a : Loc). count_in cs a new.time ≡ pos 0) e (subst (λ (t : ℕ). count_in cs c.loc t ≡ pos 0) f k.0), k.1)
+changed_hides_none (c ∷ cs) zero d new h e f k = (subst (λ (a : Loc). count_in cs a new.at.time ≡ pos 0) e (subst (λ (t : ℕ). count_in cs c.at.loc t ≡ pos 0) f k.0), k.1)
 changed_hides_none (c ∷ cs) (suc at) d new h e f k =
-    let other = is_of-turned new c h.0 in
-    let same : is_of c.loc c.time (get_or cs at d) ≡ false = rw (e, f) other in
-    (changed_elsewhere cs at d new c.loc c.time same other ∙ k.0, changed_hides_none cs at d new h.1 e f k.1)
+    let other = is_stamp-turned new.at c.at h.0 in
+    let same : is_of c.at.loc c.at.time (get_or cs at d) ≡ false = rw (e, f) other in
+    (changed_elsewhere cs at d new c.at.loc c.at.time same other ∙ k.0, changed_hides_none cs at d new h.1 e f k.1)
 
 -- a new entry
 
@@ -90,36 +90,36 @@ pub added_elsewhere : (cs : List Count) (new : Count) (b : Loc) (u : ℕ) → is
 added_elsewhere [] new b u e = rw e refl
 added_elsewhere (c ∷ cs) new b u e = ap (λ (z : ℤ). cond (is_of b u c) c.count z) (added_elsewhere cs new b u e)
 
-pub added_hides_none : (cs : List Count) (new : Count) → HasNone new.loc new.time cs → NoneIsHidden cs → NoneIsHidden (cs ++ new ∷ [])
+pub added_hides_none : (cs : List Count) (new : Count) → HasNone new.at.loc new.at.time cs → NoneIsHidden cs → NoneIsHidden (cs ++ new ∷ [])
 added_hides_none [] new h k = (refl, tt)
-added_hides_none (c ∷ cs) new h k = (added_elsewhere cs new c.loc c.time (is_of-turned new c h.0) ∙ k.0, added_hides_none cs new h.1 k.1)
+added_hides_none (c ∷ cs) new h k = (added_elsewhere cs new c.at.loc c.at.time (is_stamp-turned new.at c.at h.0) ∙ k.0, added_hides_none cs new h.1 k.1)
 
 -- the first entry of a place with another count
 
 abbrev pub with_count : Count → ℤ → Count
-with_count c n = record { loc = c.loc; time = c.time; count = n }
+with_count c n = record { at = c.at; count = n }
 
-place_of_first : (a : Loc) (t : ℕ) (cs : List Count) (at : ℕ) (d : Count) → IsFirst a t cs at → d ≡ get_or cs at d → (d.loc ≡ a) × (d.time ≡ t)
+place_of_first : (a : Loc) (t : ℕ) (cs : List Count) (at : ℕ) (d : Count) → IsFirst a t cs at → d ≡ get_or cs at d → (d.at.loc ≡ a) × (d.at.time ≡ t)
 place_of_first a t cs at d h e =
-    let p = is_of-true a t (get_or cs at d) (first_passes a t cs at d h) in
-    (ap (λ (c : Count). c.loc) e ∙ p.0, ap (λ (c : Count). c.time) e ∙ p.1)
+    let p = is_stamp-true a t (get_or cs at d).at (first_passes a t cs at d h) in
+    (ap (λ (c : Count). c.at.loc) e ∙ p.0, ap (λ (c : Count). c.at.time) e ∙ p.1)
 
 pub recounted : (a : Loc) (t : ℕ) (cs : List Count) (at : ℕ) (d : Count) (n : ℤ) → IsFirst a t cs at → d ≡ get_or cs at d → count_in (set cs at (with_count d n)) a t ≡ n
-recounted a t cs at d n h e = let p = place_of_first a t cs at d h e in changed_here a t cs at (with_count d n) h (is_of-self a t (with_count d n) p.0 p.1)
+recounted a t cs at d n h e = let p = place_of_first a t cs at d h e in changed_here a t cs at (with_count d n) h (is_stamp-self a t d.at p.0 p.1)
 
 pub others_recounted : (a : Loc) (t : ℕ) (cs : List Count) (at : ℕ) (d : Count) (n : ℤ) → IsFirst a t cs at → d ≡ get_or cs at d → (b : Loc) (u : ℕ) → ¬ ((b ≡ a) × (u ≡ t)) → count_in (set cs at (with_count d n)) b u ≡ count_in cs b u
 others_recounted a t cs at d n h e b u ne =
     let p = place_of_first a t cs at d h e in
-    let q = is_of-true a t (get_or cs at d) (first_passes a t cs at d h) in
+    let q = is_stamp-true a t (get_or cs at d).at (first_passes a t cs at d h) in
     changed_elsewhere cs at d (with_count d n) b u
-    (is_of-other b u (get_or cs at d) (λ f. ne (sym f.0 ∙ q.0, sym f.1 ∙ q.1)))
-    (is_of-other b u (with_count d n) (λ f. ne (sym f.0 ∙ p.0, sym f.1 ∙ p.1)))
+    (is_stamp-other b u (get_or cs at d).at (λ f. ne (sym f.0 ∙ q.0, sym f.1 ∙ q.1)))
+    (is_stamp-other b u d.at (λ f. ne (sym f.0 ∙ p.0, sym f.1 ∙ p.1)))
 
 pub recounted_hides_none : (a : Loc) (t : ℕ) (cs : List Count) (at : ℕ) (d : Count) (n : ℤ) → IsFirst a t cs at → d ≡ get_or cs at d → NoneIsHidden cs → NoneIsHidden (set cs at (with_count d n))
 recounted_hides_none a t cs at d n h e k =
     let p = place_of_first a t cs at d h e in
-    let first : IsFirst d.loc d.time cs at = subst (λ (b : Loc). IsFirst b d.time cs at) (sym p.0) (subst (λ (u : ℕ). IsFirst a u cs at) (sym p.1) h) in
-    changed_hides_none cs at d (with_count d n) first (ap (λ (c : Count). c.loc) (sym e)) (ap (λ (c : Count). c.time) (sym e)) k
+    let first : IsFirst d.at.loc d.at.time cs at = subst (λ (b : Loc). IsFirst b d.at.time cs at) (sym p.0) (subst (λ (u : ℕ). IsFirst a u cs at) (sym p.1) h) in
+    changed_hides_none cs at d (with_count d n) first (ap (λ (c : Count). c.at.loc) (sym e)) (ap (λ (c : Count). c.at.time) (sym e)) k
 
 -- what a search in the same list answers
 
@@ -127,4 +127,4 @@ pub looked_up : (a : Loc) (t : ℕ) (ds cs : List Count) (r : Option ℕ) (at : 
 looked_up a t ds cs r at d e f g = found_first a t cs at d (sym (f ∙ ap (λ (xs : List Count). position (is_of a t) xs) e) ∙ g)
 
 pub missed : (a : Loc) (t : ℕ) (ds cs : List Count) (r : Option ℕ) → ds ≡ cs → r ≡ position (is_of a t) ds → r ≡ None → HasNone a t cs
-missed a t ds cs r e f g = found_none a t cs (record { loc = a; time = t; count = pos 0 }) (sym (f ∙ ap (λ (xs : List Count). position (is_of a t) xs) e) ∙ g)
+missed a t ds cs r e f g = found_none a t cs (record { at = record { loc = a; time = t }; count = pos 0 }) (sym (f ∙ ap (λ (xs : List Count). position (is_of a t) xs) e) ∙ g)

@@ -7,17 +7,10 @@ ghost use Rattle.mp_names.specs.declared.locations.Loc.{Loc};
 ghost use Rattle.mp_stamps.specs.Counts.{count_in, is_of, is_open, open_times};
 
 use crate::reaching::reaches;
-use mp_names::{Frontier, Loc, Time};
+use crate::stamps::is_stamp;
+use mp_names::{Count, Frontier, Loc, Pointstamp, Time};
 use std::alloc::{AllocError, Global};
 use std::marker::Model;
-
-/// The count of a location at a time.
-#[derive(Clone, Copy, Debug, Drop)]
-pub struct Count {
-    pub loc: Loc,
-    pub time: Time,
-    pub count: i64,
-}
 
 /// How much work is outstanding at each location and time, as in Naiad's progress tracking. A count may
 /// be negative: what is taken may be known before it is known to be sent.
@@ -29,7 +22,7 @@ pub struct Counts {
 
 impl Model for Counts {
     ghost use Rattle.std.specs.Prelude.{List};
-    ghost use Rattle.mp_stamps.specs.declared.counts.Count.{Count};
+    ghost use Rattle.mp_names.specs.declared.pointstamps.Count.{Count};
     ghost use Rattle.mp_stamps.specs.Counts.{NoneIsHidden};
 
     ghost Value = { List Count };
@@ -60,8 +53,7 @@ impl Counts {
         match index_of(&self.entries, loc, time) {
             Some(index) => self.entries[index].count += by,
             None => self.entries.push(Count {
-                loc,
-                time,
+                at: Pointstamp { loc, time },
                 count: by,
             })?,
         }
@@ -94,13 +86,9 @@ impl Counts {
 fn index_of(entries: &[Count], loc: Loc, time: Time) -> Option<usize>
     ensures { result ≡ position (is_of loc time) entries.now }
 {
-    entries.iter().position(|entry| is_of(entry, loc, time))
-}
-
-fn is_of(entry: &Count, loc: Loc, time: Time) -> bool
-    ensures { result ≡ is_of loc time entry.now }
-{
-    entry.loc == loc && entry.time == time
+    entries
+        .iter()
+        .position(|entry| is_stamp(entry.at, loc, time))
 }
 
 // The least time of work that is outstanding and could result in something at the location.
@@ -110,12 +98,12 @@ fn earliest_open(entries: &[Count], loc: Loc) -> Option<u64>
     entries
         .iter()
         .filter(|entry| is_open(entry, loc))
-        .map(|entry| entry.time)
+        .map(|entry| entry.at.time)
         .min()
 }
 
 fn is_open(entry: &Count, loc: Loc) -> bool
     ensures { result ≡ is_open loc entry.now }
 {
-    entry.count != 0 && reaches(entry.loc, loc)
+    entry.count != 0 && reaches(entry.at.loc, loc)
 }

@@ -1,3 +1,5 @@
+//! Layer: values, files and text.
+//!
 //! Counts of outstanding work by location and time, the frontiers that they show, and what a worker saw of
 //! them.
 #![tactic(auto)]
@@ -6,11 +8,11 @@ mod counts;
 mod frontiers;
 mod reaching;
 mod seen;
-#[cfg(test)]
-mod tests;
+mod stamps;
 
 pub use counts::Counts;
 pub use frontiers::passed;
 pub use mp_names::{Frontier, Loc};
 pub use reaching::reaches;
 pub use seen::Seen;
+pub use stamps::is_stamp;

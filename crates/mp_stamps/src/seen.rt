@@ -3,8 +3,9 @@ ghost use Rattle.std.specs.Prelude.{◌≡◌, ◌≤◌, ◌<◌, ◌+◌, ◌*
 ghost use Rattle.mp_names.specs.Frontiers.{IsFrontierOf};
 ghost use Rattle.mp_names.specs.Limits.{most_stages_seen};
 ghost use Rattle.mp_names.specs.declared.locations.Loc.{Loc};
+ghost use Rattle.mp_names.specs.Locations.{IsLocation};
 ghost use Rattle.mp_stamps.specs.Counts.{count_in};
-ghost use Rattle.mp_stamps.specs.Seen.{HasLoc, place_of, seen_at};
+ghost use Rattle.mp_stamps.specs.Seen.{place_of, seen_at};
 
 use crate::counts::Counts;
 use mp_names::{Frontier, Loc};
@@ -27,7 +28,7 @@ impl Seen {
         requires { stages ≤ most_stages_seen }
         ensures version { result.version ≡ version }
         ensures stages { result.stages ≡ stages }
-        ensures frontiers { (at : Loc) → HasLoc stages at → IsFrontierOf (count_in counts.now) at (seen_at result at) }
+        ensures frontiers { (at : Loc) → IsLocation stages at → IsFrontierOf (count_in counts.now) at (seen_at result at) }
     {
         let mut frontiers = [Frontier::Done; PLACES];
         for place in 0..5 * stages + 5 {

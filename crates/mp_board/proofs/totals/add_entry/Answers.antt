@@ -11,6 +11,6 @@ returns c =
     let sum = c.in_ok-sum.sum in
     let sum_fits : SFits w128 sum = search rules in
     let total_fits : SFits w128 total = search rules in
-    let by_fits : SFits w64 entry.2 = search rules in
-    let is : sum ≡ total +ℤ entry.2 = same_sum _ _ total entry.2 sum (to_z-of_z w128 total total_fits) (to_z-of_z w64 entry.2 by_fits) c.in_ok-sum.ensures in
-    λ at t. rw (c.in_ok-insert.ensures.entries) (added c.args.totals.now.entries entry.0 entry.1 entry.2 total _ c.total_of.ensures (to_z-of_z w128 sum sum_fits ∙ is) at t)
+    let by_fits : SFits w64 entry.by = search rules in
+    let is : sum ≡ total +ℤ entry.by = same_sum _ _ total entry.by sum (to_z-of_z w128 total total_fits) (to_z-of_z w64 entry.by by_fits) c.in_ok-sum.ensures in
+    λ at t. rw (c.in_ok-insert.ensures.entries) (added c.args.totals.now.entries entry.at.loc entry.at.time entry.by total _ c.total_of.ensures (to_z-of_z w128 sum sum_fits ∙ is) at t)

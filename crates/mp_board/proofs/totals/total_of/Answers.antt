@@ -8,7 +8,7 @@ pub returns-in-Some : goal.returns-in-Some
 returns-in-Some c =
     let total = c.in-Some.total.now in
     let fits : SFits w128 total = search rules in
-    to_z-of_z w128 total fits ∙ found c.args.totals.now.entries c.args.loc c.args.time total c.in-Some.ensures.value
+    to_z-of_z w128 total fits ∙ found c.args.totals.now.entries c.args.at.loc c.args.at.time total c.in-Some.ensures.value
 
 pub returns-in-None : goal.returns-in-None
-returns-in-None c = missed c.args.totals.now.entries c.args.loc c.args.time c.in-None.ensures.value
+returns-in-None c = missed c.args.totals.now.entries c.args.at.loc c.args.at.time c.in-None.ensures.value

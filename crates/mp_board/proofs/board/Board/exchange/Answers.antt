@@ -3,7 +3,8 @@ use Rattle.std.proofs.lemmas.List.{map-set}
 use Rattle.mp_names.specs.declared.locations.Loc.{Loc}
 use Rattle.mp_names.specs.Frontiers.{IsFrontierOf, log_at}
 use Rattle.mp_names.specs.Logs.{LogGrows}
-use Rattle.mp_stamps.specs.Seen.{HasLoc, seen_at}
+use Rattle.mp_names.specs.Locations.{IsLocation}
+use Rattle.mp_stamps.specs.Seen.{seen_at}
 use Rattle.mp_board.specs.declared.posted.PostedLog.{PostedLog}
 use Rattle.mp_board.specs.Boards.{Posted}
 use Rattle.mp_board.specs.Posted.{logs_of, posted_log}
@@ -23,7 +24,7 @@ invariant_of-self-2 g c =
     let before = standing s.posted.items w c.index.result.now inside c.index.ensures in
     let same = same_as c.is_same-is_same.result log (posted_log c.index.result.now) (log_at (logs_of s.posted.items) w) c.is_same-is_same.ensures before in
     let version = version_is c.in_ok-seen.seen.version c.in_ok-version.version c.version.result s.seen.version c.is_same-is_same.result _ c.in_ok-seen.ensures.version c.in_ok-version.ensures c.version.ensures same in
-    let frontiers = λ (at : Loc) (has : HasLoc s.seen.stages at). subst (λ (ps : List PostedLog). IsFrontierOf (posted_sum ps) at (seen_at c.in_ok-seen.seen at)) c.in_ok-seen.ensures.posted (c.in_ok-seen.ensures.frontiers at (subst (λ (n : ℕ). HasLoc n at) (sym c.stages-stages.ensures) has)) in
+    let frontiers = λ (at : Loc) (has : IsLocation s.seen.stages at). subst (λ (ps : List PostedLog). IsFrontierOf (posted_sum ps) at (seen_at c.in_ok-seen.seen at)) c.in_ok-seen.ensures.posted (c.in_ok-seen.ensures.frontiers at (subst (λ (n : ℕ). IsLocation n at) (sym c.stages-stages.ensures) has)) in
     subst (λ (ps : List PostedLog). BoardIsSound o ps c.in_ok-seen.seen) (sym c.in_ok-seen.ensures.posted)
     (log_posted o s.posted.items s.seen c.in_ok-seen.seen w c.args.log c.self.invariant c.requires.worker c.requires.legal grows c.requires.contributions version (c.in_ok-seen.ensures.stages ∙ c.stages-stages.ensures) frontiers)
 

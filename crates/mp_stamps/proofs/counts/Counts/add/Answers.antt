@@ -2,9 +2,9 @@ use Rattle.std.proofs.Common.{◌≡◌, rules, arith, Option, Some, get_or, Lis
 use Rattle.std.specs.List.{position}
 use Rattle.std.proofs.lemmas.Int.{to_z-of_z, ints}
 use Rattle.mp_names.specs.declared.locations.Loc.{Loc}
-use Rattle.mp_stamps.specs.declared.counts.Count.{Count}
+use Rattle.mp_names.specs.declared.pointstamps.Count.{Count}
 use Rattle.mp_stamps.specs.Counts.{count_in, is_of, NoneIsHidden}
-use Rattle.mp_stamps.proofs.Places.{is_of-self, is_of-other}
+use Rattle.mp_stamps.proofs.Places.{is_stamp-self, is_stamp-other}
 use Rattle.mp_stamps.proofs.Updating.{looked_up, missed, count_of_first, count_of_none, recounted, others_recounted, recounted_hides_none, added_here, added_elsewhere, added_hides_none}
 use Rattle.mp_stamps.proofs.counts.Counts.add.Goals as goal
 
@@ -63,7 +63,7 @@ invariant_of-self-in-Continue-1 c =
     let t = c.args.time in
     let cs = c.self.inside.entries.items in
     let none = missed a t c.deref.result.now cs c.index_of.result c.deref.ensures.value c.index_of.ensures c.in-None.is in
-    let new : Count = record { loc = a; time = t; count = to_z w64 (of_z w64 c.args.by) } in
+    let new : Count = record { at = record { loc = a; time = t }; count = to_z w64 (of_z w64 c.args.by) } in
     subst (λ (ns : List Count). NoneIsHidden ns) (sym c.in_ok-push-in-None.ensures.items) (added_hides_none cs new none c.self.invariant)
 
 pub returns-in_ok-push-in-None-clause-counted : goal.returns-in_ok-push-in-None-clause-counted
@@ -73,11 +73,11 @@ returns-in_ok-push-in-None-clause-counted c =
     let by = c.args.by in
     let cs = c.self.inside.entries.items in
     let none = missed a t c.deref.result.now cs c.index_of.result c.deref.ensures.value c.index_of.ensures c.in-None.is in
-    let new : Count = record { loc = a; time = t; count = to_z w64 (of_z w64 by) } in
+    let new : Count = record { at = record { loc = a; time = t }; count = to_z w64 (of_z w64 by) } in
     let g : SFits w64 by = search rules in
     let zero_before : count_in c.args.self.now a t ≡ pos 0 = sym (ap (λ (ns : List Count). count_in ns a t) c.self.view_is) ∙ count_of_none a t cs none in
     ap (λ (ns : List Count). count_in ns a t) c.in_ok-push-in-None.ensures.items
-    ∙ added_here a t cs new none (is_of-self a t new refl refl)
+    ∙ added_here a t cs new none (is_stamp-self a t new.at refl refl)
     ∙ to_z-of_z w64 by g
     ∙ (let e : by ≡ pos 0 +ℤ by = omega (arith, ints) in e)
     ∙ sym (ap (λ (v : ℤ). v +ℤ by) zero_before)
@@ -85,8 +85,8 @@ returns-in_ok-push-in-None-clause-counted c =
 pub returns-in_ok-push-in-None-clause-others : goal.returns-in_ok-push-in-None-clause-others
 returns-in_ok-push-in-None-clause-others c =
     let cs = c.self.inside.entries.items in
-    let new : Count = record { loc = c.args.loc; time = c.args.time; count = to_z w64 (of_z w64 c.args.by) } in
+    let new : Count = record { at = record { loc = c.args.loc; time = c.args.time }; count = to_z w64 (of_z w64 c.args.by) } in
     λ b u ne.
     ap (λ (ns : List Count). count_in ns b u) c.in_ok-push-in-None.ensures.items
-    ∙ added_elsewhere cs new b u (is_of-other b u new (λ f. ne (sym f.0, sym f.1)))
+    ∙ added_elsewhere cs new b u (is_stamp-other b u new.at (λ f. ne (sym f.0, sym f.1)))
     ∙ ap (λ (ns : List Count). count_in ns b u) c.self.view_is

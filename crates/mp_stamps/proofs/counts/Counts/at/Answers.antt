@@ -1,7 +1,7 @@
 use Rattle.std.proofs.Common.{rules, List, pos, sym, ap, ◌∙◌, SFits, w64}
 use Rattle.std.specs.List.{position}
 use Rattle.std.proofs.lemmas.Int.{to_z-of_z}
-use Rattle.mp_stamps.specs.declared.counts.Count.{Count}
+use Rattle.mp_names.specs.declared.pointstamps.Count.{Count}
 use Rattle.mp_stamps.specs.Counts.{count_in, is_of}
 use Rattle.mp_stamps.proofs.Updating.{found_first, found_none, count_of_first, count_of_none}
 use Rattle.mp_stamps.proofs.counts.Counts.at.Goals as goal
@@ -24,5 +24,5 @@ returns-in-None c =
     let a = c.args.loc in
     let t = c.args.time in
     let found = sym (c.index_of.ensures ∙ ap (λ (ds : List Count). position (is_of a t) ds) c.deref.ensures.value) ∙ c.in-None.is in
-    sym (count_of_none a t c.self.inside.entries.items (found_none a t c.self.inside.entries.items (record { loc = a; time = t; count = pos 0 }) found))
+    sym (count_of_none a t c.self.inside.entries.items (found_none a t c.self.inside.entries.items (record { at = record { loc = a; time = t }; count = pos 0 }) found))
     ∙ ap (λ (ds : List Count). count_in ds a t) c.self.view_is

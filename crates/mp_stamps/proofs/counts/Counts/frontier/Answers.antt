@@ -1,7 +1,7 @@
 use Rattle.std.proofs.Common.{List, ap, subst}
 use Rattle.mp_names.specs.Frontiers.{IsFrontierOf}
 use Rattle.mp_names.specs.declared.locations.Frontier.TheVariants.{At, Done}
-use Rattle.mp_stamps.specs.declared.counts.Count.{Count}
+use Rattle.mp_names.specs.declared.pointstamps.Count.{Count}
 use Rattle.mp_stamps.specs.Counts.{count_in, open_times}
 use Rattle.mp_stamps.proofs.Opening.{frontier_at, frontier_done}
 use Rattle.mp_stamps.proofs.counts.Counts.frontier.Goals as goal
