@@ -1,6 +1,7 @@
 -- The numbers that were read are those of the line, and within their limits.
-use Rattle.std.proofs.Common.{◌≡◌, ◌<◌, lit<, ℕ, true, List, [], ◌∷◌, length, drop, get_or, map, take, refl, ap, sym, ◌∙◌, arith, length-drop}
+use Rattle.std.proofs.Common.{◌≡◌, ◌+◌, ◌<◌, lit<, ℕ, true, List, [], ◌∷◌, length, drop, get_or, map, take, refl, ap, sym, ◌∙◌, arith, length-drop}
 use Rattle.std.proofs.lemmas.Bool.{leb-true, ltb-true}
+use Rattle.std.proofs.lemmas.Grind.{get_or_after_one}
 use Rattle.std.proofs.lemmas.List.{get_or-map, get_or-take}
 use Rattle.mp_control.specs.declared.kinds.LineKind.{LineKind}
 use Rattle.mp_control.specs.declared.kinds.LineKind.TheVariants.{Record}
@@ -10,9 +11,9 @@ use Rattle.mp_control.specs.Read.{IsPassed, IsSmall}
 use Rattle.mp_job.specs.Legal.{ControlFits}
 use Rattle.mp_lines.specs.declared.limits.NumberLimit.{NumberLimit}
 use Rattle.mp_lines.specs.declared.limits.NumberLimit.TheVariants.{UpTo, Below}
-use Rattle.mp_lines.specs.Checks.{numbers_of}
+use Rattle.mp_lines.specs.Checks.{field_at, numbers_of}
 use Rattle.mp_lines.specs.Limits.{failures_of_number, is_within}
-use Rattle.mp_lines.proofs.FieldsRead.{field_passes}
+use Rattle.mp_lines.proofs.FieldsRead.{passes_at}
 use Rattle.mp_lines.proofs.LimitSteps.{passes_limit}
 use Rattle.mp_names.specs.Limits.{greatest_time}
 use Rattle.mp_names.specs.declared.controls.Shape.{Shape}
@@ -34,8 +35,8 @@ number_within : (shape : Shape) (kind : LineKind) (fields : List (List ℕ)) (k 
     → get_or (limits_of shape kind) k limit ≡ limit → is_within limit (get_or (numbers_in fields) k 0) ≡ true
 number_within shape kind fields k limit h low is =
     let there : k < length (drop 1 fields) = omega (arith, length-drop 1 fields, h.count, low) in
-    let pass = rw is at (field_passes failures_of_number (limits_of shape kind) (drop 1 fields) k limit h.pass low there) in
-    ap (is_within limit) (get_or-map value_of (drop 1 fields) k [] 0 there) ∙ passes_limit limit (get_or (drop 1 fields) k []) pass
+    let pass = passes_at failures_of_number (limits_of shape kind) fields k limit h low is in
+    ap (is_within limit) (get_or-map value_of (drop 1 fields) k [] 0 there ∙ ap value_of (get_or_after_one fields k [])) ∙ passes_limit limit (field_at fields (1 + k)) pass
 
 -- so its control record is within the limits of the shape
 pub record_fits : (shape : Shape) (fields : List (List ℕ)) → IsPassed shape Record fields → ControlFits shape (record_of (numbers_in fields))

@@ -4,8 +4,6 @@ use Rattle.std.specs.List.{list_all}
 use Rattle.mp_control.specs.declared.kinds.LineKind.{LineKind}
 use Rattle.mp_control.specs.declared.refused.ControlReason.{ControlReason}
 use Rattle.mp_control.specs.declared.refused.ControlReason.TheVariants.{Kind, Fields, Range, Count}
-use Rattle.mp_control.specs.declared.refused.ControlRefused.{ControlRefused}
-use Rattle.mp_control.specs.declared.refused.ControlRefused.TheVariants.{BadLine, NoMemory}
 use Rattle.mp_control.specs.Kinds.{kind_of, limits_of, records_by}
 use Rattle.mp_control.specs.Reasons.{reason_of}
 use Rattle.mp_names.specs.Limits.{greatest_time, most_controls}
@@ -56,8 +54,3 @@ control_rules shape = record { failures = failures_of shape; says = records_on s
 -- the first check that this line fails
 abbrev pub controls_of : List ℕ → Shape → Result (List Control) (ℕ × ControlReason)
 controls_of text shape = file_of (control_rules shape) text
-
--- what is said of a bad line; want of memory says nothing of the file
-abbrev pub IfBadLine : ControlRefused → (ℕ → ControlReason → Type 0) → Type 0
-IfBadLine (BadLine line why) P = P line why
-IfBadLine NoMemory P = Unit {0}

@@ -1,17 +1,16 @@
 -- What is kept of a line that fails no check.
-use Rattle.std.specs.Prelude.{◌≡◌, ℕ, ◌+◌, ◌<◌, ◌^◌, List, [], Some, drop, length, slice_index, take}
+use Rattle.std.specs.Prelude.{◌≡◌, ℕ, ◌<◌, ◌^◌, List, Some, length, slice_index, take}
 use Rattle.mp_control.specs.declared.kinds.LineKind.{LineKind}
 use Rattle.mp_control.specs.declared.line.ReadLine.{ReadLine}
 use Rattle.mp_control.specs.Controls.{numbers_in}
 use Rattle.mp_control.specs.Kinds.{kind_of, limits_of}
-use Rattle.mp_lines.specs.Checks.{failures_of_fields, field_at}
+use Rattle.mp_lines.specs.Checks.{FieldsPass, field_at}
 use Rattle.mp_lines.specs.Limits.{failures_of_number}
 use Rattle.mp_names.specs.declared.controls.Shape.{Shape}
 
--- a line of this kind has the right count of fields, and each after the kind passes its check
-pub record IsPassed (shape : Shape) (kind : LineKind) (fields : List (List ℕ)) : Type 0 where
-  pub count : length fields ≡ length (limits_of shape kind) + 1
-  pub pass : failures_of_fields failures_of_number (limits_of shape kind) (drop 1 fields) ≡ []
+-- the fields of a line of this kind pass
+abbrev pub IsPassed : Shape → LineKind → List (List ℕ) → Type 0
+IsPassed shape kind fields = FieldsPass failures_of_number (limits_of shape kind) fields
 
 -- the numbers of stage, bin and worker fit 32 bits
 pub record IsSmall (numbers : List ℕ) : Type 0 where

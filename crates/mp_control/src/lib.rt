@@ -1,3 +1,5 @@
+//! Layer: a job.
+//!
 //! Control records from the lines of a configuration file.
 //!
 //! A line `M` says one control record, as of Megaphone's control stream: from a time on, a worker owns a bin of a
@@ -9,8 +11,6 @@ mod kinds;
 mod line;
 mod reading;
 mod refused;
-#[cfg(test)]
-mod tests;
 
 pub use mp_job::{Control, Shape};
 pub use reading::read_control;

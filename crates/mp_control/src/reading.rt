@@ -1,12 +1,13 @@
 //! The control records of a whole file.
 ghost use Rattle.std.specs.Prelude.{◌≡◌, Ok, Err, IfOk, IfErr};
-ghost use Rattle.mp_control.specs.Controls.{IfBadLine, controls_of};
+ghost use Rattle.mp_control.specs.Controls.{controls_of};
 ghost use Rattle.mp_job.specs.Legal.{ControlsFit};
+ghost use Rattle.mp_lines.specs.Refusals.{IfBadLine};
 
 use crate::line::read_line;
 use crate::{ControlReason, ControlRefused};
 use mp_job::{Control, Shape};
-use mp_lines::{FileRefused, LineReader, LineRefused, read_lines};
+use mp_lines::{LineReader, LineRefused, read_lines};
 use mp_text::FieldList;
 use std::alloc::Global;
 
@@ -14,7 +15,7 @@ use std::alloc::Global;
 /// blank. A record's place in the list is its index. Times may come in any order.
 ///
 /// `BadLine` comes exactly where a line fails a check, with the number of the first such line and the first check that
-/// it fails. `NoMemory` is want of memory alone.
+/// it fails. `NoMemory` is an allocation failure alone.
 pub fn read_control(
     alloc: Global,
     text: &[u8],
@@ -26,11 +27,7 @@ pub fn read_control(
     ensures bad_line { IfErr result (λ refused.
         IfBadLine refused (λ line why. controls_of text.now shape.now ≡ Err (line, why))) }
 {
-    match read_lines(alloc, &ControlReader { shape: *shape }, text) {
-        Ok(controls) => Ok(controls),
-        Err(FileRefused::BadLine { line, why }) => Err(ControlRefused::BadLine { line, why }),
-        Err(FileRefused::NoMemory) => Err(ControlRefused::NoMemory),
-    }
+    read_lines(alloc, &ControlReader { shape: *shape }, text)
 }
 
 /// What the lines of a configuration for a job of this shape say.

@@ -2,9 +2,9 @@
 ghost use Rattle.std.specs.Prelude.{◌≡◌};
 ghost use Rattle.mp_control.specs.Reasons.{reason_text};
 
+use mp_lines::FileRefused;
 use mp_text::BadNumber;
 use std::fmt;
-use thiserror::Error;
 
 /// The check that a line fails. A line is checked in the order of these variants; `Number` and `Range` are checks of
 /// its fields, which go from left to right. All of them are this project's profile.
@@ -62,14 +62,7 @@ impl From<BadNumber> for ControlReason {
     }
 }
 
-/// Why a configuration file gives no control records.
-#[derive(Debug, Drop, Error)]
-pub enum ControlRefused {
-    /// This line, numbered from 1 with blank lines counted, is the first that fails a check, and this
-    /// is the first check that it fails.
-    #[error("line {line}: {why}")]
-    BadLine { line: u64, why: ControlReason },
-    /// Want of memory, which says nothing of the file.
-    #[error("out of memory")]
-    NoMemory,
-}
+/// Why a configuration file gives no control records: `BadLine` with the number of its first line that fails a check,
+/// from 1 with blank lines counted, and the first check that this line fails; `NoMemory` for an allocation failure, which says
+/// nothing of the file.
+pub type ControlRefused = FileRefused<ControlReason>;

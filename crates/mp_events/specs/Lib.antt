@@ -1,5 +1,4 @@
 -- What the contracts of this crate cite.
-pub mod Checks
 pub mod Events
 pub mod Kinds
 pub mod Lines

@@ -1,28 +1,18 @@
 -- The line of an event: the checks that it fails, and the event that it says.
-use Rattle.std.specs.Prelude.{ℕ, ◌+◌, ◌++◌, ◌==◌, Bool, true, Option, Some, None, List, [], ◌∷◌, drop, length, nat_lt}
-use Rattle.std.specs.Option.{option_map}
-use Rattle.std.specs.List.{slice_index_or}
+use Rattle.std.specs.Prelude.{ℕ, ◌+◌, ◌++◌, ◌==◌, Bool, true, Option, Some, None, List, [], ◌∷◌, drop, length, map, nat_lt}
 use Rattle.mp_events.specs.declared.kinds.LineKind.{LineKind}
 use Rattle.mp_events.specs.declared.kinds.LineKind.TheVariants.{Person as PersonLine, Auction as AuctionLine, Bid as BidLine}
 use Rattle.mp_events.specs.declared.refused.EventsReason.{EventsReason}
 use Rattle.mp_events.specs.declared.refused.EventsReason.TheVariants.{Count, Kind, Fields, Order}
-use Rattle.mp_events.specs.Checks.{failures_of_fields}
-use Rattle.mp_events.specs.Kinds.{checks_of, kind_of}
-use Rattle.mp_events.specs.Reasons.{check}
-use Rattle.mp_names.specs.Limits.{most_events}
+use Rattle.mp_events.specs.Kinds.{kind_of, limits_of}
+use Rattle.mp_events.specs.Reasons.{reason_of}
+use Rattle.mp_lines.specs.Checks.{check, failures_of_fields, field_at, number_at}
+use Rattle.mp_lines.specs.Limits.{failures_of_field}
+use Rattle.mp_lines.specs.Rules.{LineRules}
 use Rattle.mp_model.specs.declared.record.Event.{Event}
 use Rattle.mp_model.specs.declared.value.Value.{Value}
 use Rattle.mp_model.specs.declared.value.Value.TheVariants.{Person, Auction, Bid}
-use Rattle.mp_text.specs.Fields.{fields_of}
-use Rattle.mp_text.specs.Numbers.{value_of}
-
--- the field at a place of a line, from 0, or no bytes where there is none
-abbrev pub field_at : List (List ℕ) → ℕ → List ℕ
-field_at fields place = slice_index_or fields place []
-
--- the number that this field says
-abbrev pub number_at : List (List ℕ) → ℕ → ℕ
-number_at fields place = value_of (field_at fields place)
+use Rattle.mp_names.specs.Limits.{most_events}
 
 -- whether the times of a line are in order: an auction expires after its time
 abbrev pub is_ordered : LineKind → List (List ℕ) → Bool
@@ -34,8 +24,8 @@ is_ordered BidLine fields = true
 abbrev pub failures_of_kind : Option LineKind → List (List ℕ) → List EventsReason
 failures_of_kind None fields = Kind ∷ []
 failures_of_kind (Some kind) fields =
-    check (length fields == length (checks_of kind) + 1) Fields
-    ++ failures_of_fields (checks_of kind) (drop 1 fields)
+    check (length fields == length (limits_of kind) + 1) Fields
+    ++ map reason_of (failures_of_fields failures_of_field (limits_of kind) (drop 1 fields))
     ++ check (is_ordered kind fields) Order
 
 -- the checks that a line's fields fail, in their order, where so many events stand before it
@@ -53,6 +43,15 @@ value_by BidLine fields = Bid (number_at fields 2) (number_at fields 3) (number_
 abbrev pub event_by : List (List ℕ) → LineKind → Event
 event_by fields kind = record { time = number_at fields 1; value = value_by kind fields }
 
--- the event that a line says, which fails no check
-abbrev pub event_of : List ℕ → Option Event
-event_of line = option_map (event_by (fields_of line)) (kind_of (field_at (fields_of line) 0))
+-- the one event that a line of this kind says
+abbrev pub events_of_kind : Option LineKind → List (List ℕ) → List Event
+events_of_kind None fields = []
+events_of_kind (Some kind) fields = event_by fields kind ∷ []
+
+-- the event that a line's fields say, where they fail no check
+abbrev pub events_on : List (List ℕ) → List Event
+events_on fields = events_of_kind (kind_of (field_at fields 0)) fields
+
+-- the checks that a line fails, and the event that it says
+abbrev pub event_rules : LineRules Event EventsReason
+event_rules = record { failures = failures_of; says = events_on }

@@ -1,7 +1,10 @@
 -- Why a line is bad.
-use Rattle.std.specs.Prelude.{ℕ, Bool, List, [], ◌∷◌, codes, if◌then◌else◌}
+use Rattle.std.specs.Prelude.{ℕ, List, codes}
 use Rattle.mp_events.specs.declared.refused.EventsReason.{EventsReason}
 use Rattle.mp_events.specs.declared.refused.EventsReason.TheVariants.{Count, Kind, Fields, Number, Range, Name, Order}
+use Rattle.mp_lines.specs.declared.fields.BadField.{BadField}
+use Rattle.mp_lines.specs.declared.fields.BadField.TheVariants.{Number as NotNumber, Name as NotName}
+use Rattle.mp_text.specs.declared.numbers.BadNumber.TheVariants.{Digits, Range as OutOfRange}
 
 -- the reason, as the program prints it
 abbrev pub reason_text : EventsReason → List ℕ
@@ -13,6 +16,8 @@ reason_text Range = codes "range"
 reason_text Name = codes "name"
 reason_text Order = codes "order"
 
--- a check: the reason, where it fails
-abbrev pub check : Bool → EventsReason → List EventsReason
-check passes why = if passes then [] else why ∷ []
+-- the reason of a field that isn't within its limit
+abbrev pub reason_of : BadField → EventsReason
+reason_of (NotNumber Digits) = Number
+reason_of (NotNumber OutOfRange) = Range
+reason_of NotName = Name

@@ -1,9 +1,9 @@
 //! The kinds of lines.
 ghost use Rattle.std.specs.Prelude.{◌≡◌};
-ghost use Rattle.mp_events.specs.Kinds.{checks_of, kind_of};
-ghost use Rattle.mp_events.specs.Lines.{field_at};
+ghost use Rattle.mp_events.specs.Kinds.{kind_of, limits_of};
+ghost use Rattle.mp_lines.specs.Checks.{field_at};
 
-use crate::checks::FieldCheck::{self, NameUpTo, NumberUpTo};
+use mp_lines::{FieldLimit, NumberLimit};
 use mp_names::limits::{MAX_ID, MAX_NAME, MAX_PRICE, MAX_TIME};
 use mp_text::FieldList;
 
@@ -18,29 +18,19 @@ pub enum LineKind {
     Bid,
 }
 
-const PERSON_CHECKS: [FieldCheck; 5] = [
-    NumberUpTo(MAX_TIME),
-    NumberUpTo(MAX_ID),
-    NameUpTo(MAX_NAME),
-    NameUpTo(MAX_NAME),
-    NameUpTo(MAX_NAME),
-];
+const TIME: FieldLimit = FieldLimit::NumberWithin(NumberLimit::UpTo(MAX_TIME));
 
-const AUCTION_CHECKS: [FieldCheck; 6] = [
-    NumberUpTo(MAX_TIME),
-    NumberUpTo(MAX_ID),
-    NumberUpTo(MAX_ID),
-    NumberUpTo(MAX_ID),
-    NumberUpTo(MAX_PRICE),
-    NumberUpTo(MAX_TIME),
-];
+const ID: FieldLimit = FieldLimit::NumberWithin(NumberLimit::UpTo(MAX_ID));
 
-const BID_CHECKS: [FieldCheck; 4] = [
-    NumberUpTo(MAX_TIME),
-    NumberUpTo(MAX_ID),
-    NumberUpTo(MAX_ID),
-    NumberUpTo(MAX_PRICE),
-];
+const PRICE: FieldLimit = FieldLimit::NumberWithin(NumberLimit::UpTo(MAX_PRICE));
+
+const NAME: FieldLimit = FieldLimit::NameUpTo(MAX_NAME);
+
+const PERSON: [FieldLimit; 5] = [TIME, ID, NAME, NAME, NAME];
+
+const AUCTION: [FieldLimit; 6] = [TIME, ID, ID, ID, PRICE, TIME];
+
+const BID: [FieldLimit; 4] = [TIME, ID, ID, PRICE];
 
 impl LineKind {
     /// The kind that a line says in its first field, if it says one.
@@ -59,14 +49,14 @@ impl LineKind {
         }
     }
 
-    /// The checks of the fields after the kind, from left to right.
-    pub fn checks(self) -> &'static [FieldCheck]
-        ensures checks { result.now ≡ checks_of self }
+    /// The limits of the fields after the kind, from left to right.
+    pub fn limits(self) -> &'static [FieldLimit]
+        ensures limits { result.now ≡ limits_of self }
     {
         match self {
-            LineKind::Person => &PERSON_CHECKS,
-            LineKind::Auction => &AUCTION_CHECKS,
-            LineKind::Bid => &BID_CHECKS,
+            LineKind::Person => &PERSON,
+            LineKind::Auction => &AUCTION,
+            LineKind::Bid => &BID,
         }
     }
 }

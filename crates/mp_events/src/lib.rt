@@ -1,18 +1,16 @@
+//! Layer: values, files and text.
+//!
 //! Events from the lines of an event file.
 //!
-//! A line says a person (`P`), an auction (`A`) or a bid (`B`). Its fields are checked by one table,
-//! from left to right, and the first check that fails is the reason why a file is refused. The lines,
-//! their limits and the order of the checks are this project's profile; persons, auctions and bids are
-//! those of NEXMark.
+//! A line says a person (`P`), an auction (`A`) or a bid (`B`). Its fields are checked by one table, from left to
+//! right, and the first check that fails is the reason why a file is refused. The lines, their limits and the order of
+//! the checks are this project's profile; persons, auctions and bids are those of NEXMark.
 #![tactic(auto)]
 
-mod checks;
 mod kinds;
-mod lines;
+mod line;
 mod reading;
 mod refused;
-#[cfg(test)]
-mod tests;
 
 pub use reading::read_events;
 pub use refused::{EventsReason, EventsRefused};

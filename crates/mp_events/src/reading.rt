@@ -1,20 +1,22 @@
 //! The events of a whole file.
 ghost use Rattle.std.specs.Prelude.{◌≡◌, ◌≤◌, All, Ok, Err, IfOk, IfErr, vec_len};
-ghost use Rattle.mp_events.specs.Events.{IfBadLine, events_of};
+ghost use Rattle.mp_events.specs.Events.{events_of};
+ghost use Rattle.mp_lines.specs.Refusals.{IfBadLine};
 ghost use Rattle.mp_model.specs.Legal.{EventIsLegal};
 ghost use Rattle.mp_names.specs.Limits.{most_events};
 
-use crate::EventsRefused;
-use crate::lines::read_line;
+use crate::line::read_line;
+use crate::{EventsReason, EventsRefused};
+use mp_lines::{LineReader, LineRefused, read_lines};
 use mp_model::Event;
-use mp_text::{Lines, fields};
+use mp_text::FieldList;
 use std::alloc::Global;
 
-/// The events of an event file, in file order: one for each line that isn't blank. An event's place in
-/// the list is its index. Times may come in any order.
+/// The events of an event file, in file order: one for each line that isn't blank. An event's place in the list is its
+/// index. Times may come in any order.
 ///
-/// `BadLine` comes exactly where a line fails a check, with the number of the first such line and the
-/// first check that it fails. `NoMemory` is want of memory alone.
+/// `BadLine` comes exactly where a line fails a check, with the number of the first such line and the first check that
+/// it fails. `NoMemory` is an allocation failure alone.
 pub fn read_events(alloc: Global, text: &[u8]) -> Result<Vec<Event>, EventsRefused>
     ensures events { IfOk result (λ events. events_of text.now ≡ Ok events.items) }
     ensures legal { IfOk result (λ events. All EventIsLegal events.items) }
@@ -23,23 +25,34 @@ pub fn read_events(alloc: Global, text: &[u8]) -> Result<Vec<Event>, EventsRefus
     ensures bad_line { IfErr result (λ refused.
         IfBadLine refused (λ line why. events_of text.now ≡ Err (line, why))) }
 {
-    let mut events = Vec::new(alloc);
-    let mut lines = Lines::over(text);
-    while let Some(line) = lines.next() {
-        if line.bytes.is_empty() {
-            continue;
-        }
-        let fields = fields(line.bytes);
-        let read = match read_line(&fields, events.len()) {
-            Ok(read) => read,
-            Err(why) => {
-                return Err(EventsRefused::BadLine {
-                    line: line.number,
-                    why,
-                });
+    read_lines(alloc, &EventReader, text)
+}
+
+/// What the lines of an event file say.
+#[derive(Drop)]
+struct EventReader;
+
+impl LineReader for EventReader {
+    ghost use Rattle.mp_events.specs.Lines.{event_rules};
+
+    type Item = Event;
+
+    type Reason = EventsReason;
+
+    ghost rules = { λ _. event_rules };
+
+    fn read(
+        &self,
+        alloc: Global,
+        fields: &FieldList,
+        events: &mut Vec<Event>,
+    ) -> Result<(), LineRefused<EventsReason>> {
+        match read_line(fields, events.len()) {
+            Ok(line) => {
+                events.push(line.event(alloc, fields)?)?;
+                Ok(())
             }
-        };
-        events.push(read.event(alloc, &fields)?)?;
+            Err(why) => Err(LineRefused::Bad(why)),
+        }
     }
-    Ok(events)
 }

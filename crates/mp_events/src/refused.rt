@@ -2,12 +2,12 @@
 ghost use Rattle.std.specs.Prelude.{◌≡◌};
 ghost use Rattle.mp_events.specs.Reasons.{reason_text};
 
-use std::alloc::{AllocError, AllocFailed};
+use mp_lines::{BadField, FileRefused};
+use mp_text::BadNumber;
 use std::fmt;
-use thiserror::Error;
 
-/// The check that a line fails. A line is checked in the order of these variants; `Number`, `Range` and
-/// `Name` are checks of its fields, which go from left to right. All of them are this project's profile.
+/// The check that a line fails. A line is checked in the order of these variants; `Number`, `Range` and `Name` are
+/// checks of its fields, which go from left to right. All of them are this project's profile.
 #[derive(Clone, Copy, PartialEq, Eq, Debug)]
 pub enum EventsReason {
     /// As many events as a file may have stand before the line.
@@ -54,36 +54,22 @@ impl fmt::Display for EventsReason {
     }
 }
 
-/// Why an event file gives no events.
-#[derive(Debug, Drop, Error)]
-pub enum EventsRefused {
-    /// This line, numbered from 1 with blank lines counted, is the first that fails a check, and this
-    /// is the first check that it fails.
-    #[error("line {line}: {why}")]
-    BadLine { line: u64, why: EventsReason },
-    /// Want of memory, which says nothing of the file.
-    #[error("out of memory")]
-    NoMemory,
-}
-
-impl From<AllocError> for EventsRefused {
+impl From<BadField> for EventsReason {
     ghost use Rattle.std.specs.Prelude.{◌≡◌};
-    ghost use Rattle.mp_events.specs.declared.refused.EventsRefused.TheVariants.{NoMemory};
+    ghost use Rattle.mp_events.specs.Reasons.{reason_of};
 
-    ghost from_gives = { λ _ refused. refused ≡ NoMemory };
+    ghost from_gives = { λ bad why. why ≡ reason_of bad };
 
-    fn from(_error: AllocError) -> EventsRefused {
-        EventsRefused::NoMemory
+    fn from(bad: BadField) -> EventsReason {
+        match bad {
+            BadField::Number(BadNumber::Digits) => EventsReason::Number,
+            BadField::Number(BadNumber::Range) => EventsReason::Range,
+            BadField::Name => EventsReason::Name,
+        }
     }
 }
 
-impl<T: Drop> From<AllocFailed<T>> for EventsRefused {
-    ghost use Rattle.std.specs.Prelude.{◌≡◌};
-    ghost use Rattle.mp_events.specs.declared.refused.EventsRefused.TheVariants.{NoMemory};
-
-    ghost from_gives = { λ _ refused. refused ≡ NoMemory };
-
-    fn from(_failed: AllocFailed<T>) -> EventsRefused {
-        EventsRefused::NoMemory
-    }
-}
+/// Why an event file gives no events: `BadLine` with the number of its first line that fails a check, from 1 with blank
+/// lines counted, and the first check that this line fails; `NoMemory` for an allocation failure, which says nothing of the
+/// file.
+pub type EventsRefused = FileRefused<EventsReason>;

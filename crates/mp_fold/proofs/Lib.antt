@@ -1,3 +1,2 @@
 -- The lemmas of this crate.
-mod Cuts
 mod Outputs

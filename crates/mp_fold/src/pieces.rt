@@ -3,8 +3,8 @@ ghost use Rattle.std.specs.Prelude.{◌≡◌, ◌++◌, [], IfOk, OnOk};
 ghost use Rattle.std.specs.List.{flat_map};
 ghost use Rattle.mp_model.specs.Answers.{line_of};
 
-use crate::lines::put_line;
 use mp_model::{Place, Time, Value};
+use mp_row_text::put_line;
 use std::alloc::{AllocError, Global};
 use std::marker::Model;
 use std::mem;

@@ -1,13 +1,14 @@
--- A field that should be a number within a limit.
-use Rattle.std.proofs.Common.{◌≡◌, ◌<◌, ℕ, Bool, true, false, List, [], ◌++◌, Some, Ok, Err, cond, refl, sym, ◌∙◌, ap, arith}
+-- A field that should be a number within a limit, or a name.
+use Rattle.std.proofs.Common.{◌≡◌, ◌<◌, ◌≤◌, ℕ, Bool, true, false, List, [], ◌++◌, Some, Ok, Err, cond, length, refl, sym, ◌∙◌, ap, arith}
 use Rattle.std.specs.Prelude.{nat_le}
 use Rattle.std.specs.List.{slice_get}
-use Rattle.std.proofs.lemmas.Bool.{le-ltb, leb-false}
+use Rattle.std.proofs.lemmas.Bool.{and_parts, le-ltb, leb-false, leb-true, ltb-true}
+use Rattle.mp_lines.specs.declared.fields.FieldLimit.TheVariants.{NumberWithin, NameUpTo}
 use Rattle.mp_lines.specs.declared.limits.NumberLimit.{NumberLimit}
 use Rattle.mp_lines.specs.declared.limits.NumberLimit.TheVariants.{UpTo, Below}
 use Rattle.mp_lines.specs.Checks.{AnswersChecks, check}
-use Rattle.mp_lines.specs.Limits.{bound_of, failures_of_number, is_within}
-use Rattle.mp_lines.proofs.Starts.{empty_parts, passes}
+use Rattle.mp_lines.specs.Limits.{bound_of, failures_of_field, failures_of_number, is_within}
+use Rattle.mp_lines.proofs.Starts.{empty_map, empty_parts, passes}
 use Rattle.mp_text.specs.declared.numbers.BadNumber.{BadNumber}
 use Rattle.mp_text.specs.declared.numbers.BadNumber.TheVariants.{Digits, Range}
 use Rattle.mp_text.specs.Numbers.{is_number, number_of, value_of}
@@ -58,3 +59,11 @@ not_read limit field why e = cases (is_number field) (nat_le (value_of field) (b
 -- a field that fails no check is within the limit
 pub passes_limit : (limit : NumberLimit) (field : List ℕ) → failures_of_number limit field ≡ [] → is_within limit (value_of field) ≡ true
 passes_limit limit field e = passes _ _ (empty_parts (check (is_number field) Digits) _ e).1
+
+-- a number's field that fails no check says a number within the limit
+pub number_within : (limit : NumberLimit) (field : List ℕ) → failures_of_field (NumberWithin limit) field ≡ [] → is_within limit (value_of field) ≡ true
+number_within limit field e = passes_limit limit field (empty_map _ _ e)
+
+-- a name's field that fails none has one byte at least and at most so many
+pub name_within : (most : ℕ) (field : List ℕ) → failures_of_field (NameUpTo most) field ≡ [] → (0 < length field) × (length field ≤ most)
+name_within most field e = let both = and_parts _ _ (passes _ _ e) in (ltb-true _ _ both.0, leb-true _ _ both.1)

@@ -1,5 +1,5 @@
 -- Checks, and the fields of a line.
-use Rattle.std.specs.Prelude.{◌≡◌, ℕ, Bool, List, [], ◌∷◌, map, Some, Result, Ok, Err, if◌then◌else◌}
+use Rattle.std.specs.Prelude.{◌≡◌, ℕ, ◌+◌, Bool, List, [], ◌∷◌, drop, length, map, Some, Result, Ok, Err, if◌then◌else◌}
 use Rattle.std.specs.List.{flat_map, slice_get, slice_index_or, zip}
 use Rattle.mp_text.specs.Numbers.{value_of}
 
@@ -26,6 +26,11 @@ module _ {Check Reason : Type 0} where
   -- the checks that fields fail, from left to right
   abbrev pub failures_of_fields : (Check → List ℕ → List Reason) → List Check → List (List ℕ) → List Reason
   failures_of_fields failures checks fields = flat_map (λ c. failures c.0 c.1) (zip checks fields)
+
+  -- a line has a field for each check after the first, and each passes its check
+  pub record FieldsPass (failures : Check → List ℕ → List Reason) (checks : List Check) (fields : List (List ℕ)) : Type 0 where
+    pub count : length fields ≡ length checks + 1
+    pub pass : failures_of_fields failures checks (drop 1 fields) ≡ []
 
 module _ {Check : Type 0} where
   -- the numbers of fields, from left to right, each by its check

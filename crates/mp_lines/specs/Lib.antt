@@ -4,4 +4,3 @@ pub mod Files
 pub mod Limits
 pub mod Refusals
 pub mod Rules
-pub mod Samples

@@ -23,7 +23,7 @@ pub trait FieldCheck: Copy {
         ensures { AnswersChecks result (failures self field.now) (λ n. n ≡ number self field.now) };
 }
 
-/// The numbers of the fields after the kind, in their order, if each field passes its check; else the first check that
+/// The numbers of the fields after the kind, in their order, if each field passes its check. `Err`: the first check that
 /// fails, from left to right.
 pub fn read_numbers<C: FieldCheck>(
     fields: &FieldList,

@@ -1,3 +1,5 @@
+//! Layer: values, files and text.
+//!
 //! Reading a file line by line: the items that its lines say, or its first bad line.
 //!
 //! What a line says, and which checks it has to pass, is told by a [`LineReader`]. Blank lines are counted and say
@@ -5,13 +7,13 @@
 #![tactic(auto)]
 
 mod checks;
+mod fields;
 mod limits;
 mod reading;
 mod refused;
-#[cfg(test)]
-mod tests;
 
 pub use checks::{FieldCheck, MOST_FIELDS, read_numbers};
+pub use fields::{BadField, FieldLimit};
 pub use limits::NumberLimit;
 pub use reading::{LineReader, read_lines};
 pub use refused::{FileRefused, LineRefused};

@@ -21,7 +21,7 @@ pub trait LineReader {
 
     /// Appends the items of a line to those of the lines before it.
     ///
-    /// `Bad` comes exactly where the line fails a check, with the first that it fails. `NoMemory` is want of memory
+    /// `Bad` comes exactly where the line fails a check, with the first that it fails. `NoMemory` is an allocation failure
     /// alone.
     fn read(
         &self,
@@ -39,7 +39,7 @@ pub trait LineReader {
 /// The items of a file, in file order: those of each line that isn't blank.
 ///
 /// `BadLine` comes exactly where a line fails a check, with the number of the first such line and the first check that
-/// it fails. `NoMemory` is want of memory alone.
+/// it fails. `NoMemory` is an allocation failure alone.
 pub fn read_lines<R: LineReader>(
     alloc: Global,
     reader: &R,

@@ -3,13 +3,15 @@ ghost use Rattle.std.specs.Prelude.{◌≡◌};
 ghost use Rattle.mp_lines.specs.Refusals.{refused_at};
 
 use std::alloc::{AllocError, AllocFailed};
+use std::fmt;
+use thiserror::Error;
 
 /// Why a line gives no items.
 #[derive(Debug, Drop)]
 pub enum LineRefused<Why> {
     /// The first check that it fails.
     Bad(Why),
-    /// Want of memory, which says nothing of the line.
+    /// An allocation failed, which says nothing of the line.
     NoMemory,
 }
 
@@ -48,11 +50,36 @@ impl<T: Drop, Why> From<AllocFailed<T>> for LineRefused<Why> {
 }
 
 /// Why a file gives no items.
-#[derive(Debug, Drop)]
+#[derive(Debug, Drop, Error)]
+#[error_bound(Why: fmt::Display)]
 pub enum FileRefused<Why> {
-    /// This line, numbered from 1 with blank lines counted, is the first that fails a check, and this is the first check
-    /// that it fails.
+    /// This line, numbered from 1 with blank lines counted, is the first that fails a check, and this is the first
+    /// check that it fails.
+    #[error("line {line}: {why}")]
     BadLine { line: u64, why: Why },
-    /// Want of memory, which says nothing of the file.
+    /// An allocation failed, which says nothing of the file.
+    #[error("out of memory")]
     NoMemory,
+}
+
+impl<Why> From<AllocError> for FileRefused<Why> {
+    ghost use Rattle.std.specs.Prelude.{◌≡◌};
+    ghost use Rattle.mp_lines.specs.declared.refused.FileRefused.TheVariants.{NoMemory};
+
+    ghost from_gives = { λ _ refused. refused ≡ NoMemory };
+
+    fn from(_error: AllocError) -> FileRefused<Why> {
+        FileRefused::NoMemory
+    }
+}
+
+impl<T: Drop, Why> From<AllocFailed<T>> for FileRefused<Why> {
+    ghost use Rattle.std.specs.Prelude.{◌≡◌};
+    ghost use Rattle.mp_lines.specs.declared.refused.FileRefused.TheVariants.{NoMemory};
+
+    ghost from_gives = { λ _ refused. refused ≡ NoMemory };
+
+    fn from(_failed: AllocFailed<T>) -> FileRefused<Why> {
+        FileRefused::NoMemory
+    }
 }

@@ -8,6 +8,7 @@ use Rattle.mp_names.specs.declared.names.Tag.{Tag}
 use Rattle.mp_names.specs.Logs.{Log, empty_log, with_settled, with_took}
 use Rattle.mp_names.specs.Names.{Distinct, In, has, is_before}
 use Rattle.mp_names.proofs.Lists.{In_here, In_later, In_cases, In_left, In_push, In_right}
+use Rattle.mp_names.proofs.NameParts.{same_row, same_written}
 use Rattle.mp_model.specs.declared.record.Output.{Output}
 use Rattle.mp_job.proofs.Members.{Contains-filter, filter-Contains}
 use Rattle.mp_outline.specs.JobOutline.{name_of_row}
@@ -18,26 +19,11 @@ use Rattle.mp_output.specs.Holding.{HoldsUnwritten}
 use Rattle.mp_output.specs.Unwritten.{place_rank, rows_beside}
 
 -- the name of a row tells its time and tag
-time_in : Name → ℕ
-time_in (Row t g) = t
-time_in (Written t) = t
-time_in _ = 0
-
 pub same_time : (x : Output) (t : ℕ) (g : Tag) → name_of_row x ≡ Row t g → x.time ≡ t
-unfolding time_in
-same_time x t g e = ap time_in e
-
-tag_in : Name → Tag
-tag_in (Row t g) = g
-tag_in _ = record { 0 = 0; 1 = 0 }
+same_time x t g e = (same_row x.time t x.tag g e).0
 
 pub same_row_tag : (x : Output) (t : ℕ) (g : Tag) → name_of_row x ≡ Row t g → x.tag ≡ g
-unfolding tag_in
-same_row_tag x t g e = ap tag_in e
-
-pub same_written : (s t : ℕ) → Written s ≡ Written t → s ≡ t
-unfolding time_in
-same_written s t e = ap time_in e
+same_row_tag x t g e = (same_row x.time t x.tag g e).1
 
 -- Rows that come
 

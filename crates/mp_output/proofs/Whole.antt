@@ -16,49 +16,22 @@ use Rattle.mp_names.proofs.Orders.{is_before-from}
 use Rattle.mp_model.specs.declared.record.Output.{Output}
 use Rattle.mp_model.specs.Facts.{JobFacts, QueryFacts}
 use Rattle.mp_model.specs.Stages.{answer_rows, stage_records}
-use Rattle.mp_job.proofs.Members.{nothing_in_nil, Contains-cases, Contains-filter, Contains-here, Contains-later, filter-Contains}
+use Rattle.mp_job.proofs.Members.{Contains-filter, filter-Contains}
 use Rattle.mp_outline.specs.JobOutline.{name_of_row, outline_of}
 use Rattle.mp_outline.specs.Laws.{OutputsInOrder, TagIsBefore}
 use Rattle.mp_outline.proofs.Named.{In_named, named_In}
 use Rattle.mp_outline.proofs.Outputs.{stage_outputs_in_order}
-use Rattle.mp_outline.proofs.Pairs.{Pairs, Pairs-filter, Pairs-two, Pairs-within}
-use Rattle.mp_outline.proofs.Tags.{tag_irreflexive}
+use Rattle.mp_outline.proofs.Pairs.{Pairs, Pairs-filter, Pairs-within}
 use Rattle.mp_ordered.specs.InOrder.{IsInOrder}
 use Rattle.mp_ordered.proofs.Placing.{pairs_head, pairs_tail}
+use Rattle.mp_msg.proofs.Telling.{same_output}
+use Rattle.mp_msg.proofs.Ordered.{same_ordered}
 use Rattle.mp_output.specs.Holding.{HoldsUnwritten, answer_at}
 use Rattle.mp_output.specs.Unwritten.{IsDue, lines_of, place_rank, rows_at}
 use Rattle.mp_output.proofs.AnswerLines.{lines_at}
 use Rattle.mp_output.proofs.Held.{same_row_tag, same_time}
 use Rattle.mp_output.proofs.Times.{NotAfter}
 use Rattle.mp_output.proofs.Writing.{due_unwritten}
-
--- Two lists in one strict order
-
-module _ {X : Type 0} (R : X → X → Type 0) (one_way : (x y : X) → R x y → R y x → ⊥) where
-  -- the first of one list is the first of the other, if each stands in the other
-  same_first : (x y : X) (xs ys : List X) → Pairs R (x ∷ xs) → Pairs R (y ∷ ys) → Contains (y ∷ ys) x → Contains (x ∷ xs) y → x ≡ y
-  same_first x y xs ys h k i j =
-      ⊎_elim
-      (λ (e : y ≡ x). sym e)
-      (λ (l : Contains ys x). ⊎_elim (λ (e : x ≡ y). e) (λ (m : Contains xs y). absurd (one_way x y (h.0 y m) (k.0 x l))) (Contains-cases x y xs j))
-      (Contains-cases y x ys i)
-
-  -- what stands behind the first stands behind the first of the other
-  later_there : (x y : X) (xs ys : List X) → x ≡ y → Pairs R (x ∷ xs) → ((z : X) → Contains (x ∷ xs) z → Contains (y ∷ ys) z) → (z : X) → Contains xs z → Contains ys z
-  later_there x y xs ys e h k z i =
-      ⊎_elim
-      (λ (f : y ≡ z). let r : R x x = subst (λ (w : X). R x w) (sym f ∙ sym e) (h.0 z i) in absurd (one_way x x r r))
-      (λ (l : Contains ys z). l)
-      (Contains-cases y z ys (k z (Contains-later x z xs i)))
-
-  pub same_lists : (xs ys : List X) → Pairs R xs → Pairs R ys → ((z : X) → Contains xs z → Contains ys z) → ((z : X) → Contains ys z → Contains xs z) → xs ≡ ys
-  same_lists [] [] h k there back = refl
-  same_lists [] (y ∷ ys) h k there back = absurd (nothing_in_nil y (back y (Contains-here y ys)))
-  same_lists (x ∷ xs) [] h k there back = absurd (nothing_in_nil x (there x (Contains-here x xs)))
-  same_lists (x ∷ xs) (y ∷ ys) h k there back =
-      let e = same_first x y xs ys h k (there x (Contains-here x xs)) (back y (Contains-here y ys)) in
-      let rest = same_lists xs ys h.1 k.1 (later_there x y xs ys e h there) (later_there y x ys xs (sym e) k back) in
-      ap (λ (z : X). z ∷ xs) e ∙ ap (λ (zs : List X). y ∷ zs) rest
 
 -- The rows in the order of their tags
 
@@ -111,19 +84,6 @@ module _ {Cell : Type 0} (q : QueryFacts Cell) (job : JobFacts) where
   answer_in_order : Pairs OutputsInOrder (answer_rows q job.events)
   answer_in_order = stage_outputs_in_order q (q.stages - 1) (stage_records q job.events (q.stages - 1))
 
-  -- two rows of the answer with one name are one row
-  same_row : (x y : Output) → Contains (answer_rows q job.events) x → Contains (answer_rows q job.events) y → x.time ≡ y.time → x.tag ≡ y.tag → x ≡ y
-  same_row x y i j same tags =
-      ⊎_elim
-      (λ (e : x ≡ y). e)
-      (λ (e : OutputsInOrder x y ⊎ OutputsInOrder y x).
-      absurd
-      (⊎_elim
-      (λ (l : OutputsInOrder x y). tag_irreflexive x.tag y.tag (l same) tags)
-      (λ (l : OutputsInOrder y x). tag_irreflexive y.tag x.tag (l (sym same)) (sym tags))
-      e))
-      (Pairs-two OutputsInOrder (answer_rows q job.events) answer_in_order x y i j)
-
   -- each row of the answer of a time that is held, and of which no more can come, is held
   all_held : (log : Log) (rows : List Output) (t : ℕ) → All (Contains (answer_rows q job.events)) rows → HoldsUnwritten log rows → IsClosedForOne (outline_of q job) 0 log OutMail t → has log.settled (Written t) ≡ false → (x : Output) → Contains (rows_at t (answer_rows q job.events)) x → Contains (rows_at t rows) x
   all_held log rows t ours h closed unwritten x i =
@@ -133,7 +93,7 @@ module _ {Cell : Type 0} (q : QueryFacts Cell) (job : JobFacts) where
       let timed = subst (λ (s : ℕ). In (Row s x.tag) log.took) a.1 took in
       let b = In_named name_of_row rows (Row t x.tag) ((h.held t x.tag).1 (timed, unwritten)) in
       let time = same_time b.0 t x.tag b.2 in
-      let one = same_row b.0 x (All-contains (Contains (answer_rows q job.events)) rows b.0 ours b.1) a.0 (time ∙ sym a.1) (same_row_tag b.0 t x.tag b.2) in
+      let one = same_output q job b.0 x (All-contains (Contains (answer_rows q job.events)) rows b.0 ours b.1) a.0 (time ∙ sym a.1) (same_row_tag b.0 t x.tag b.2) in
       subst (Contains (rows_at t rows)) one (at_time t rows b.0 b.1 time)
 
   pub time_is_whole : (log : Log) (f : Frontier) (rows : List Output) (t : ℕ) → IsInOrder place_rank rows → All (Contains (answer_rows q job.events)) rows → IsDue f rows t → HoldsUnwritten log rows → IsClosedForOne (outline_of q job) 0 log OutMail t → lines_of (rows_at t rows) ≡ answer_at q job.events t
@@ -141,7 +101,7 @@ module _ {Cell : Type 0} (q : QueryFacts Cell) (job : JobFacts) where
       let answer = answer_rows q job.events in
       let unwritten = due_unwritten log f rows t due h in
       let same =
-      same_lists
+      same_ordered
       TagsInOrder
       tags_one_way
       (rows_at t rows)

@@ -4,4 +4,3 @@ pub mod Rows
 pub mod Wrote
 pub mod Refused
 pub mod Holding
-pub mod Samples

@@ -1,3 +1,5 @@
+//! Layer: the parts of a worker.
+//!
 //! Answer rows in the order of their places: each worker holds those that it has to send to worker 0, and worker 0 writes
 //! those that it has received, time by time, once no more rows of that time can come.
 #![tactic(auto)]
@@ -7,8 +9,6 @@ mod lines;
 mod place;
 mod refused;
 mod rows;
-#[cfg(test)]
-mod tests;
 mod unsent;
 
 pub use laws::answer_rows_are_rows;

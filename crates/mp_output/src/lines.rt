@@ -4,8 +4,8 @@ ghost use Rattle.std.specs.List.{prefix_len};
 ghost use Rattle.mp_output.specs.Unwritten.{lines_of};
 
 use crate::place::place_of;
-use mp_fold::put_line;
 use mp_model::{Output, Time};
+use mp_row_text::put_line;
 use std::alloc::{AllocError, Global};
 
 /// How many rows from the front on have this time.

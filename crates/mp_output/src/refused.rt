@@ -11,7 +11,7 @@ use std::alloc::AllocError;
 pub enum OutRefused {
     /// The sink failed: its count of faults rose, or stands at its last value, 2^64 - 1.
     WriteFault,
-    /// Want of memory.
+    /// An allocation failed.
     NoMemory,
 }
 

@@ -115,7 +115,7 @@ impl<Q: Query, J: Naming> Rows<Q, J> {
     /// has passed it: no row of that time can come any more, so these are the one-thread answer's lines of that time.
     /// `Time(t)`: the rows of time t are written and gone. `Nothing`: exactly where none is due, and nothing changes.
     /// `WriteFault`: only where the sink's count of faults rose in this call or stands at its last value, 2^64 - 1.
-    /// `NoMemory`: want of memory. With either the rows stay, and a part of the piece from its front may be written.
+    /// `NoMemory`: an allocation failed. With either the rows stay, and a part of the piece from its front may be written.
     pub fn write_due<S: Sink>(&mut self, seen: &Seen, sink: &mut S) -> Result<Wrote, OutRefused>
         ensures due { IfTime result (λ t. IsDue (seen_at seen.now OutMail) self.old.rows t) }
         ensures rest { IfTime result (λ t. self.new.rows ≡ rows_beside t self.old.rows) }

@@ -1,3 +1,5 @@
+//! Layer: the command.
+//!
 //! The words of megaphone's command line: what they ask for, or that they are no command.
 //!
 //! clap reads the words, with each value as text: the name of the program, `run` or `replay`, and the
@@ -8,8 +10,6 @@
 mod command;
 mod options;
 mod refused;
-#[cfg(test)]
-mod tests;
 mod values;
 mod words;
 

@@ -9,7 +9,7 @@ use std::fmt;
 /// Why words give no command.
 #[derive(Clone, Copy, PartialEq, Eq, Debug)]
 pub enum WordsRefused {
-    /// The words aren't in the command set. It comes exactly there, but for want of memory.
+    /// The words aren't in the command set. It comes exactly there, but for an allocation failure.
     Usage,
     /// Memory ran out.
     NoMemory,

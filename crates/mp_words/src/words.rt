@@ -14,7 +14,7 @@ use std::alloc::Global;
 
 /// What the words ask for, of which the first is the name of the program.
 ///
-/// `Usage` comes exactly where the words aren't in the command set, and `NoMemory` only for want of memory, which may
+/// `Usage` comes exactly where the words aren't in the command set, and `NoMemory` only for an allocation failure, which may
 /// come in place of any answer.
 pub fn parse<'a>(alloc: Global, words: &'a [String]) -> Result<RunOptions<'a>, WordsRefused>
     ensures asked { MatchResult result (λ options. command_in words.now ≡ Some (options_in options))

@@ -1,5 +1,6 @@
+use Rattle.std.proofs.lemmas.Result.{IfOk-weaker}
 use Rattle.mp_control.proofs.LegalControls.{controls_fit}
 use Rattle.mp_control.proofs.reading.read_control.Goals as goal
 
-pub returns-in-Ok-clause-legal : goal.returns-in-Ok-clause-legal
-returns-in-Ok-clause-legal c = controls_fit c.args.shape.now c.args.text.now c.in-Ok.controls.items c.in-Ok.ensures.items
+pub returns-clause-legal : goal.returns-clause-legal
+returns-clause-legal c = IfOk-weaker c.read_lines.result _ _ (λ controls is. controls_fit c.args.shape.now c.args.text.now controls.items is) c.read_lines.ensures.items

@@ -1,3 +1,0 @@
--- What the contracts of this crate's tests cite.
-pub mod Sample
-pub mod SampleLaws

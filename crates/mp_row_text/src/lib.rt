@@ -1,0 +1,10 @@
+//! Layer: values, files and text.
+//!
+//! The text of an answer row: one line for each row, its time and its fields.
+//!
+//! The form of a line is this project's profile; what it is stands with the answer, in `mp_model`.
+#![tactic(auto)]
+
+mod lines;
+
+pub use lines::put_line;
