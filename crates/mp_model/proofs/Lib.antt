@@ -1,3 +1,4 @@
 pub mod LastTimes
 pub mod LegalRecords
 pub mod Lists
+pub mod Tables

@@ -1,3 +1,5 @@
+//! Layer: values, files and text.
+//!
 //! Values, events, records and groups: what a dataflow carries; what a query is; and the definitions from events to the
 //! bytes of the answer.
 #![tactic(auto)]
@@ -8,8 +10,6 @@ mod naming;
 mod posts;
 mod query;
 mod record;
-#[cfg(test)]
-mod tests;
 mod text;
 mod value;
 

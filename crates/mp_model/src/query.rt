@@ -48,7 +48,7 @@ pub trait Query: Drop + Sync {
         ensures { result ≡ (facts (rules self.now)).most stage cell.now group.now };
 
     /// Applies a group to the cell of its key: the outputs, in order. The sums and counts of the cell with the group fit
-    /// their types. Want of memory leaves the cell as it was.
+    /// their types. An allocation failure leaves the cell as it was.
     fn step(
         &self,
         alloc: Global,

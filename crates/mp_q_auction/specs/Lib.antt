@@ -1,11 +1,7 @@
 -- What the contracts of this crate cite, and the proofs of the laws.
-pub mod Along
 pub mod Bidding
 pub mod Closed
-pub mod Counting
-pub mod Fits
 pub mod Laws
-pub mod Prices
 pub mod Q4
 pub mod Q6
 pub mod Sales

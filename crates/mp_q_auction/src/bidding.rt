@@ -4,10 +4,13 @@ ghost use Rattle.mp_q_auction.specs.Bidding.{after_records, after_value, is_clos
 
 use mp_model::{Group, Rec, Time, Value};
 
-/// What the first auction record of an id says. Its numbers have the limits of an auction event, of this project's profile.
+/// What the first auction record of an id says. Its numbers have the limits of an auction event, of this project's
+/// profile. It is public only as a part of the `Cell` of q4 and q6.
 #[derive(Clone, Copy, Debug)]
 pub struct Lot {
+    /// Its id, at most 2^48.
     pub seller: u64,
+    /// At most 2^48.
     pub category: u64,
     /// The least price at which it is sold.
     pub reserve: u64,
@@ -15,7 +18,8 @@ pub struct Lot {
     pub expires: Time,
 }
 
-/// What is kept of an auction: its lot, and the best price of the bids that count.
+/// What is kept of an auction: its lot, and the best price of the bids that count. It is public only as a part of the
+/// `Cell` of q4 and q6.
 #[derive(Clone, Copy, Debug)]
 pub struct Bidding {
     lot: Option<Lot>,

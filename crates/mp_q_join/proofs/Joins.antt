@@ -7,10 +7,10 @@ use Rattle.mp_model.specs.declared.record.Rec.{Rec}
 use Rattle.mp_model.specs.declared.value.Value.{Value}
 use Rattle.mp_model.specs.declared.value.Value.TheVariants.{Auction, Person}
 use Rattle.mp_q_join.specs.declared.home.Home.{Home}
-use Rattle.mp_q_join.specs.Joining.{Kept, after_records, after_value, auction_of, auctions_of, first_home, home_of, row_of, rows_along, rows_of_value}
+use Rattle.mp_q_join.specs.Joining.{PersonCell, after_records, after_value, auction_of, auctions_of, first_home, home_of, row_of, rows_along, rows_of_value}
 
 -- a cell of these parts
-abbrev kept : Option Home → List ℕ → Kept
+abbrev kept : Option Home → List ℕ → PersonCell
 kept home waiting = record { home = home; waiting = waiting }
 
 -- a person that is kept stays
@@ -36,7 +36,7 @@ joined_rows home waiting [] = refl
 joined_rows home waiting (r ∷ rs) = value_row home waiting r.value rs (joined_rows home waiting rs)
 
 -- the cell with the person, if it comes, and these auctions
-abbrev pub cell_with : Option Home → List ℕ → Kept
+abbrev pub cell_with : Option Home → List ℕ → PersonCell
 cell_with None auctions = kept None auctions
 cell_with (Some home) auctions = kept (Some home) []
 
@@ -74,35 +74,35 @@ waits_rows waiting [] = refl
 waits_rows waiting (r ∷ rs) = value_waits_rows waiting r.value rs (λ w. waits_rows w rs)
 
 -- the same of a cell whose person is known
-pub cell_stays : (cell : Kept) (home : Home) (rs : List Rec) → cell.home ≡ Some home → after_records cell rs ≡ cell
+pub cell_stays : (cell : PersonCell) (home : Home) (rs : List Rec) → cell.home ≡ Some home → after_records cell rs ≡ cell
 cell_stays cell home rs is =
     subst (λ (o : Option Home). after_records (kept o cell.waiting) rs ≡ kept o cell.waiting) (sym is) (joined_stays home cell.waiting rs)
 
-pub cell_rows : (cell : Kept) (home : Home) (rs : List Rec) → cell.home ≡ Some home → rows_along cell rs ≡ map (row_of home) (auctions_of rs)
+pub cell_rows : (cell : PersonCell) (home : Home) (rs : List Rec) → cell.home ≡ Some home → rows_along cell rs ≡ map (row_of home) (auctions_of rs)
 cell_rows cell home rs is =
     subst (λ (o : Option Home). rows_along (kept o cell.waiting) rs ≡ map (row_of home) (auctions_of rs)) (sym is) (joined_rows home cell.waiting rs)
 
 -- of one that has no person, where one comes
-pub cell_joins : (cell : Kept) (home : Home) (rs : List Rec) → cell.home ≡ None → first_home rs ≡ Some home
+pub cell_joins : (cell : PersonCell) (home : Home) (rs : List Rec) → cell.home ≡ None → first_home rs ≡ Some home
     → after_records cell rs ≡ record { home = Some home; waiting = [] }
 cell_joins cell home rs none comes =
     subst (λ (o : Option Home). after_records (kept o cell.waiting) rs ≡ kept (Some home) []) (sym none)
     (waits cell.waiting rs ∙ ap (λ o. cell_with o (cell.waiting ++ auctions_of rs)) comes)
 
-pub cell_joins_rows : (cell : Kept) (home : Home) (rs : List Rec) → cell.home ≡ None → first_home rs ≡ Some home
+pub cell_joins_rows : (cell : PersonCell) (home : Home) (rs : List Rec) → cell.home ≡ None → first_home rs ≡ Some home
     → rows_along cell rs ≡ map (row_of home) (cell.waiting ++ auctions_of rs)
 cell_joins_rows cell home rs none comes =
     subst (λ (o : Option Home). rows_along (kept o cell.waiting) rs ≡ map (row_of home) (cell.waiting ++ auctions_of rs)) (sym none)
     (waits_rows cell.waiting rs ∙ ap (λ o. rows_with o (cell.waiting ++ auctions_of rs)) comes)
 
 -- and where none comes
-pub cell_waits : (cell : Kept) (rs : List Rec) → cell.home ≡ None → first_home rs ≡ None
+pub cell_waits : (cell : PersonCell) (rs : List Rec) → cell.home ≡ None → first_home rs ≡ None
     → after_records cell rs ≡ record { home = cell.home; waiting = cell.waiting ++ auctions_of rs }
 cell_waits cell rs none later =
     subst (λ (o : Option Home). after_records (kept o cell.waiting) rs ≡ kept o (cell.waiting ++ auctions_of rs)) (sym none)
     (waits cell.waiting rs ∙ ap (λ o. cell_with o (cell.waiting ++ auctions_of rs)) later)
 
-pub cell_waits_rows : (cell : Kept) (rs : List Rec) → cell.home ≡ None → first_home rs ≡ None → rows_along cell rs ≡ []
+pub cell_waits_rows : (cell : PersonCell) (rs : List Rec) → cell.home ≡ None → first_home rs ≡ None → rows_along cell rs ≡ []
 cell_waits_rows cell rs none later =
     subst (λ (o : Option Home). rows_along (kept o cell.waiting) rs ≡ []) (sym none)
     (waits_rows cell.waiting rs ∙ ap (λ o. rows_with o (cell.waiting ++ auctions_of rs)) later)

@@ -9,12 +9,12 @@ use Rattle.mp_model.specs.declared.value.Value.TheVariants.{Auction, Person, Row
 use Rattle.mp_q_join.specs.declared.home.Home.{Home}
 
 -- the person, if it came, and the ids of the auctions that wait for it
-pub record Kept : Type 0 where
+pub record PersonCell : Type 0 where
   pub home : Option Home
   pub waiting : List ℕ
 
 -- at first there is no person, and no auction waits
-abbrev pub fresh_cell : Kept
+abbrev pub fresh_cell : PersonCell
 fresh_cell = record { home = None; waiting = [] }
 
 -- the row of an auction of a person
@@ -22,36 +22,36 @@ abbrev pub row_of : Home → ℕ → Value
 row_of home id = Row (Text home.name ∷ Text home.city ∷ Text home.state ∷ Number id ∷ [])
 
 -- the cell after a person: the first is kept, and no auction waits any more
-abbrev pub with_home : Kept → Home → Kept
+abbrev pub with_home : PersonCell → Home → PersonCell
 with_home cell home = if is_some cell.home then cell else record { home = Some home; waiting = [] }
 
 -- the cell after an auction, which waits where there is no person
-abbrev pub with_auction : Kept → ℕ → Kept
+abbrev pub with_auction : PersonCell → ℕ → PersonCell
 with_auction cell id = if is_some cell.home then cell else record cell { waiting = cell.waiting ++ id ∷ [] }
 
 -- the cell after a value; values of other kinds leave it as it is
-abbrev pub after_value : Kept → Value → Kept
+abbrev pub after_value : PersonCell → Value → PersonCell
 after_value cell (Person id name city state) = with_home cell (record { name = name; city = city; state = state })
 after_value cell (Auction id seller category reserve expires) = with_auction cell id
 after_value cell _ = cell
 
 -- the rows of a person: one for each auction that waits for it
-abbrev pub rows_of_home : Kept → Home → List Value
+abbrev pub rows_of_home : PersonCell → Home → List Value
 rows_of_home cell home = if is_some cell.home then [] else map (row_of home) cell.waiting
 
 -- the rows of a value: an auction has one where there is a person
-abbrev pub rows_of_value : Kept → Value → List Value
+abbrev pub rows_of_value : PersonCell → Value → List Value
 rows_of_value cell (Person id name city state) = rows_of_home cell (record { name = name; city = city; state = state })
 rows_of_value cell (Auction id seller category reserve expires) =
     option_to_list (option_map (λ (home : Home). row_of home id) cell.home)
 rows_of_value cell _ = []
 
 -- the cell after records, one by one
-abbrev pub after_records : Kept → List Rec → Kept
+abbrev pub after_records : PersonCell → List Rec → PersonCell
 after_records cell rs = fold (λ cell r. after_value cell r.value) cell rs
 
 -- the rows of records, one by one
-abbrev pub rows_along : Kept → List Rec → List Value
+abbrev pub rows_along : PersonCell → List Rec → List Value
 rows_along cell [] = []
 rows_along cell (r ∷ rs) = rows_of_value cell r.value ++ rows_along (after_value cell r.value) rs
 

@@ -1,17 +1,17 @@
 -- The tables of q3 and q8 keep the laws of a query.
-use Rattle.std.specs.Prelude.{ℕ, suc, ◌≡◌, ◌<◌, ◌≤◌, ◌+◌, ◌==◌, Bool, true, false, Option, Some, None, List, [], ◌∷◌, if◌then◌else◌, length, refl}
+use Rattle.std.specs.Prelude.{ℕ, ◌≡◌, ◌<◌, ◌≤◌, ◌+◌, Bool, true, false, Option, Some, None, List, [], ◌∷◌, if◌then◌else◌, length, refl}
 use Rattle.std.specs.Option.{option_to_list}
 use Rattle.std.proofs.Common.{◌∙◌, ap, arith}
-use Rattle.std.proofs.lemmas.Bool.{ne_eqb}
 use Rattle.std.proofs.lemmas.List.{length-append, length-map}
 use Rattle.mp_names.specs.Limits.{last_time}
 use Rattle.mp_model.specs.declared.record.Rec.{Rec}
 use Rattle.mp_model.specs.declared.value.Value.{Value}
 use Rattle.mp_model.specs.declared.value.Value.TheVariants.{Auction, Person}
 use Rattle.mp_model.specs.Always.{always_fits}
+use Rattle.mp_model.proofs.Tables.{length_option, not_zero}
 use Rattle.mp_model.specs.QueryLaws.{HasStages, PostsAreLater, LaterStagesPostNothing, OutputsHaveKeys, MostIsEnough, FreshStaysFresh, SumsFit, RisesWithin}
 use Rattle.mp_q_join.specs.declared.home.Home.{Home}
-use Rattle.mp_q_join.specs.Joining.{Kept, after_records, after_value, fresh_cell, row_of, rows_along, rows_of_value}
+use Rattle.mp_q_join.specs.Joining.{PersonCell, after_records, after_value, fresh_cell, row_of, rows_along, rows_of_value}
 use Rattle.mp_q_join.specs.Keys.{day_of_value, end_of_day}
 use Rattle.mp_q_join.specs.Q3.{q3_facts}
 use Rattle.mp_q_join.specs.Q8.{q8_facts}
@@ -19,7 +19,7 @@ use Rattle.mp_q_join.specs.Selling as selling
 
 -- a value has no more rows than auctions leave the list, and one
 few_rows : (home : Option Home) (waiting : List ℕ) (v : Value)
-    → let cell : Kept = record { home = home; waiting = waiting } in
+    → let cell : PersonCell = record { home = home; waiting = waiting } in
     length (rows_of_value cell v) + length (after_value cell v).waiting ≤ 1 + length waiting
 few_rows (Some h) waiting (Person id name city state) = omega arith
 few_rows (Some h) waiting (Auction id seller category reserve expires) = omega arith
@@ -30,7 +30,7 @@ few_rows None waiting (Auction id seller category reserve expires) = omega (arit
 few_rows None waiting _ = omega arith
 
 -- so records have no more rows than there are of them, and auctions wait
-length_rows : (cell : Kept) (rs : List Rec) → length (rows_along cell rs) ≤ length rs + length cell.waiting
+length_rows : (cell : PersonCell) (rs : List Rec) → length (rows_along cell rs) ≤ length rs + length cell.waiting
 length_rows cell [] = omega arith
 length_rows cell (r ∷ rs) =
     omega (arith, few_rows cell.home cell.waiting r.value, length-append (rows_of_value cell r.value) (rows_along (after_value cell r.value) rs), length_rows (after_value cell r.value) rs)
@@ -44,15 +44,6 @@ posts_later : (t : ℕ) (v : Value) → t + 43200 ≤ last_time → RisesWithin 
 posts_later t (Person id name city state) h = ((day_ends_later t).0, omega (arith, (day_ends_later t).1), tt)
 posts_later t (Auction id seller category reserve expires) h = ((day_ends_later t).0, omega (arith, (day_ends_later t).1), tt)
 posts_later t _ h = tt
-
--- one row is no more than one
-length_option : (o : Option Value) → length (option_to_list o) ≤ 1
-length_option None = omega arith
-length_option (Some v) = omega arith
-
--- no later stage is stage 0
-not_zero : (j : ℕ) → (suc j == 0) ≡ false
-not_zero j = ne_eqb (suc j) 0 (λ e. omega arith)
 
 -- what is woken afresh is fresh, and gives nothing
 woken_fresh : (woken : Bool) → selling.cell_at woken selling.fresh_cell ≡ selling.fresh_cell

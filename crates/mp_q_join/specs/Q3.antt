@@ -1,11 +1,11 @@
 -- What q3 is.
 use Rattle.std.specs.Prelude.{◌+◌, true, [], length}
 use Rattle.mp_model.specs.Facts.{QueryFacts}
-use Rattle.mp_q_join.specs.Joining.{Kept, after_records, fresh_cell, rows_along}
+use Rattle.mp_q_join.specs.Joining.{PersonCell, after_records, fresh_cell, rows_along}
 use Rattle.mp_q_join.specs.Keys.{seller_asked_for}
 
 -- the table of q3: a group has no more rows than it has records and auctions wait
-abbrev pub q3_facts : QueryFacts Kept
+abbrev pub q3_facts : QueryFacts PersonCell
 q3_facts = record {
   stages = 1;
   key = λ j t v. seller_asked_for v;

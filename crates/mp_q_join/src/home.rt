@@ -5,7 +5,7 @@ ghost use Rattle.mp_q_join.specs.Joining.{first_home, home_of, row_of};
 use mp_model::{Field, Fields, Rec, Text, Value};
 use std::alloc::AllocError;
 
-/// A person's name, city and state.
+/// A person's name, city and state. It is public only as a part of q3's `Cell`.
 #[derive(Drop, Debug)]
 pub struct Home {
     name: Text,
@@ -14,7 +14,7 @@ pub struct Home {
 }
 
 impl Home {
-    /// The first person among these records, if there is one.
+    /// The first person among these records, if there is one. `AllocError`: no memory.
     pub fn first(recs: &[Rec]) -> Result<Option<Home>, AllocError>
         ensures { IfOk result (λ home. home ≡ first_home recs.now) }
     {
@@ -45,7 +45,7 @@ impl Home {
         }
     }
 
-    /// Adds the rows of these auctions at the end. Want of memory may leave some of them there.
+    /// Adds the rows of these auctions at the end. `AllocError`: no memory, and some of them may stay there.
     pub fn push_rows(&self, auctions: &[u64], rows: &mut Vec<Value>) -> Result<(), AllocError>
         ensures { OnOk result (rows.new.items ≡ rows.old.items ++ map (row_of self.now) auctions.now) }
     {

@@ -7,7 +7,8 @@ use mp_model::{Rec, Value};
 use std::alloc::{AllocError, Global};
 use std::marker::Model;
 
-/// The person, if it came, and the ids of the auctions that wait for it, in order.
+/// The person, if it came, and the ids of the auctions that wait for it, in order. It is public only as the `Cell` of
+/// q3.
 #[derive(Drop, Debug)]
 pub struct Joining {
     home: Option<Home>,
@@ -15,9 +16,9 @@ pub struct Joining {
 }
 
 impl Model for Joining {
-    ghost use Rattle.mp_q_join.specs.Joining.{Kept};
+    ghost use Rattle.mp_q_join.specs.Joining.{PersonCell};
 
-    ghost Value = { Kept };
+    ghost Value = { PersonCell };
 
     ghost view = { λ j. record { home = j.home; waiting = j.waiting.items } };
 }
@@ -48,7 +49,7 @@ impl Joining {
     }
 
     #[tactic(auto, using(crate::proofs::Joins::cell_stays, crate::proofs::Joins::cell_rows, crate::proofs::Joins::cell_joins, crate::proofs::Joins::cell_joins_rows, crate::proofs::Joins::cell_waits, crate::proofs::Joins::cell_waits_rows))]
-    /// Takes these records, in order, and gives their rows. Want of memory leaves all as it was.
+    /// Takes these records, in order, and gives their rows. `AllocError`: no memory, and all stays as it was.
     pub fn apply(&mut self, alloc: Global, recs: &[Rec]) -> Result<Vec<Value>, AllocError>
         ensures cell { OnOk result (self.new ≡ after_records self.old recs.now) }
         ensures rows { IfOk result (λ v. v.items ≡ rows_along self.old recs.now) }
@@ -83,7 +84,8 @@ impl Joining {
 
     /// Lets these auctions wait. They have no rows yet.
     fn wait(&mut self, alloc: Global, auctions: &[u64]) -> Result<Vec<Value>, AllocError>
-        ensures cell { OnOk result (self.new ≡ record { home = self.old.home; waiting = self.old.waiting ++ auctions.now }) }
+        ensures cell { OnOk result
+            (self.new ≡ record { home = self.old.home; waiting = self.old.waiting ++ auctions.now }) }
         ensures rows { IfOk result (λ v. v.items ≡ []) }
         ensures unchanged { OnErr result (self.new ≡ self.old) }
     {

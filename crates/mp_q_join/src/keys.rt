@@ -20,8 +20,8 @@ const CALIFORNIA: &[u8] = b"CA";
 /// How many units of time a day of q8 has, by this project's profile.
 const DAY: u64 = 43_200;
 
-/// The key of q3: the seller of an auction of category 10, and the id of a person of the state OR, ID or CA. Other values
-/// make no record.
+/// The key of q3: the seller of an auction of category 10, and the id of a person of the state OR, ID or CA. Other
+/// values make no record.
 pub fn seller_asked_for(value: &Value) -> Option<u64>
     ensures { result ≡ seller_asked_for value.now }
 {

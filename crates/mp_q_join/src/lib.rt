@@ -1,3 +1,5 @@
+//! Layer: the queries, and the answer on one thread.
+//!
 //! The queries that join persons with their auctions: q3, the auctions of sellers of three states, and q8, the persons
 //! who sell on the day on which they came.
 #![tactic(auto)]
@@ -8,8 +10,6 @@ mod keys;
 mod q3;
 mod q8;
 mod selling;
-#[cfg(test)]
-mod tests;
 
 pub use home::Home;
 pub use joining::Joining;

@@ -6,7 +6,7 @@ ghost use Rattle.mp_q_join.specs.Selling.{after_records, after_value, cell_at, f
 use mp_model::{Field, Fields, Group, Text, Value};
 use std::alloc::{AllocError, Global};
 
-/// The name of a person, if it came, and whether it sells.
+/// The name of a person, if it came, and whether it sells. It is public only as the `Cell` of q8.
 #[derive(Drop, Debug)]
 pub struct Selling {
     name: Option<Text>,
@@ -31,7 +31,7 @@ impl Selling {
         self.name.is_none() && !self.sells
     }
 
-    /// The row of a group: where it is woken and a person sells, the key and the name.
+    /// The row of a group: where it is woken and a person sells, the key and the name. `AllocError`: no memory.
     pub fn rows_in(&self, alloc: Global, group: &Group) -> Result<Vec<Value>, AllocError>
         ensures { IfOk result (λ v. v.items ≡ option_to_list (row_in self.now group.now)) }
     {
@@ -44,7 +44,7 @@ impl Selling {
         Ok(rows)
     }
 
-    /// The cell after a group, which begins afresh where it is woken.
+    /// The cell after a group, which begins afresh where it is woken. `AllocError`: no memory.
     pub fn after(&self, group: &Group) -> Result<Selling, AllocError>
         ensures { IfOk result (λ cell. cell ≡ after_records (cell_at group.now.woken self.now) group.now.recs) }
     {
@@ -83,8 +83,8 @@ impl Selling {
         })
     }
 
-    /// Takes a value: the name of the first person is kept, and an auction says that it sells. Want of memory leaves all as
-    /// it was.
+    /// Takes a value: the name of the first person is kept, and an auction says that it sells. An allocation failure leaves
+    /// all as it was.
     fn apply(&mut self, value: &Value) -> Result<(), AllocError>
         ensures cell { OnOk result (self.new ≡ after_value self.old value.now) }
         ensures unchanged { OnErr result (self.new ≡ self.old) }

@@ -1,22 +1,12 @@
 -- The table that q1 and q2 have in common keeps the laws of a query, whatever row a bid has.
-use Rattle.std.specs.Prelude.{◌≤◌, ◌+◌, Option, Some, None, List, [], ◌∷◌, length, refl}
-use Rattle.std.specs.List.{cons_option}
+use Rattle.std.specs.Prelude.{Option, refl}
 use Rattle.std.proofs.Common.{ap, arith}
 use Rattle.mp_model.specs.declared.record.Rec.{Rec}
 use Rattle.mp_model.specs.declared.value.Value.{Value}
 use Rattle.mp_model.specs.QueryLaws.{HasStages, PostsAreLater, LaterStagesPostNothing, OutputsHaveKeys, MostIsEnough, FreshStaysFresh, SumsFit}
 use Rattle.mp_model.specs.Always.{always_fits}
+use Rattle.mp_model.proofs.Tables.{length-filter_map}
 use Rattle.mp_q_simple.specs.Bids.{bids_by, rows_of}
-
--- one more row at most
-length_cons : (row : Option Value) (rows : List Value) → length (cons_option row rows) ≤ length rows + 1
-length_cons None rows = omega arith
-length_cons (Some v) rows = omega arith
-
--- no more rows than records
-length_rows : (row : Value → Option Value) (rs : List Rec) → length (rows_of row rs) ≤ length rs
-length_rows row [] = omega arith
-length_rows row (r ∷ rs) = omega (arith, length_cons (row r.value) (rows_of row rs), length_rows row rs)
 
 -- there is one stage
 pub has_stages : (row : Value → Option Value) → HasStages (bids_by row)
@@ -36,7 +26,7 @@ outputs_have_keys row j cell e later = absurd (omega arith)
 
 -- a record gives one row at most
 pub most_is_enough : (row : Value → Option Value) → MostIsEnough (bids_by row)
-most_is_enough row j cell e = length_rows row e.recs
+most_is_enough row j cell e = length-filter_map (λ (r : Rec). row r.value) e.recs
 
 -- without records there are no rows
 pub fresh_stays_fresh : (row : Value → Option Value) → FreshStaysFresh (bids_by row)

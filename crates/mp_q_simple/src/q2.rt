@@ -1,106 +1,37 @@
 //! The query q2: the bids on every 123rd auction.
-ghost use Rattle.std.specs.Prelude.{◌≡◌, IfOk};
-ghost use Rattle.std.specs.List.{filter_map};
-ghost use Rattle.mp_q_simple.specs.Q2.{row};
-
-use crate::bids::{Nothing, auction_of};
-use mp_model::{Field, Fields, Group, PostList, Query, Rec, Time, Value};
-use std::alloc::{AllocError, Global};
+use crate::{Bids, RowOf};
+use mp_model::{Field, Fields, Value};
 
 /// The auctions asked for are the multiples of this number, by this project's profile.
 const EVERY: u64 = 123;
 
-/// The query q2: the bids on the auctions whose ids are multiples of 123. The subject is NEXMark's, the number this project's
-/// profile.
+/// The query q2: the bids on the auctions whose ids are multiples of 123. The subject is NEXMark's, the number this
+/// project's profile.
+pub const Q2: Q2 = Bids {
+    rule: OnEvery123rd {},
+};
+
+/// The type of the query q2.
+pub type Q2 = Bids<OnEvery123rd>;
+
+/// The rows of q2. It is public only as a part of `Q2`.
 #[derive(Drop, Debug)]
-pub struct Q2 {}
+pub struct OnEvery123rd {}
 
-impl Query for Q2 {
-    ghost use Rattle.std.specs.Prelude.{[], refl};
-    ghost use Rattle.mp_q_simple.specs.Q2.{q2_facts};
-    ghost use Rattle.mp_q_simple.specs.Laws.{has_stages, posts_are_later, later_stages_post_nothing, outputs_have_keys, most_is_enough, fresh_stays_fresh, sums_fit};
+impl RowOf for OnEvery123rd {
+    ghost use Rattle.mp_q_simple.specs.Q2.{row};
 
-    type Cell = Nothing;
+    ghost row_by = { row };
 
-    const STAGES: u32 = 1;
-
-    ghost STAGES = { 1 };
-
-    ghost rules = { λ _. [] };
-
-    ghost facts = { λ _. q2_facts };
-
-    fn key(&self, _stage: u32, _time: Time, value: &Value) -> Option<u64> {
-        auction_of(value)
-    }
-
-    fn posts(&self, _stage: u32, _rec: &Rec) -> PostList {
-        PostList::new()
-    }
-
-    fn fresh(&self, _alloc: Global, _stage: u32) -> Nothing {
-        Nothing {}
-    }
-
-    fn is_fresh(&self, _stage: u32, _cell: &Nothing) -> bool {
-        true
-    }
-
-    fn most(&self, _stage: u32, _cell: &Nothing, group: &Group) -> u64 {
-        group.recs().len() as u64
-    }
-
-    fn step(
-        &self,
-        alloc: Global,
-        _stage: u32,
-        _cell: &mut Nothing,
-        group: &Group,
-    ) -> Result<Vec<Value>, AllocError> {
-        rows(alloc, group.recs())
-    }
-
-    ghost stages_are = { λ rs. refl };
-
-    ghost has_stages = { λ rs. has_stages row };
-
-    ghost posts_are_later = { λ rs. posts_are_later row };
-
-    ghost later_stages_post_nothing = { λ rs. later_stages_post_nothing row };
-
-    ghost outputs_have_keys = { λ rs. outputs_have_keys row };
-
-    ghost most_is_enough = { λ rs. most_is_enough row };
-
-    ghost fresh_stays_fresh = { λ rs. fresh_stays_fresh row };
-
-    ghost sums_fit = { λ rs. sums_fit row };
-}
-
-/// The rows of these bids, in order.
-fn rows(alloc: Global, recs: &[Rec]) -> Result<Vec<Value>, AllocError>
-    ensures { IfOk result (λ v. v.items ≡ filter_map (λ r. row r.value) recs.now) }
-{
-    let mut rows = Vec::new(alloc);
-    for rec in recs {
-        if let Some(row) = row_of(&rec.value) {
-            rows.push(row)?;
+    fn row_of(&self, value: &Value) -> Option<Value> {
+        match value {
+            Value::Bid { auction, price, .. } if *auction % EVERY == 0 => {
+                let mut fields = Fields::new();
+                fields.push(Field::Number(*auction));
+                fields.push(Field::Number(*price));
+                Some(Value::Row(fields))
+            }
+            _ => None,
         }
-    }
-    Ok(rows)
-}
-
-/// The row of a bid, if its auction is asked for.
-fn row_of(value: &Value) -> Option<Value>
-    ensures { result ≡ row value.now }
-{
-    match value {
-        Value::Bid { auction, price, .. } if *auction % EVERY == 0 => {
-            let mut fields = Fields::new();
-            fields.push(Field::Number(*auction));
-            fields.push(Field::Number(*price));
-            Some(Value::Row(fields))
-        }
-        _ => None,
     }
 }

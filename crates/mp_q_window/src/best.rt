@@ -5,15 +5,20 @@ ghost use Rattle.mp_q_window.specs.Best.{after_group, after_value, at_start, bet
 use mp_model::{Field, Fields, Group, Value};
 use std::marker::Model;
 
-/// What a bid offers. Its numbers have the limits of a bid, of this project's profile.
+/// What a bid offers. Its numbers have the limits of a bid, of this project's profile. It is public only as a part of
+/// q7's `Cell`.
 #[derive(Clone, Copy, Debug)]
 pub struct Offer {
+    /// Its id, at most 2^48.
     pub auction: u64,
+    /// Its id, at most 2^48.
     pub bidder: u64,
+    /// At most 10^12.
     pub price: u64,
 }
 
-/// The offer of the greatest price of a window so far, the first where prices are equal. Contracts see it, or none.
+/// The offer of the greatest price of a window so far, the first where prices are equal. Contracts see it, or none. It
+/// is public only as the `Cell` of q7.
 #[derive(Drop, Debug)]
 pub struct Best {
     best: Option<Offer>,

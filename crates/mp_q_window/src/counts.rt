@@ -5,7 +5,7 @@ ghost use Rattle.mp_q_window.specs.Counts.{greatest_of, row_at, rows_of};
 use mp_model::{Field, Fields, Rec, Value};
 use std::alloc::{AllocError, Global};
 
-/// The rows of the records with the greatest count, in order.
+/// The rows of the records with the greatest count, in order. `AllocError`: no memory.
 pub fn rows(alloc: Global, recs: &[Rec]) -> Result<Vec<Value>, AllocError>
     ensures { IfOk result (λ v. v.items ≡ rows_of recs.now) }
 {

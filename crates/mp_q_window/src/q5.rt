@@ -3,20 +3,20 @@ ghost use Rattle.std.specs.Prelude.{◌≡◌, ◌≤◌};
 ghost use Rattle.mp_names.specs.Limits.{last_time};
 ghost use Rattle.mp_q_window.specs.Q5.{key_of, posts_of};
 
-use crate::{Recent, counts, outputs, windows};
+use crate::{Recent, counts, windows};
 use mp_model::{Group, PostList, Query, Rec, Time, Value};
 use std::alloc::{AllocError, Global};
 
-/// The query q5: the auctions with the most bids in each window, which is 3600 long and ends at a multiple of 600. Stage 0
-/// counts the bids on each auction, stage 1 keeps the greatest counts. The subject is NEXMark's, the table this project's
-/// profile.
+/// The query q5: the auctions with the most bids in each window, which is 3600 long and ends at a multiple of 600.
+/// Stage 0 counts the bids on each auction, stage 1 keeps the greatest counts. The subject is NEXMark's, the table this
+/// project's profile.
 #[derive(Drop, Debug)]
 pub struct Q5 {}
 
 impl Query for Q5 {
     ghost use Rattle.std.specs.Prelude.{[], refl};
     ghost use Rattle.mp_q_window.specs.Q5.{q5_facts};
-    ghost use Rattle.mp_q_window.specs.Q5Laws.{has_stages, posts_are_later, later_stages_post_nothing, outputs_have_keys, most_is_enough, fresh_stays_fresh, sums_fit};
+    ghost use Rattle.mp_q_window.specs.Laws.Q5.{has_stages, posts_are_later, later_stages_post_nothing, outputs_have_keys, most_is_enough, fresh_stays_fresh, sums_fit};
 
     type Cell = Recent;
 
@@ -60,7 +60,7 @@ impl Query for Q5 {
         group: &Group,
     ) -> Result<Vec<Value>, AllocError> {
         if stage == 0 {
-            let outputs = outputs::from_option(alloc, cell.count(group))?;
+            let outputs = cell.count(group).into_iter().collect(alloc)?;
             *cell = cell.with(alloc, group)?;
             Ok(outputs)
         } else {

@@ -3,7 +3,7 @@ ghost use Rattle.std.specs.Prelude.{◌≡◌, ◌≤◌};
 ghost use Rattle.mp_names.specs.Limits.{last_time};
 ghost use Rattle.mp_q_window.specs.Q7.{key_of, posts_of};
 
-use crate::{Best, outputs, windows};
+use crate::{Best, windows};
 use mp_model::{Group, PostList, Query, Rec, Time, Value};
 use std::alloc::{AllocError, Global};
 
@@ -15,7 +15,7 @@ pub struct Q7 {}
 impl Query for Q7 {
     ghost use Rattle.std.specs.Prelude.{[], refl};
     ghost use Rattle.mp_q_window.specs.Q7.{q7_facts};
-    ghost use Rattle.mp_q_window.specs.Q7Laws.{has_stages, posts_are_later, later_stages_post_nothing, outputs_have_keys, most_is_enough, fresh_stays_fresh, sums_fit};
+    ghost use Rattle.mp_q_window.specs.Laws.Q7.{has_stages, posts_are_later, later_stages_post_nothing, outputs_have_keys, most_is_enough, fresh_stays_fresh, sums_fit};
 
     type Cell = Best;
 
@@ -54,7 +54,7 @@ impl Query for Q7 {
         cell: &mut Best,
         group: &Group,
     ) -> Result<Vec<Value>, AllocError> {
-        let outputs = outputs::from_option(alloc, cell.row(group))?;
+        let outputs = cell.row(group).into_iter().collect(alloc)?;
         cell.apply(group);
         Ok(outputs)
     }

@@ -12,7 +12,8 @@ const LENGTH: u64 = 3600;
 /// Times that are more than this before the end of a window are in no later window: the length without one slide.
 const KEPT: u64 = 3000;
 
-/// The times of the bids on an auction, in the order in which they came. Contracts see the list of them.
+/// The times of the bids on an auction, in the order in which they came. Contracts see the list of them. It is public
+/// only as the `Cell` of q5.
 #[derive(Drop, Debug)]
 pub struct Recent {
     times: Vec<Time>,
@@ -56,6 +57,7 @@ impl Recent {
     }
 
     /// With the times of a group's bids. The end of a window drops the times that no later window holds.
+    /// `AllocError`: no memory.
     pub fn with(&self, alloc: Global, group: &Group) -> Result<Recent, AllocError>
         ensures { IfOk result (λ r. r ≡ after_group self.now group.now) }
     {

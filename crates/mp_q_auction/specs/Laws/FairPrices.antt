@@ -1,0 +1,93 @@
+-- The prices of sales are within their limit, and there are few of them.
+use Rattle.std.specs.Prelude.{ℕ, ◌*◌, ◌≤◌, ◌==◌, ◌&&◌, Option, Some, None, List, [], ◌∷◌, All, IfSome, length, max, nat_le}
+use Rattle.std.specs.List.{enumerate_from}
+use Rattle.std.specs.Option.{option_map, option_to_list, unwrap_or}
+use Rattle.std.proofs.Common.{arith}
+use Rattle.std.proofs.lemmas.Bool.{cond_both}
+use Rattle.std.proofs.lemmas.List.Elements.{All-nil, All-cons, All-head, All-tail, All-weaker}
+use Rattle.std.proofs.lemmas.List.FromFn.{length-enumerate_from}
+use Rattle.mp_names.specs.Limits.{greatest_price}
+use Rattle.mp_model.specs.declared.record.Event.{Event}
+use Rattle.mp_model.specs.declared.record.Output.{Output}
+use Rattle.mp_model.specs.declared.record.Rec.{Rec}
+use Rattle.mp_model.specs.declared.value.Value.{Value}
+use Rattle.mp_model.specs.declared.value.Value.TheVariants.{Auction, Bid, Sale}
+use Rattle.mp_model.specs.Folds.{stage_outputs}
+use Rattle.mp_model.specs.Legal.{EventsAreLegal, IsLegalAt}
+use Rattle.mp_model.specs.QueryLaws.{RecordIsLegal}
+use Rattle.mp_model.specs.Stages.{record_of, record_of_output, stage_records}
+use Rattle.mp_model.proofs.LegalRecords.{input_records_legal}
+use Rattle.mp_model.proofs.Lists.{All-filter_map}
+use Rattle.mp_model.proofs.Tables.{length-filter_map, length_option}
+use Rattle.mp_q_auction.specs.declared.bidding.Bidding.{Bidding}
+use Rattle.mp_q_auction.specs.declared.bidding.Lot.{Lot}
+use Rattle.mp_q_auction.specs.Laws.Along.{few_outputs, outputs_keep}
+use Rattle.mp_q_auction.specs.Bidding.{after_records, after_value, is_closed, sold_at, sold_in}
+use Rattle.mp_q_auction.specs.Closed.{closed_by, closing_of, output_of}
+use Rattle.mp_q_auction.specs.Sales.{SalesFacts, price_of}
+
+-- a price is within its limit, if it is there
+abbrev pub IsFair : Option ℕ → Type 0
+IsFair o = IfSome o (λ p. p ≤ greatest_price)
+
+-- the greater of two fair prices is fair
+greater_is_fair : (best : Option ℕ) (price : ℕ) → IsFair best → price ≤ greatest_price → max (unwrap_or best 0) price ≤ greatest_price
+greater_is_fair None price h legal = omega arith
+greater_is_fair (Some best) price h legal = omega (arith, h)
+
+-- legal bids keep the best price within the limit
+value_keeps : (t time : ℕ) (b : Bidding) (v : Value) → IsLegalAt time v → IsFair b.best → IsFair (after_value t b v).best
+value_keeps t time b (Bid auction bidder price) legal h =
+    cond_both (is_closed t b.lot) b (record b { best = Some (max (unwrap_or b.best 0) price) }) (λ b. IsFair b.best) (λ _. h) (λ _. greater_is_fair b.best price h legal.2)
+value_keeps t time b _ legal h = h
+
+-- also one after the other
+records_keep : (t : ℕ) (b : Bidding) (rs : List Rec) → All RecordIsLegal rs → IsFair b.best → IsFair (after_records t b rs).best
+records_keep t b [] legal h = h
+records_keep t b (r ∷ rs) legal h =
+    records_keep t (after_value t b r.value) rs (All-tail RecordIsLegal r rs legal) (value_keeps t r.time b r.value (All-head RecordIsLegal r rs legal).legal h)
+
+-- so is the price of a sale
+sold_is_fair : (t : ℕ) (lot : Option Lot) (best : Option ℕ) → IsFair best → IfSome (sold_at t lot best) (λ s. s.1 ≤ greatest_price)
+sold_is_fair t None best h = tt
+sold_is_fair t (Some lot) None h = tt
+sold_is_fair t (Some lot) (Some best) h =
+    cond_both (lot.expires == t && nat_le lot.reserve best) (Some (lot, best)) None (λ (o : Option (Lot × ℕ)). IfSome o (λ s. s.1 ≤ greatest_price)) (λ _. h) (λ _. tt)
+
+-- whatever it is of
+sale_is_fair : (of : Lot → ℕ) (s : Option (Lot × ℕ)) → IfSome s (λ s. s.1 ≤ greatest_price)
+    → All (λ v. IsFair (price_of v)) (option_to_list (option_map (λ s. Sale (of s.0) s.1) s))
+sale_is_fair of None h = All-nil (λ (v : Value). IsFair (price_of v))
+sale_is_fair of (Some s) h =
+    All-cons (λ (v : Value). IsFair (price_of v)) (Sale (of s.0) s.1) [] h (All-nil (λ (v : Value). IsFair (price_of v)))
+
+-- a record has the price of its output, whatever its key is
+record_is_fair : (key : Option ℕ) (o : Output) → IsFair (price_of o.value)
+    → IfSome (option_map (λ k. record { time = o.time; key = k; tag = o.tag; value = o.value }) key) (λ (r : Rec). IsFair (price_of r.value))
+record_is_fair None o h = tt
+record_is_fair (Some k) o h = h
+
+-- an auction closes once
+closes_once : (v : Value) → length (closing_of v) ≤ 1
+closes_once (Auction id seller category reserve expires) = omega arith
+closes_once _ = omega arith
+
+module _ {Sales : Type 0} (of : Lot → ℕ) (sales : SalesFacts Sales) (events : List Event) where
+  -- there are no more sales than twice the events
+  pub few_sales : length (stage_records (closed_by of sales) events 1) ≤ 2 * length events
+  few_sales =
+      let q = closed_by of sales in
+      let rs = stage_records q events 0 in
+      omega (arith, length-filter_map (record_of_output q 1) (stage_outputs q 0 rs), few_outputs q 0 (λ r. closes_once r.value) (λ cell e. length_option (output_of of sales 0 cell e)) rs, length-filter_map (λ (p : ℕ × Event). record_of q p.0 p.1) (enumerate_from 0 events), length-enumerate_from 0 events)
+
+  -- and their prices are within the limit of those of bids
+  pub sales_are_fair : EventsAreLegal events → All (λ r. IsFair (price_of r.value)) (stage_records (closed_by of sales) events 1)
+  sales_are_fair legal =
+      let q = closed_by of sales in
+      let rs = stage_records q events 0 in
+      let given = outputs_keep q 0 (λ cell. IsFair cell.bidding.best) RecordIsLegal (λ v. IsFair (price_of v)) tt
+      (λ cell e h all. records_keep e.time cell.bidding e.recs all h)
+      (λ cell e h. sale_is_fair of (sold_in cell.bidding e) (cond_both e.woken (sold_at e.time cell.bidding.lot cell.bidding.best) None (λ (o : Option (Lot × ℕ)). IfSome o (λ s. s.1 ≤ greatest_price)) (λ _. sold_is_fair e.time cell.bidding.lot cell.bidding.best h) (λ _. tt)))
+      rs (input_records_legal q events legal) in
+      All-filter_map (λ (r : Rec). IsFair (price_of r.value)) (record_of_output q 1) (stage_outputs q 0 rs)
+      (All-weaker (λ (o : Output). IsFair (price_of o.value)) (λ (o : Output). IfSome (record_of_output q 1 o) (λ (r : Rec). IsFair (price_of r.value))) (λ o h. record_is_fair (q.key 1 o.time o.value) o h) (stage_outputs q 0 rs) given)
