@@ -9,6 +9,7 @@ use Rattle.mp_names.specs.declared.locations.Loc.{Loc}
 use Rattle.mp_names.specs.declared.locations.Loc.TheVariants.{Host}
 use Rattle.mp_names.specs.declared.names.Name.{Name}
 use Rattle.mp_names.specs.declared.names.Name.TheVariants.{Group}
+use Rattle.mp_names.specs.declared.pointstamps.ControlCursor.{ControlCursor}
 use Rattle.mp_names.specs.Keeping.{IsWaiting}
 use Rattle.mp_names.specs.Logs.{Log, empty_log, is_pending, with_applied}
 use Rattle.mp_names.specs.Outlines.{OutlineIsSound}
@@ -21,9 +22,9 @@ use Rattle.mp_model.specs.Facts.{JobFacts, QueryFacts}
 use Rattle.mp_model.specs.Folds.{outputs_at}
 use Rattle.mp_model.specs.QueryLaws.{HasStages, LaterStagesPostNothing, OutputsHaveKeys, PostsAreLater}
 use Rattle.mp_model.specs.Stages.{answer_rows}
-use Rattle.mp_rows.specs.Entries.{AreChanges}
+use Rattle.mp_rows.specs.Entries.{AreChanges, change_at}
 use Rattle.mp_rows.specs.WorkerLog.{WorkerLog}
-use Rattle.mp_count_laws.specs.Changes.{one_less, one_more, outputs_of, route_after, some_more}
+use Rattle.mp_count_laws.specs.Changes.{location_after, one_less, one_more, outputs_of, some_more}
 use Rattle.mp_count_laws.proofs.Applied.{applied}
 use Rattle.mp_outline.specs.JobOutline.{name_of_record, name_of_row, outline_of}
 use Rattle.mp_outline.proofs.Soundness.{outline_is_sound}
@@ -35,17 +36,17 @@ use Rattle.mp_output.specs.Unwritten.{Unwritten}
 use Rattle.mp_host_laws.specs.Hosted.{Hosted}
 use Rattle.mp_host_laws.specs.HostOf.{IsHostOf, HostMatchesLogAndSeen, IsReadyAt, OwnersAreCurrent}
 use Rattle.mp_worker_invariant.specs.Given.{values_given}
-use Rattle.mp_worker_invariant.specs.Kept.{IsHostAt, IsRouterAt, PartsAreAsked, StepsKeepParts}
+use Rattle.mp_worker_invariant.specs.Kept.{PartsAreAsked, StepsKeepParts}
 use Rattle.mp_worker_invariant.specs.Laws.{ConditionsAreTold, GroupsHandOn}
 use Rattle.mp_worker_invariant.specs.Machine.{machine_worker}
-use Rattle.mp_worker_invariant.specs.Parts.{AtEach, HoldsRowsBut, Parts}
+use Rattle.mp_worker_invariant.specs.Parts.{AtEach, HoldsRowsBut, IsHostAt, IsRouterAt, Parts}
 use Rattle.mp_worker_invariant.proofs.Asked.{parts_are_asked}
 use Rattle.mp_worker_invariant.proofs.Conditions.{conditions_are_told}
 use Rattle.mp_worker_invariant.proofs.Handed.{groups_hand_on}
 use Rattle.mp_worker_invariant.proofs.Kept.{steps_keep_parts}
 use Rattle.mp_refinement.specs.State.{CanMake, WorkerState}
 use Rattle.mp_worker.specs.Kept.{IsKept, parts_with}
-use Rattle.mp_worker_invariant.specs.Onward.{content, records_at}
+use Rattle.mp_parts.specs.Onward.{content, records_at}
 use Rattle.mp_worker.proofs.Keeping.{kept_as, other_routers}
 use Rattle.mp_worker.proofs.Counted.{group_in_time, number_of_records, number_of_rows, values_have_keys}
 
@@ -63,7 +64,7 @@ all_written n old new e f =
 pub changes_length : (host onward : Loc) (t n : ℕ) (woke : List ℕ) → length (one_less host t ∷ (some_more onward t n ++ map (one_more host) woke)) ≤ length woke + 2
 changes_length host onward t n woke = by_number (n == 0)
   where
-    by_number : (none : Bool) → length (one_less host t ∷ ((if none then [] else (onward, t, pos n) ∷ []) ++ map (one_more host) woke)) ≤ length woke + 2
+    by_number : (none : Bool) → length (one_less host t ∷ ((if none then [] else change_at onward t (pos n) ∷ []) ++ map (one_more host) woke)) ≤ length woke + 2
     by_number true = let l = length-map woke (one_more host) in omega arith
     by_number false = let l = length-map woke (one_more host) in omega arith
 
@@ -98,7 +99,7 @@ pub record Fields (Cell : Type 0) : Type 0 where
   pub log : WorkerLog
   pub seen : Seen
   pub notes : Notes
-  pub next : ℕ × ℕ
+  pub next : ControlCursor
   pub routers : List Routed
   pub hosts : List (Hosted Cell)
   pub movers : List MoversState
@@ -205,7 +206,7 @@ module _ {Cell : Type 0} (q : QueryFacts Cell) (keeps : AppliesBy q) (job its : 
             (λ ends. number_of_rows q keeps.nothing job o_sound j t k below waits.0 ends kept.legal.stages))
 
         -- the changes that it brings
-        pub changes_are : (onward : Loc) → onward ≡ route_after (outline_of q job) j → (woke : List ℕ) → AllPairs (λ u v. u ≢ v) woke
+        pub changes_are : (onward : Loc) → onward ≡ location_after j (outline_of q job).stages → (woke : List ℕ) → AllPairs (λ u v. u ≢ v) woke
             → ((u : ℕ) → (Contains woke u ↔ ((is_pending (outline_of q job) (with_applied f.log.log (Group h.stage t k)) (Group h.stage u k) ≡ true) × (is_pending (outline_of q job) f.log.log (Group h.stage u k) ≡ false))))
             → AreChanges (outline_of q job) f.log.worker f.log.log (with_applied f.log.log (Group j t k)) (one_less (Host j) t ∷ (some_more onward t (length vs) ++ map (one_more (Host j)) woke))
         changes_are onward to woke once wakes =

@@ -16,8 +16,7 @@ use Rattle.mp_route.specs.Routed.{Routed}
 use Rattle.mp_host_laws.specs.Hosted.{Hosted}
 use Rattle.mp_handoff.specs.MoversState.{MoversState}
 use Rattle.mp_output.specs.Unwritten.{Unwritten}
-use Rattle.mp_worker_invariant.specs.Kept.{AreMoversAt, IsHostAt, IsRouterAt}
-use Rattle.mp_worker_invariant.specs.Parts.{ArePartsOf, AtEach}
+use Rattle.mp_worker_invariant.specs.Parts.{AreMoversAt, ArePartsOf, AtEach, IsHostAt, IsRouterAt, cursor}
 use Rattle.mp_worker_invariant.proofs.Asked.{parts_begin}
 use Rattle.mp_refinement.proofs.Begins.{opening_is_told}
 use Rattle.mp_worker.specs.Kept.{parts_with}
@@ -51,7 +50,7 @@ module _ {Cell : Type 0} (q : QueryFacts Cell) (job : JobFacts) (sound : Outline
         → AtEach movers (AreMoversAt q job w empty_log)
         → unsent.rows ≡ []
         → unwritten.rows ≡ []
-        → ArePartsOf q job (parts_with log seen notes (0, 0) routers hosts movers unsent unwritten)
+        → ArePartsOf q job (parts_with log seen notes (cursor 0 0) routers hosts movers unsent unwritten)
     parts_at_first log notes routers hosts movers unsent unwritten number empty shape none all_routers at_routers all_hosts at_hosts all_movers at_movers no_unsent no_unwritten =
         let done = opening_is_told (outline_of q job) w seen sound inside opening in
         rw (number, empty, no_unsent, no_unwritten)

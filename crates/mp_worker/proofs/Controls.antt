@@ -25,9 +25,8 @@ use Rattle.mp_count_laws.proofs.Took.{control_taken}
 use Rattle.mp_msg.specs.Contents.{IsControlOf}
 use Rattle.mp_handoff.specs.MoversState.{MoversState}
 use Rattle.mp_handoff.specs.MoversOf.{IsMoversOf, IsNewControl}
-use Rattle.mp_worker_invariant.specs.Kept.{AreMoversAt}
 use Rattle.mp_worker_invariant.specs.Laws.{CanDo}
-use Rattle.mp_worker_invariant.specs.Parts.{AreTaken, Parts, place_after}
+use Rattle.mp_worker_invariant.specs.Parts.{AreMoversAt, AreTaken, Parts, place_after}
 use Rattle.mp_worker_invariant.proofs.Kept.{steps_keep_parts}
 use Rattle.mp_refinement.specs.State.{CanMake}
 use Rattle.mp_worker.specs.Kept.{IsKept}
@@ -51,7 +50,7 @@ module _ {Cell : Type 0} (q : QueryFacts Cell) (job : JobFacts) (legal : JobIsLe
 
 module _ {Cell : Type 0} {q : QueryFacts Cell} {job its : JobFacts} {number : ℕ} {log : WorkerLog} {p : Parts Cell} (kept : IsKept q job its number log p) (worker : p.number ≡ log.worker) where
   -- another worker than the first sends none, and neither does the first where all are sent
-  pub no_control_of_others : OutlineIsSound (outline_of q job) → (number ≡ 0 → length job.controls ≤ p.next.0) → (x : Name) → CanMake (outline_of q job) SendControl (state kept worker) x → ⊥
+  pub no_control_of_others : OutlineIsSound (outline_of q job) → (number ≡ 0 → length job.controls ≤ p.next.index) → (x : Name) → CanMake (outline_of q job) SendControl (state kept worker) x → ⊥
   no_control_of_others sound none x can =
       (told kept worker sound).no_send_control (λ e. none (sym (worker ∙ kept.number) ∙ e)) x (can_do kept worker SendControl x can)
 
@@ -59,34 +58,34 @@ module _ {Cell : Type 0} {q : QueryFacts Cell} {job its : JobFacts} {number : �
     its_first : p.number ≡ 0
     its_first = worker ∙ kept.number ∙ first
 
-    pub receiver_fits : p.next.1 < job.shape.workers
+    pub receiver_fits : p.next.receiver < job.shape.workers
     receiver_fits = (kept.parts.next its_first).fits
 
-    module _ (sound : OutlineIsSound (outline_of q job)) (listed : p.next.0 < length job.controls) where
-      sends : CanDo q job p empty_log SendControl (Ctrl p.next.0 p.next.1)
+    module _ (sound : OutlineIsSound (outline_of q job)) (listed : p.next.index < length job.controls) where
+      sends : CanDo q job p empty_log SendControl (Ctrl p.next.index p.next.receiver)
       sends = (told kept worker sound).send_control its_first listed
 
-      pub can_send_control : CanMake (outline_of q job) SendControl (state kept worker) (Ctrl p.next.0 p.next.1)
-      can_send_control = can_make kept worker SendControl (Ctrl p.next.0 p.next.1) tt sends
+      pub can_send_control : CanMake (outline_of q job) SendControl (state kept worker) (Ctrl p.next.index p.next.receiver)
+      can_send_control = can_make kept worker SendControl (Ctrl p.next.index p.next.receiver) tt sends
 
-      is_held : IsHeld (outline_of q job) p.number p.log is_ctrl (Ctrl p.next.0 p.next.1)
+      is_held : IsHeld (outline_of q job) p.number p.log is_ctrl (Ctrl p.next.index p.next.receiver)
       is_held = sends.0.0
 
-      pub may_send_control : MaySend (outline_of q job) p.number p.log (Ctrl p.next.0 p.next.1)
-      may_send_control = held_may (outline_of q job) p.number p.log kept.parts.legal is_ctrl (Ctrl p.next.0 p.next.1) is_held
+      pub may_send_control : MaySend (outline_of q job) p.number p.log (Ctrl p.next.index p.next.receiver)
+      may_send_control = held_may (outline_of q job) p.number p.log kept.parts.legal is_ctrl (Ctrl p.next.index p.next.receiver) is_held
 
-      pub control_counted : AreChanges (outline_of q job) p.number p.log (with_sent p.log (Ctrl p.next.0 p.next.1)) (control_sent_at (control_of job.controls p.next.0).time)
-      control_counted = control_sent (outline_of q job) p.number p.log sound p.next.0 p.next.1 is_held
+      pub control_counted : AreChanges (outline_of q job) p.number p.log (with_sent p.log (Ctrl p.next.index p.next.receiver)) (control_sent_at (control_of job.controls p.next.index).time)
+      control_counted = control_sent (outline_of q job) p.number p.log sound p.next.index p.next.receiver is_held
 
       -- no other is next
-      pub one_control : (x : Name) → CanMake (outline_of q job) SendControl (state kept worker) x → Ctrl p.next.0 p.next.1 ≡ x
-      one_control x can = least_unique (IsHeld (outline_of q job) p.number p.log is_ctrl) (Ctrl p.next.0 p.next.1) x sends.0 (can_do kept worker SendControl x can).0
+      pub one_control : (x : Name) → CanMake (outline_of q job) SendControl (state kept worker) x → Ctrl p.next.index p.next.receiver ≡ x
+      one_control x can = least_unique (IsHeld (outline_of q job) p.number p.log is_ctrl) (Ctrl p.next.index p.next.receiver) x sends.0 (can_do kept worker SendControl x can).0
 
       -- it was sent
-      pub control_kept : (new : WorkerLog) → new.worker ≡ p.number → new.log ≡ with_sent p.log (Ctrl p.next.0 p.next.1)
+      pub control_kept : (new : WorkerLog) → new.worker ≡ p.number → new.log ≡ with_sent p.log (Ctrl p.next.index p.next.receiver)
           → IsKept q job its number new (record p { number = new.worker; log = new.log; next = place_after job.shape.workers p.next })
       control_kept new e f =
-          kept_by kept worker new e (with_sent p.log (Ctrl p.next.0 p.next.1)) f (record p { next = place_after job.shape.workers p.next })
+          kept_by kept worker new e (with_sent p.log (Ctrl p.next.index p.next.receiver)) f (record p { next = place_after job.shape.workers p.next })
           ((steps_keep_parts q job sound p kept.parts).send_control its_first listed)
 
 -- Taking

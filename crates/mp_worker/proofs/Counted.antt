@@ -1,5 +1,5 @@
 -- What a group gives is counted: how many names of the next stage are its outputs; and when it is.
-use Rattle.std.proofs.Common.{◌≡◌, ◌≢◌, ℕ, suc, ◌+◌, ◌-◌, ◌<◌, ◌≤◌, ◌==◌, Bool, true, false, cond, Option, None, Some, List, [], ◌∷◌, All, AllPairs, Contains, IsSome, count_by, filter, length, map, not, refl, sym, ap, ◌∙◌, subst, arith}
+use Rattle.std.proofs.Common.{◌≡◌, ◌≢◌, ℕ, suc, ◌+◌, ◌-◌, ◌<◌, ◌≤◌, ◌==◌, Bool, true, false, Option, None, Some, List, [], ◌∷◌, All, AllPairs, Contains, IsSome, count_by, filter, length, map, not, refl, sym, ap, ◌∙◌, subst, arith}
 use Rattle.std.specs.List.{cons_option}
 use Rattle.std.specs.Option.{option_map}
 use Rattle.std.proofs.lemmas.Bool.{and_from, and_parts, eq-eqb, eqb-true, false≢true, ne_eqb}
@@ -9,8 +9,9 @@ use Rattle.mp_names.specs.declared.names.Name.{Name}
 use Rattle.mp_names.specs.declared.names.Name.TheVariants.{Group}
 use Rattle.mp_names.specs.Names.{In, Distinct}
 use Rattle.mp_names.specs.Outlines.{OutlineIsSound, groups_of}
-use Rattle.mp_names.proofs.Lists.{In_here, In_later, counted, same_count}
+use Rattle.mp_names.proofs.Lists.{all_counted, counted, same_count}
 use Rattle.mp_names.specs.Limits.{last_time}
+use Rattle.mp_names.proofs.NameParts.{same_row}
 use Rattle.mp_model.specs.declared.record.Rec.{Rec}
 use Rattle.mp_model.specs.declared.value.Value.{Value}
 use Rattle.mp_model.specs.Ascending.{ascending}
@@ -30,26 +31,14 @@ use Rattle.mp_outline.proofs.Pairs.{AllPairs-Pairs, Pairs-Rises, Pairs-weaker}
 use Rattle.mp_outline.proofs.Stages.{name_stands, record_named}
 use Rattle.mp_outline.proofs.Tags.{tag_irreflexive}
 use Rattle.mp_outline.proofs.Timelines.{groups_are_on}
+use Rattle.mp_outline.proofs.Outputs.{outputs_are, outputs_in_order}
 use Rattle.mp_host_laws.specs.Hosted.{Hosted, waits_at}
 use Rattle.mp_host_laws.specs.Applying.{posts_here, woken_by}
 use Rattle.mp_worker_invariant.specs.Given.{outputs_given, records_made, values_given}
-use Rattle.mp_worker_invariant.proofs.Given.{made_once, outputs_are, outputs_come, outputs_in_order, outputs_stand, records_come, records_stand, same_row}
-use Rattle.mp_worker_invariant.proofs.OneByOne.{outputs_from, records_from}
+use Rattle.mp_worker_invariant.proofs.Given.{made_once, outputs_come, outputs_stand, records_come, records_stand}
+use Rattle.mp_parts.proofs.OneByOne.{outputs_from, records_from}
 
 -- Numbers of names
-
-one : (b : Bool) → b ≡ true → cond {A = ℕ} b 1 0 ≡ 1
-one true e = refl
-one false e = absurd (false≢true e)
-
--- where all pass as many do as there are
-all_counted : (p : Name → Bool) (xs : List Name) → ((x : Name) → In x xs → p x ≡ true) → count_by p xs ≡ length xs
-all_counted p [] h = refl
-all_counted p (x ∷ xs) h =
-    let a = counted p x xs in
-    let b = one (p x) (h x (In_here x xs)) in
-    let c = all_counted p xs (λ y i. h y (In_later y x xs i)) in
-    omega arith
 
 -- as many names of a list pass as there are in a list of just those
 just_those : (p : Name → Bool) (ts ss : List Name) → Distinct ts → Distinct ss → ((x : Name) → In x ts → In x ss × (p x ≡ true)) → ((x : Name) → In x ss → p x ≡ true → In x ts) → count_by p ss ≡ length ts

@@ -26,10 +26,9 @@ use Rattle.mp_host_laws.specs.Moving.{IsPutIn, IsTakenOut}
 use Rattle.mp_handoff.specs.Due.{MoversMatchLogAndSeen, IsDueHere, IsLeastDue, IsMoveAway, MayLeaveHere}
 use Rattle.mp_handoff.specs.MoversState.{MoversState}
 use Rattle.mp_handoff.specs.MoversOf.{IsMoversOf}
-use Rattle.mp_worker_invariant.specs.Kept.{AreMoversAt, IsHostAt}
 use Rattle.mp_worker_invariant.specs.Laws.{CanDo}
 use Rattle.mp_worker_invariant.specs.Machine.{machine_worker}
-use Rattle.mp_worker_invariant.specs.Parts.{Parts}
+use Rattle.mp_worker_invariant.specs.Parts.{AreMoversAt, IsHostAt, Parts}
 use Rattle.mp_worker_invariant.proofs.Kept.{steps_keep_parts}
 use Rattle.mp_worker_invariant.proofs.Legal.{packet_legal}
 use Rattle.mp_refinement.specs.State.{CanMake}

@@ -15,8 +15,7 @@ use Rattle.mp_outline.specs.JobOutline.{outline_of}
 use Rattle.mp_rows.specs.WorkerLog.{WorkerLog}
 use Rattle.mp_route.specs.Routed.{Routed}
 use Rattle.mp_route.specs.Unsent.{MayGo}
-use Rattle.mp_worker_invariant.specs.Kept.{IsRouterAt}
-use Rattle.mp_worker_invariant.specs.Parts.{ArePartsOf, AtEach, HoldsRowsBut, Parts}
+use Rattle.mp_worker_invariant.specs.Parts.{ArePartsOf, AtEach, HoldsRowsBut, IsRouterAt, Parts}
 use Rattle.mp_worker_invariant.proofs.Kept.{steps_keep_parts}
 use Rattle.mp_refinement.specs.Ends.{PostMatchesLog, FollowsLog, Standing}
 use Rattle.mp_refinement.specs.State.{CanMake, Makes, WorkerState}

@@ -21,9 +21,9 @@ use Rattle.mp_count_laws.specs.Changes.{ingested_at}
 use Rattle.mp_count_laws.proofs.Ingested.{ingested}
 use Rattle.mp_route.specs.Routed.{Routed}
 use Rattle.mp_route.specs.Unsent.{HoldsOneMore, HoldsUnsent}
-use Rattle.mp_worker_invariant.specs.Kept.{IsRouterAt, with_router}
+use Rattle.mp_worker_invariant.specs.Kept.{with_router}
 use Rattle.mp_worker_invariant.specs.Laws.{SharesAreIngested}
-use Rattle.mp_worker_invariant.specs.Parts.{ArePartsOf, Parts}
+use Rattle.mp_worker_invariant.specs.Parts.{ArePartsOf, IsRouterAt, Parts}
 use Rattle.mp_worker_invariant.proofs.Ingested.{shares_are_ingested}
 use Rattle.mp_worker_invariant.proofs.Kept.{steps_keep_parts}
 use Rattle.mp_refinement.specs.State.{CanMake, WorkerState}

@@ -7,8 +7,7 @@ use Rattle.mp_rows.specs.WorkerLog.{WorkerLog}
 use Rattle.mp_route.specs.Routed.{Routed}
 use Rattle.mp_host_laws.specs.Hosted.{Hosted}
 use Rattle.mp_handoff.specs.MoversState.{MoversState}
-use Rattle.mp_worker_invariant.specs.Kept.{AreMoversAt, IsHostAt, IsRouterAt}
-use Rattle.mp_worker_invariant.specs.Parts.{ArePartsOf, AreTaken, AtEach, Parts}
+use Rattle.mp_worker_invariant.specs.Parts.{AreMoversAt, ArePartsOf, AreTaken, AtEach, IsHostAt, IsRouterAt, Parts}
 use Rattle.mp_worker.specs.Kept.{IsKept}
 
 -- a worker with another log, and with parts that hold what that says

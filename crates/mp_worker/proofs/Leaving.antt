@@ -4,12 +4,13 @@ use Rattle.std.proofs.lemmas.Bool.{and_parts, eqb-true}
 use Rattle.std.proofs.lemmas.List.{map-append}
 use Rattle.mp_names.specs.declared.locations.Loc.TheVariants.{Host as HostLoc, State}
 use Rattle.mp_names.specs.declared.names.Name.TheVariants.{Packet}
+use Rattle.mp_names.specs.declared.pointstamps.Change.{Change}
 use Rattle.mp_names.specs.Logs.{Log, LogIsLegal, with_sent}
 use Rattle.mp_names.specs.Outlines.{IsOwedBy, OutlineIsSound}
 use Rattle.mp_model.specs.Facts.{JobFacts, QueryFacts}
 use Rattle.mp_outline.specs.JobOutline.{outline_of}
-use Rattle.mp_rows.specs.Entries.{AreChanges}
-use Rattle.mp_count_laws.specs.Changes.{AreMore, Change, one_more, packet_sent_at, waiting_at}
+use Rattle.mp_rows.specs.Entries.{AreChanges, change_at}
+use Rattle.mp_count_laws.specs.Changes.{AreMore, one_more, packet_sent_at, waiting_at}
 use Rattle.mp_count_laws.proofs.Moved.{groups_leave}
 use Rattle.mp_count_laws.proofs.Packets.{packet_sent}
 use Rattle.mp_msg.specs.Contents.{IsPacketOf}
@@ -22,7 +23,7 @@ use Rattle.mp_host_laws.specs.HostOf.{IsHostOf}
 use Rattle.mp_host_laws.specs.Laws.{MayLeaveNow}
 use Rattle.mp_host_laws.specs.Moving.{AreNumbersOf, IsTakenOut, not_waiting}
 use Rattle.mp_host_laws.proofs.MovingTold.{leaving_are_told}
-use Rattle.mp_worker_invariant.specs.Kept.{IsHostAt}
+use Rattle.mp_worker_invariant.specs.Parts.{IsHostAt}
 use Rattle.mp_worker.proofs.Wakes.{wakes_once}
 
 -- what was taken out is of the bin
@@ -72,8 +73,8 @@ module _ {Cell : Type 0} (q : QueryFacts Cell) (job : JobFacts) (w : ℕ) (log :
   host_without new stage worker host = (stage ∙ at.0, worker ∙ at.1, subst (λ (i : ℕ). IsHostOf q job (with_sent log (Packet i b t)) new) at.0 host)
 
 -- the changes that are listed with one more number
-pub sent_push : (j t : ℕ) (ns : List (ℕ × ℕ)) (n : ℕ × ℕ) → packet_sent_at j t (ns ++ n ∷ []) ≡ packet_sent_at j t ns ++ (HostLoc j, n.0, neg_ℤ (pos n.1)) ∷ []
-sent_push j t ns n = ap (λ (cs : List Change). one_more (State j) t ∷ cs) (map-append (λ (m : ℕ × ℕ). (HostLoc j, m.0, neg_ℤ (pos m.1))) ns (n ∷ []))
+pub sent_push : (j t : ℕ) (ns : List (ℕ × ℕ)) (n : ℕ × ℕ) → packet_sent_at j t (ns ++ n ∷ []) ≡ packet_sent_at j t ns ++ change_at (HostLoc j) n.0 (neg_ℤ (pos n.1)) ∷ []
+sent_push j t ns n = ap (λ (cs : List Change). one_more (State j) t ∷ cs) (map-append (λ (m : ℕ × ℕ). change_at (HostLoc j) m.0 (neg_ℤ (pos m.1))) ns (n ∷ []))
 
 -- A state that comes back
 

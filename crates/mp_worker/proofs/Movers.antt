@@ -9,8 +9,8 @@ use Rattle.mp_host_laws.specs.Hosted.{Hosted}
 use Rattle.mp_handoff.specs.Due.{MoversMatchLogAndSeen}
 use Rattle.mp_handoff.specs.MoversState.{MoversState}
 use Rattle.mp_handoff.specs.MoversOf.{KnowsMoves}
-use Rattle.mp_worker_invariant.specs.Kept.{AreMoversAt, IsHostAt, PartsAreAsked}
-use Rattle.mp_worker_invariant.specs.Parts.{Parts}
+use Rattle.mp_worker_invariant.specs.Kept.{PartsAreAsked}
+use Rattle.mp_worker_invariant.specs.Parts.{AreMoversAt, IsHostAt, Parts}
 use Rattle.mp_worker_invariant.proofs.Asked.{parts_are_asked}
 use Rattle.mp_worker.specs.Kept.{IsKept}
 

@@ -8,6 +8,7 @@ use Rattle.std.proofs.lemmas.List.Sums.{get_or-le-sum_by, length-filter}
 use Rattle.mp_names.specs.declared.locations.Loc.TheVariants.{Host, State}
 use Rattle.mp_names.specs.declared.names.Name.{Name}
 use Rattle.mp_names.specs.declared.names.Name.TheVariants.{Packet, Rec as RecName, Written}
+use Rattle.mp_names.specs.declared.pointstamps.Change.{Change}
 use Rattle.mp_names.specs.Names.{has, In}
 use Rattle.mp_names.specs.Outlines.{IsOwedTo, OutlineIsSound, is_posted}
 use Rattle.mp_names.specs.Logs.{Log, LogIsLegal, with_took}
@@ -27,8 +28,8 @@ use Rattle.mp_outline.proofs.Found.{found, found_there}
 use Rattle.mp_outline.proofs.Named.{In_named, named_In, named_once}
 use Rattle.mp_outline.proofs.Pairs.{Pairs, Pairs-Rises, Pairs-weaker}
 use Rattle.mp_outline.proofs.Stages.{post_named, record_named}
-use Rattle.mp_rows.specs.Entries.{AreChanges}
-use Rattle.mp_count_laws.specs.Changes.{AreMore, Change, one_less, packet_taken_at, waiting_at}
+use Rattle.mp_rows.specs.Entries.{AreChanges, change_at}
+use Rattle.mp_count_laws.specs.Changes.{AreMore, one_less, packet_taken_at, waiting_at}
 use Rattle.mp_count_laws.proofs.Moved.{groups_come}
 use Rattle.mp_count_laws.proofs.Packets.{packet_taken}
 use Rattle.mp_msg.specs.States.{BinContent, IsStateBefore}
@@ -38,7 +39,7 @@ use Rattle.mp_host_laws.specs.Moving.{AreNumbersOf, IsPutIn, brought, not_waitin
 use Rattle.mp_host_laws.proofs.Lists.{Pairs-AllPairs}
 use Rattle.mp_host_laws.proofs.MovingTold.{coming_are_told}
 use Rattle.mp_host.specs.Moves.{TakesPacket}
-use Rattle.mp_worker_invariant.specs.Kept.{IsHostAt}
+use Rattle.mp_worker_invariant.specs.Parts.{IsHostAt}
 use Rattle.mp_worker.proofs.Wakes.{wakes_once}
 
 -- Lists of numbers
@@ -202,9 +203,9 @@ packet_held q job w log j h at b t s new legal owed fresh put takes =
 -- the changes that are listed: one, and one for each number
 pub taken_length : (j t : ℕ) (ns : List (ℕ × ℕ)) → length (packet_taken_at j t ns) ≡ length ns + 1
 taken_length j t ns =
-    let f : ℕ × ℕ → Change = λ n. (Host j, n.0, pos n.1) in
+    let f : ℕ × ℕ → Change = λ n. change_at (Host j) n.0 (pos n.1) in
     let l = length-map ns f in
     omega arith
 
-pub taken_push : (j t : ℕ) (ns : List (ℕ × ℕ)) (n : ℕ × ℕ) → packet_taken_at j t (ns ++ n ∷ []) ≡ packet_taken_at j t ns ++ (Host j, n.0, pos n.1) ∷ []
-taken_push j t ns n = ap (λ (cs : List Change). one_less (State j) t ∷ cs) (map-append (λ (m : ℕ × ℕ). (Host j, m.0, pos m.1)) ns (n ∷ []))
+pub taken_push : (j t : ℕ) (ns : List (ℕ × ℕ)) (n : ℕ × ℕ) → packet_taken_at j t (ns ++ n ∷ []) ≡ packet_taken_at j t ns ++ change_at (Host j) n.0 (pos n.1) ∷ []
+taken_push j t ns n = ap (λ (cs : List Change). one_less (State j) t ∷ cs) (map-append (λ (m : ℕ × ℕ). change_at (Host j) m.0 (pos m.1)) ns (n ∷ []))

@@ -7,6 +7,7 @@ use Rattle.mp_names.specs.declared.locations.Loc.TheVariants.{Host, Mail}
 use Rattle.mp_names.specs.declared.names.Name.{Name}
 use Rattle.mp_names.specs.declared.names.Name.TheVariants.{Ctrl, Group, Packet, Rec as RecName, Row}
 use Rattle.mp_names.specs.declared.names.Tag.{Tag}
+use Rattle.mp_names.specs.declared.pointstamps.ControlCursor.{ControlCursor}
 use Rattle.mp_names.specs.Controls.{control_of}
 use Rattle.mp_names.specs.Names.{has}
 use Rattle.mp_names.specs.Outlines.{IsOwed, IsOwedTo, OutlineIsSound, receiver}
@@ -34,8 +35,7 @@ use Rattle.mp_host.specs.Telling.{TakesRecord}
 use Rattle.mp_handoff.specs.MoversState.{MoversState}
 use Rattle.mp_output.specs.Holding.{HoldsUnwritten}
 use Rattle.mp_output.specs.Unwritten.{Unwritten}
-use Rattle.mp_worker_invariant.specs.Kept.{AreMoversAt, IsHostAt}
-use Rattle.mp_worker_invariant.specs.Parts.{AreTaken, Parts}
+use Rattle.mp_worker_invariant.specs.Parts.{AreMoversAt, AreTaken, IsHostAt, Parts}
 use Rattle.mp_worker_invariant.proofs.Kept.{steps_keep_parts}
 use Rattle.mp_worker.specs.Kept.{IsKept, parts_with}
 use Rattle.mp_worker.specs.Rooms.{SameHosts, SameMovers, roomless, without_room}
@@ -120,7 +120,7 @@ same_taken job w log old new shape noted are = record {
   taken = λ i. ap (λ (ns : List Note). is_noted ns i) noted ∙ are.taken i;
 }
 
-module _ {Cell : Type 0} (q : QueryFacts Cell) (job its : JobFacts) (number : ℕ) (seen : Seen) (next : ℕ × ℕ) (routers : List Routed) (unsent : Unwritten) where
+module _ {Cell : Type 0} (q : QueryFacts Cell) (job its : JobFacts) (number : ℕ) (seen : Seen) (next : ControlCursor) (routers : List Routed) (unsent : Unwritten) where
   -- a worker with this log, these notes, hosts and movers, and these rows to be written keeps to what it is to
   abbrev Keeps : WorkerLog → Notes → List (Hosted Cell) → List MoversState → Unwritten → Type 0
   Keeps log notes hosts movers rows = IsKept q job its number log (parts_with log seen notes next routers hosts movers unsent rows)

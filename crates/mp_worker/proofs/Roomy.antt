@@ -11,8 +11,7 @@ use Rattle.mp_host_laws.specs.Hosted.{Hosted}
 use Rattle.mp_host_laws.specs.HostOf.{IsHostOf}
 use Rattle.mp_handoff.specs.MoversState.{MoversState}
 use Rattle.mp_handoff.specs.MoversOf.{IsMoversOf}
-use Rattle.mp_worker_invariant.specs.Kept.{AreMoversAt, IsHostAt}
-use Rattle.mp_worker_invariant.specs.Parts.{AtEach}
+use Rattle.mp_worker_invariant.specs.Parts.{AreMoversAt, AtEach, IsHostAt}
 use Rattle.mp_worker.specs.Rooms.{roomless, without_room}
 
 -- Lists whose items are the same in what is seen of them

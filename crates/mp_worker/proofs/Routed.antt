@@ -18,8 +18,7 @@ use Rattle.mp_msg.specs.Contents.{IsRecordOf}
 use Rattle.mp_msg.proofs.Telling.{bodies_follow_names}
 use Rattle.mp_route.specs.Routed.{GivesUp, Routed, tag_rank}
 use Rattle.mp_route.specs.Unsent.{HoldsUnsent, MayGo}
-use Rattle.mp_worker_invariant.specs.Kept.{IsRouterAt}
-use Rattle.mp_worker_invariant.specs.Parts.{ArePartsOf, Parts}
+use Rattle.mp_worker_invariant.specs.Parts.{ArePartsOf, IsRouterAt, Parts}
 use Rattle.mp_worker_invariant.proofs.Asked.{parts_are_asked}
 use Rattle.mp_worker.specs.Kept.{IsKept}
 

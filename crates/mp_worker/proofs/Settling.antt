@@ -16,8 +16,7 @@ use Rattle.mp_count_laws.proofs.Settled.{settled}
 use Rattle.mp_handoff.specs.Due.{MoversMatchLogAndSeen, MaySettleHere}
 use Rattle.mp_handoff.specs.MoversState.{MoversState}
 use Rattle.mp_handoff.specs.MoversOf.{IsMoversOf}
-use Rattle.mp_worker_invariant.specs.Kept.{AreMoversAt}
-use Rattle.mp_worker_invariant.specs.Parts.{Parts}
+use Rattle.mp_worker_invariant.specs.Parts.{AreMoversAt, Parts}
 use Rattle.mp_worker_invariant.proofs.Kept.{steps_keep_parts}
 use Rattle.mp_refinement.specs.State.{CanMake}
 use Rattle.mp_worker.specs.Kept.{IsKept}

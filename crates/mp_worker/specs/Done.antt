@@ -3,12 +3,13 @@ use Rattle.std.specs.Prelude.{◌≡◌, ℕ}
 use Rattle.mp_names.specs.declared.locations.Loc.{Loc}
 use Rattle.mp_names.specs.declared.locations.Loc.TheVariants.{Ctl, CtlMail, Source, Route, Mail, Move, State, Host, OutRoute, OutMail}
 use Rattle.mp_names.specs.declared.locations.Frontier.TheVariants.{Done}
+use Rattle.mp_names.specs.Locations.{IsLocation}
 use Rattle.mp_stamps.specs.declared.seen.Seen.{Seen}
-use Rattle.mp_stamps.specs.Seen.{HasLoc, seen_at}
+use Rattle.mp_stamps.specs.Seen.{seen_at}
 
 -- the frontier of each location that a job of that many stages has is Done
 abbrev pub AllAreDone : ℕ → Seen → Type 0
-AllAreDone stages seen = (at : Loc) → HasLoc stages at → seen_at seen at ≡ Done
+AllAreDone stages seen = (at : Loc) → IsLocation stages at → seen_at seen at ≡ Done
 
 -- The frontier of each location of a stage is Done
 pub record StageIsDone (j : ℕ) (seen : Seen) : Type 0 where

@@ -13,8 +13,8 @@ use crate::Worker;
 use mp_host::Applied;
 use mp_model::{Naming, Query, Time};
 use mp_names::{Loc, Name};
-use mp_rows::{Change, Log, LogList};
-use mp_worker_invariant::{hold_records, hold_rows, location_after, make_room_onward};
+use mp_parts::{hold_records, hold_rows, location_after, make_room_onward, one_less, one_more};
+use mp_rows::{Change, Log, LogList, Pointstamp};
 use std::alloc::{AllocError, Global};
 
 impl<'a, Q: Query, J: Naming> Worker<'a, Q, J> {
@@ -103,25 +103,33 @@ fn push_changes(
     ensures changes { changes.new.items
         ≡ one_less (HostLoc stage) applied.now.time ∷ (some_more onward applied.now.time (length applied.now.outputs.items) ++ map (one_more (HostLoc stage)) applied.now.woke.items) }
 {
-    changes.push((Loc::Host(stage), applied.time, -1))?;
+    changes.push(one_less(Loc::Host(stage), applied.time))?;
     push_more(changes, onward, applied.time, applied.outputs.len())?;
     for time in applied.woke.as_slice() {
-        changes.push((Loc::Host(stage), *time, 1))?;
+        changes.push(one_more(Loc::Host(stage), *time))?;
     }
     Ok(())
 }
 
 // Lists that there are so many more at a location and time, unless there are none. The list has room.
-fn push_more(changes: &mut Vec<Change>, at: Loc, time: Time, count: usize) -> Result<(), AllocError>
+fn push_more(
+    changes: &mut Vec<Change>,
+    loc: Loc,
+    time: Time,
+    count: usize,
+) -> Result<(), AllocError>
     requires room { vec_len changes.old < vec_capacity changes.old }
     requires count { count < 2 ^ 63 }
     ensures done { IsOk result }
-    ensures changes { changes.new.items ≡ changes.old.items ++ some_more at time count }
+    ensures changes { changes.new.items ≡ changes.old.items ++ some_more loc time count }
     ensures few { vec_len changes.new ≤ vec_len changes.old + 1 }
     ensures room { vec_capacity changes.old ≤ vec_capacity changes.new }
 {
     if count != 0 {
-        changes.push((at, time, count as i64))?;
+        changes.push(Change {
+            at: Pointstamp { loc, time },
+            by: count as i64,
+        })?;
     }
     Ok(())
 }

@@ -4,8 +4,7 @@ ghost use Rattle.mp_names.specs.Logs.{empty_log};
 ghost use Rattle.mp_board.specs.Boards.{ShowsFrontiers};
 ghost use Rattle.mp_outline.specs.JobOutline.{outline_of};
 ghost use Rattle.mp_output.specs.Rows.{GivesRows};
-ghost use Rattle.mp_worker_invariant.specs.Kept.{AreMoversAt, IsHostAt, IsRouterAt};
-ghost use Rattle.mp_worker_invariant.specs.Parts.{AtEach};
+ghost use Rattle.mp_worker_invariant.specs.Parts.{AreMoversAt, AtEach, IsHostAt, IsRouterAt};
 
 use crate::Worker;
 use mp_bins::Owners;
@@ -13,6 +12,7 @@ use mp_handoff::Movers;
 use mp_host::Host;
 use mp_job::Job;
 use mp_model::{Naming, Query};
+use mp_names::ControlCursor;
 use mp_output::{Rows, Unsent};
 use mp_route::Router;
 use mp_rows::Log;
@@ -49,7 +49,10 @@ impl<'a, Q: Query, J: Naming> Worker<'a, Q, J> {
             log,
             seen,
             owners,
-            next: (0, 0),
+            next: ControlCursor {
+                index: 0,
+                receiver: 0,
+            },
             routers,
             hosts,
             movers,

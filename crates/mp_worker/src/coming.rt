@@ -12,8 +12,7 @@ ghost use Rattle.mp_job.specs.Legal.{JobIsLegal};
 ghost use Rattle.mp_job.specs.Times.{times_of};
 ghost use Rattle.mp_outline.specs.JobOutline.{outline_of};
 ghost use Rattle.mp_msg.specs.Contents.{IsControlOf, IsPacketOf};
-ghost use Rattle.mp_worker_invariant.specs.Kept.{AreMoversAt, IsHostAt};
-ghost use Rattle.mp_worker_invariant.specs.Parts.{AreTaken};
+ghost use Rattle.mp_worker_invariant.specs.Parts.{AreMoversAt, AreTaken, IsHostAt};
 
 use crate::rooms::PacketLists;
 use mp_bins::Owners;
@@ -22,7 +21,8 @@ use mp_host::Host;
 use mp_model::{Naming, Query, Time};
 use mp_msg::BinState;
 use mp_names::{Control, Loc, Name};
-use mp_rows::{Change, Log, LogList};
+use mp_parts::{one_less, one_more};
+use mp_rows::{Change, Log, LogList, Pointstamp};
 use std::alloc::AllocError;
 
 /// Takes a control record that is owed to this worker: it is noted, and its time is to be settled from now on. There is room
@@ -52,8 +52,8 @@ pub(crate) fn take_control<Q: Query, J: Naming>(
         to: log.worker(),
     };
     let changes = [
-        (Loc::CtlMail, time, -1),
-        (Loc::Move(control.stage), time, 1),
+        one_less(Loc::CtlMail, time),
+        one_more(Loc::Move(control.stage), time),
     ];
     // A time that is noted already is counted as one to be settled.
     let count = if movers.unsettled(time) { 1 } else { 2 };
@@ -127,9 +127,15 @@ fn list_coming(
     ensures done { IsOk result }
     ensures changes { changes.new.items ≡ packet_taken_at stage time numbers.now }
 {
-    changes.push((Loc::State(stage), time, -1))?;
+    changes.push(one_less(Loc::State(stage), time))?;
     for (at, number) in numbers {
-        changes.push((Loc::Host(stage), *at, *number as i64))?;
+        changes.push(Change {
+            at: Pointstamp {
+                loc: Loc::Host(stage),
+                time: *at,
+            },
+            by: *number as i64,
+        })?;
     }
     Ok(())
 }

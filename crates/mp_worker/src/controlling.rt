@@ -14,7 +14,8 @@ use crate::sending::send;
 use mp_mailbox::Post;
 use mp_model::{Naming, Query};
 use mp_msg::Msg;
-use mp_names::{Loc, Name};
+use mp_names::{ControlCursor, Loc, Name};
+use mp_parts::{one_less, one_more};
 use std::alloc::AllocError;
 
 impl<'a, Q: Query, J: Naming> Worker<'a, Q, J> {
@@ -45,7 +46,7 @@ impl<'a, Q: Query, J: Naming> Worker<'a, Q, J> {
         ensures same_depth { P.depth post.new ≡ P.depth post.old }
         ensures same_ends { (worker : ℕ) → P.serves post.old worker → P.serves post.new worker }
     {
-        let (index, to) = self.next;
+        let ControlCursor { index, receiver } = self.next;
         if self.number != 0 {
             return Ok(None);
         }
@@ -54,11 +55,11 @@ impl<'a, Q: Query, J: Naming> Worker<'a, Q, J> {
         };
         self.log.make_room(2)?;
         let changes = [
-            (Loc::Ctl, control.time, -1),
-            (Loc::CtlMail, control.time, 1),
+            one_less(Loc::Ctl, control.time),
+            one_more(Loc::CtlMail, control.time),
         ];
-        let message = Msg::control(index, to, *control);
-        let Ok(name) = send(&mut self.log, post, to, message, &changes) else {
+        let message = Msg::control(index, receiver, *control);
+        let Ok(name) = send(&mut self.log, post, receiver, message, &changes) else {
             return Ok(None);
         };
         self.next = place_after(self.job.shape().workers, self.next);
@@ -66,16 +67,21 @@ impl<'a, Q: Query, J: Naming> Worker<'a, Q, J> {
     }
 }
 
-// The place after that of a control record, which is its index and its receiver: the next receiver of the same one, or the
-// first receiver of the next.
-fn place_after(workers: u32, next: (u32, u32)) -> (u32, u32)
-    requires index { next.0 < 2 ^ 32 - 1 }
-    requires to { next.1 < workers }
+// What is sent after a control record: the same one to the next receiver, or the next one to the first.
+fn place_after(workers: u32, next: ControlCursor) -> ControlCursor
+    requires index { next.index < 2 ^ 32 - 1 }
+    requires to { next.receiver < workers }
     ensures { result ≡ place_after workers next }
 {
-    if next.1 + 1 == workers {
-        (next.0 + 1, 0)
+    if next.receiver + 1 == workers {
+        ControlCursor {
+            index: next.index + 1,
+            receiver: 0,
+        }
     } else {
-        (next.0, next.1 + 1)
+        ControlCursor {
+            index: next.index,
+            receiver: next.receiver + 1,
+        }
     }
 }

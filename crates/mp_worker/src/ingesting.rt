@@ -9,6 +9,7 @@ ghost use Rattle.mp_worker.specs.Turns.{IfMade, IfNoName};
 use crate::Worker;
 use mp_model::{Naming, Query};
 use mp_names::{Loc, Name};
+use mp_parts::{one_less, one_more};
 use mp_rows::LogList;
 use std::alloc::AllocError;
 
@@ -38,7 +39,7 @@ impl<'a, Q: Query, J: Naming> Worker<'a, Q, J> {
             tag: rec.tag,
         };
         self.routers[0].hold(rec)?;
-        let changes = [(Loc::Source, time, -1), (Loc::Route(0), time, 1)];
+        let changes = [one_less(Loc::Source, time), one_more(Loc::Route(0), time)];
         self.log.push(LogList::Ingested, name, &changes)?;
         Ok(Some(name))
     }

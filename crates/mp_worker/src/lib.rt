@@ -1,3 +1,5 @@
+//! Layer: one worker.
+//!
 //! One worker of a running dataflow: its parts, and the ten kinds of step that it makes, each as the machine has it.
 #![tactic(auto)]
 

@@ -10,13 +10,13 @@ ghost use Rattle.mp_worker.specs.Turns.{IfMade, IfNoName};
 
 use crate::Worker;
 use crate::sending::send;
-use mp_count_laws::changes_of_leaving;
 use mp_handoff::count_of_keys;
 use mp_host_laws::Held;
 use mp_mailbox::Post;
 use mp_model::{Naming, Query};
 use mp_msg::{Body, Msg};
 use mp_names::{Loc, Name};
+use mp_parts::{changes_of_leaving, one_less};
 use mp_rows::LogList;
 use std::alloc::AllocError;
 
@@ -96,8 +96,7 @@ impl<'a, Q: Query, J: Naming> Worker<'a, Q, J> {
             return Ok(None);
         };
         let name = Name::Settled { stage, time };
-        self.log
-            .push(LogList::Settled, name, &[(Loc::Move(stage), time, -1)])?;
+        self.log.push(LogList::Settled, name, &[one_less(Loc::Move(stage), time)])?;
         Ok(Some(name))
     }
 }

@@ -10,7 +10,7 @@ ghost use Rattle.mp_job.specs.Legal.{JobIsLegal};
 ghost use Rattle.mp_outline.specs.JobOutline.{name_of_record, outline_of};
 ghost use Rattle.mp_msg.specs.Contents.{IsRecordOf, IsRowOf};
 ghost use Rattle.mp_output.specs.Holding.{HoldsUnwritten};
-ghost use Rattle.mp_worker_invariant.specs.Kept.{IsHostAt};
+ghost use Rattle.mp_worker_invariant.specs.Parts.{IsHostAt};
 ghost use Rattle.mp_refinement.specs.Ends.{PostMatchesLog, FollowsLog};
 ghost use Rattle.mp_refinement.specs.Mail.{MailboxBlocks, MailboxAllows};
 ghost use Rattle.mp_refinement.specs.State.{CanMake, Makes};
@@ -25,6 +25,7 @@ use mp_model::{Fields, Naming, Query, Rec, Time};
 use mp_msg::{Body, Msg};
 use mp_names::{Loc, Name, Tag};
 use mp_output::Rows;
+use mp_parts::{one_less, one_more};
 use mp_rows::{Log, LogList};
 use std::alloc::AllocError;
 
@@ -121,7 +122,10 @@ fn take_record<'a, Q: Query, J: Naming>(
     ensures host { IsHostAt (Q.facts J.job.rules) J.job log.old.worker (with_took log.old.log name) stage host.new }
 {
     let time = rec.time;
-    let changes = [(Loc::Mail(stage), time, -1), (Loc::Host(stage), time, 1)];
+    let changes = [
+        one_less(Loc::Mail(stage), time),
+        one_more(Loc::Host(stage), time),
+    ];
     // A group that waits already is counted at the host.
     let count = if host.waits(time, rec.key) { 1 } else { 2 };
     log.push(LogList::Took, name, &changes[..count])?;
@@ -148,6 +152,6 @@ fn take_row<Q: Query, J: Naming>(
     ensures log { (log.new.worker ≡ log.old.worker) × (log.new.log ≡ with_took log.old.log name) }
     ensures rows { HoldsUnwritten (with_took log.old.log name) rows.new.rows }
 {
-    log.push(LogList::Took, name, &[(Loc::OutMail, time, -1)])?;
+    log.push(LogList::Took, name, &[one_less(Loc::OutMail, time)])?;
     rows.receive(time, tag, fields)
 }

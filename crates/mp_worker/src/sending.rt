@@ -19,6 +19,7 @@ use mp_mailbox::Post;
 use mp_model::{Naming, Output, Query, Value};
 use mp_msg::{Body, Msg};
 use mp_names::{Loc, Name};
+use mp_parts::{one_less, one_more};
 use mp_rows::{Change, Log, LogList};
 use std::alloc::AllocError;
 
@@ -59,7 +60,10 @@ impl<'a, Q: Query, J: Naming> Worker<'a, Q, J> {
         let time = rec.time;
         let bin = bin_of(rec.key, self.job.shape().bins);
         let owner = self.owners.owner(stage, bin, time);
-        let changes = [(Loc::Route(stage), time, -1), (Loc::Mail(stage), time, 1)];
+        let changes = [
+            one_less(Loc::Route(stage), time),
+            one_more(Loc::Mail(stage), time),
+        ];
         let message = match send(&mut self.log, post, owner, Msg::rec(stage, rec), &changes) {
             Ok(name) => return Ok(Some(name)),
             Err(message) => message,
@@ -104,7 +108,7 @@ impl<'a, Q: Query, J: Naming> Worker<'a, Q, J> {
         let Value::Row(fields) = value else {
             unreachable!()
         };
-        let changes = [(Loc::OutRoute, time, -1), (Loc::OutMail, time, 1)];
+        let changes = [one_less(Loc::OutRoute, time), one_more(Loc::OutMail, time)];
         let row = Msg::row(time, tag, fields);
         let message = match send(&mut self.log, post, 0, row, &changes) {
             Ok(name) => return Ok(Some(name)),

@@ -4,6 +4,7 @@ use mp_handoff::Movers;
 use mp_host::Host;
 use mp_job::Job;
 use mp_model::{Naming, Query};
+use mp_names::ControlCursor;
 use mp_output::{Rows, Unsent};
 use mp_route::Router;
 use mp_rows::Log;
@@ -22,8 +23,8 @@ pub struct Worker<'a, Q: Query, J: Naming> {
     pub(crate) seen: Seen,
     // The control records that it took.
     pub(crate) owners: Owners,
-    // On worker 0 the index and the receiver of the first control record that isn't sent.
-    pub(crate) next: (u32, u32),
+    // On worker 0 the first control record that isn't sent.
+    pub(crate) next: ControlCursor,
     // By the stages' numbers.
     pub(crate) routers: Vec<Router<Q, J>>,
     pub(crate) hosts: Vec<Host<'a, Q, J>>,
@@ -44,5 +45,5 @@ impl<'a, Q: Query, J: Naming> Model for Worker<'a, Q, J> {
 
     ghost invariant = { λ w.
         IsKept (Q.facts J.job.rules) J.job w.job.now w.number w.log
-        (parts_with w.log w.seen w.owners (w.next.0, w.next.1) w.routers.items w.hosts.items w.movers.items w.unsent w.rows) };
+        (parts_with w.log w.seen w.owners w.next w.routers.items w.hosts.items w.movers.items w.unsent w.rows) };
 }

@@ -21,7 +21,7 @@ use mp_rows::LogList;
 impl<'a, Q: Query, J: Naming> Worker<'a, Q, J> {
     /// Worker 0 writes the answer's lines of the least time of which it took rows, once no more rows of that time can
     /// come: its name, or `None` exactly where there is no such time, or this is another worker. `WriteFault`: only where
-    /// the sink's count of faults rose in this call or stands at its last value, 2^64 - 1. `NoMemory`: want of memory.
+    /// the sink's count of faults rose in this call or stands at its last value, 2^64 - 1. `NoMemory`: an allocation failed.
     /// With either the worker is as it was, and a part of the lines from their front may be written.
     pub(crate) fn write<S: Sink>(&mut self, sink: &mut S) -> Result<Option<Name>, OutRefused>
         ensures did { let o = outline_of (Q.facts J.job.rules) J.job in

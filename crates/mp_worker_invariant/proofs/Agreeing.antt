@@ -10,21 +10,21 @@ use Rattle.mp_names.specs.declared.names.Name.TheVariants.{Packet, Group, Settle
 use Rattle.mp_names.specs.Outlines.{Outline, time_of}
 use Rattle.mp_names.specs.Logs.{Log}
 use Rattle.mp_names.specs.Frontiers.{HasPassed, HasReached}
+use Rattle.mp_names.specs.Locations.{IsLocation}
 use Rattle.mp_machine.specs.Steps.{IsDue, IsNext, IsReady, KindFits, MayApply, MayLeave, MaySettle}
 use Rattle.mp_machine.specs.Worlds.{Worker}
-use Rattle.mp_stamps.specs.Seen.{HasLoc}
 use Rattle.mp_worker_invariant.specs.Laws.{ConditionsAgree}
 
 -- two workers with one log, which see the same of the job's locations
 
-module _ (o : Outline) (w : ℕ) (a b : Worker) (same : (at : Loc) → HasLoc o.stages at → a.seen at ≡ b.seen at) where
+module _ (o : Outline) (w : ℕ) (a b : Worker) (same : (at : Loc) → IsLocation o.stages at → a.seen at ≡ b.seen at) where
   abbrev other : Worker
   other = record b { log = a.log }
 
-  passed_too : (at : Loc) (t : ℕ) → HasLoc o.stages at → HasPassed (a.seen at) t → HasPassed (b.seen at) t
+  passed_too : (at : Loc) (t : ℕ) → IsLocation o.stages at → HasPassed (a.seen at) t → HasPassed (b.seen at) t
   passed_too at t l h = subst (λ (f : Frontier). HasPassed f t) (same at l) h
 
-  passed_both : (at : Loc) (t : ℕ) → HasLoc o.stages at → HasPassed (b.seen at) t → HasPassed (a.seen at) t
+  passed_both : (at : Loc) (t : ℕ) → IsLocation o.stages at → HasPassed (b.seen at) t → HasPassed (a.seen at) t
   passed_both at t l h = subst (λ (f : Frontier). HasPassed f t) (sym (same at l)) h
 
   due_too : (j : ℕ) (x : Name) → IsDue o w a j x → IsDue o w other j x

@@ -11,13 +11,13 @@ use Rattle.mp_names.specs.declared.names.Name.TheVariants.{Ctrl, Packet, Row, Wr
 use Rattle.mp_names.specs.declared.names.Tag.{Tag}
 use Rattle.mp_names.specs.Controls.{control_of, owner_below}
 use Rattle.mp_names.specs.Frontiers.{HasPassed, HasReached}
-use Rattle.mp_names.specs.Locations.{Reaches, goes, stays}
+use Rattle.mp_names.specs.Locations.{IsLocation, Reaches, goes, stays}
 use Rattle.mp_names.specs.Names.{has, In, IsLeast, is_row}
 use Rattle.mp_names.specs.Outlines.{IsOwedBy, IsOwedTo, Outline, OutlineIsSound, owner_before}
 use Rattle.mp_names.specs.Logs.{Log, LogIsLegal, empty_log, is_given, with_sent}
 use Rattle.mp_names.proofs.Keeps.{empty_is_legal}
 use Rattle.mp_names.proofs.Reach.{move-state}
-use Rattle.mp_stamps.specs.Seen.{HasLoc, seen_at}
+use Rattle.mp_stamps.specs.Seen.{SeenIsDone, seen_at}
 use Rattle.mp_bins.specs.Laws.{AreNotedBelow}
 use Rattle.mp_bins.specs.Notes.{first_owner, owner_before as noted_before}
 use Rattle.mp_bins.proofs.Told.{told}
@@ -29,8 +29,8 @@ use Rattle.mp_host_laws.specs.HostOf.{HostMatchesLogAndSeen, OwnersAreCurrent}
 use Rattle.mp_host_laws.specs.Laws.{MayLeaveNow}
 use Rattle.mp_handoff.specs.Due.{IsDueHere}
 use Rattle.mp_handoff.specs.MoversOf.{KnowsMoves}
-use Rattle.mp_worker_invariant.specs.Kept.{IsHostAt, PartsAreAsked, PartsBegin}
-use Rattle.mp_worker_invariant.specs.Parts.{ArePartsOf, HoldsRowsBut, Parts, SeenIsDone}
+use Rattle.mp_worker_invariant.specs.Kept.{PartsAreAsked, PartsBegin}
+use Rattle.mp_worker_invariant.specs.Parts.{ArePartsOf, HoldsRowsBut, IsHostAt, Parts}
 use Rattle.mp_worker_invariant.proofs.Legal.{packet_legal}
 use Rattle.mp_worker_invariant.proofs.Noted.{none_sent, none_taken}
 
@@ -52,11 +52,11 @@ module _ {Cell : Type 0} (q : QueryFacts Cell) (job : JobFacts) (sound : Outline
   host_is_informed j h at = record {
     host = at.2;
     legal = subst (λ (w : ℕ). LogIsLegal (outline_of q job) w p.log) (sym at.1) parts.legal;
-    done = subst (λ (w : ℕ). SeenIsDone q job w p.log p.seen) (sym at.1) parts.done;
+    done = subst (λ (w : ℕ). SeenIsDone (outline_of q job) w p.log p.seen) (sym at.1) parts.done;
   }
 
   -- where a frontier behind the control records was seen to have passed a time, all of them up to it are taken, and so noted
-  module _ (at : Loc) (has_loc : HasLoc job.shape.stages at) (behind : Reaches CtlMail at) (t : ℕ) (passed : HasPassed (seen_at p.seen at) t) where
+  module _ (at : Loc) (has_loc : IsLocation job.shape.stages at) (behind : Reaches CtlMail at) (t : ℕ) (passed : HasPassed (seen_at p.seen at) t) where
     taken_upto : (i : ℕ) → i < length job.controls → (control_of job.controls i).time ≤ t → In (Ctrl i p.number) p.log.took
     taken_upto i l le = parts.done at t has_loc passed CtlMail (control_of job.controls i).time behind le (Ctrl i p.number) ((l, parts.worker), refl) refl refl
 

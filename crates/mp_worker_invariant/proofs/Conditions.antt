@@ -21,39 +21,39 @@ use Rattle.mp_host_laws.specs.HostOf.{IsReadyAt}
 use Rattle.mp_handoff.specs.Due.{IsDueHere}
 use Rattle.mp_worker_invariant.specs.Laws.{CanDo, ConditionsAreTold}
 use Rattle.mp_worker_invariant.specs.Machine.{machine_worker}
-use Rattle.mp_worker_invariant.specs.Parts.{ArePartsOf, AreSentBefore, Parts, is_before}
+use Rattle.mp_worker_invariant.specs.Parts.{ArePartsOf, AreSentBefore, Parts, cursor, is_before}
 use Rattle.mp_worker_invariant.proofs.Legal.{packet_legal}
 use Rattle.mp_worker_invariant.proofs.Noted.{is_so_before, place_not_before}
 
 -- a control record that is less than another comes before its place
-less_before : (i v n m : ℕ) → Less (Ctrl i v) (Ctrl n m) → is_before (n, m) i v ≡ true
-less_before i v n m less = is_so_before (n, m) i v before
+less_before : (i v n m : ℕ) → Less (Ctrl i v) (Ctrl n m) → is_before (cursor n m) i v ≡ true
+less_before i v n m less = is_so_before (cursor n m) i v before
   where
     before : (i < n) ⊎ ((i ≡ n) × (v < m))
     before = grind arith
 
 module _ {Cell : Type 0} (q : QueryFacts Cell) (job : JobFacts) (sound : OutlineIsSound (outline_of q job)) (p : Parts Cell) (parts : ArePartsOf q job p) (posted : Log) where
   -- of the control records that are held none comes before the place of the next one
-  held_from_next : AreSentBefore job p.log p.next → (y : Name) → IsHeld (outline_of q job) p.number p.log is_ctrl y → Less y (Ctrl p.next.0 p.next.1) → ⊥
+  held_from_next : AreSentBefore job p.log p.next → (y : Name) → IsHeld (outline_of q job) p.number p.log is_ctrl y → Less y (Ctrl p.next.index p.next.receiver) → ⊥
   held_from_next before (Ctrl i v) held less =
-      both_ways (has p.log.sent (Ctrl i v)) held.3 (before.sent i v held.1.0 held.1.1 ∙ less_before i v p.next.0 p.next.1 less)
+      both_ways (has p.log.sent (Ctrl i v)) held.3 (before.sent i v held.1.0 held.1.1 ∙ less_before i v p.next.index p.next.receiver less)
   held_from_next before _ held less = absurd (false≢true held.0)
 
-  can_send_control : p.number ≡ 0 → p.next.0 < length job.controls → CanDo q job p posted SendControl (Ctrl p.next.0 p.next.1)
+  can_send_control : p.number ≡ 0 → p.next.index < length job.controls → CanDo q job p posted SendControl (Ctrl p.next.index p.next.receiver)
   can_send_control first listed =
       let before = parts.next first in
-      let unsent = before.sent p.next.0 p.next.1 listed before.fits ∙ place_not_before p.next in
+      let unsent = before.sent p.next.index p.next.receiver listed before.fits ∙ place_not_before p.next in
       (((refl, (listed, before.fits), eq-eqb p.number 0 first, unsent), held_from_next before), tt)
 
-  cant_send_control : (p.number ≡ 0 → length job.controls ≤ p.next.0) → (x : Name) → CanDo q job p posted SendControl x → ⊥
+  cant_send_control : (p.number ≡ 0 → length job.controls ≤ p.next.index) → (x : Name) → CanDo q job p posted SendControl x → ⊥
   cant_send_control over x can = form x can.0.0
     where
       form : (x : Name) → IsHeld (outline_of q job) p.number p.log is_ctrl x → ⊥
       form (Ctrl i v) held =
           let first : p.number ≡ 0 = eqb-true p.number 0 held.2 in
-          let end : length job.controls ≤ p.next.0 = over first in
+          let end : length job.controls ≤ p.next.index = over first in
           let listed : i < length job.controls = held.1.0 in
-          let sooner : i < p.next.0 = omega arith in
+          let sooner : i < p.next.index = omega arith in
           let sent = (parts.next first).sent i v held.1.0 held.1.1 in
           both_ways (has p.log.sent (Ctrl i v)) held.3 (sent ∙ is_so_before p.next i v (inl sooner))
       form _ held = absurd (false≢true held.0)

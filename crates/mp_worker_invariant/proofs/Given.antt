@@ -1,16 +1,15 @@
 -- What a group gives: its outputs are those of its stage that have its time and tags of its key.
-use Rattle.std.proofs.Common.{◌≡◌, ◌↔◌, ℕ, suc, ◌<◌, true, false, nat_lt, Option, None, Some, List, [], ◌∷◌, ◌++◌, map, take_while, Contains, refl, sym, ap, ◌∙◌, subst, inr, ⊎_elim, arith}
-use Rattle.std.specs.List.{enumerate_from}
+use Rattle.std.proofs.Common.{◌≡◌, ◌↔◌, ℕ, suc, ◌<◌, true, false, nat_lt, Option, None, Some, List, [], ◌∷◌, ◌++◌, map, take_while, Contains, sym, ap, ◌∙◌, subst, ⊎_elim, arith}
 use Rattle.std.specs.Option.{option_map}
 use Rattle.std.proofs.lemmas.Bool.{le-ltb, lt-ltb}
 use Rattle.std.proofs.lemmas.List.Elements.{Contains-append_cases, Contains-append_left, Contains-append_right}
 use Rattle.std.proofs.lemmas.List.Sums.{take_while-cons}
 use Rattle.std.proofs.lemmas.Option.{none-some, same_Some}
-use Rattle.mp_names.specs.declared.names.Name.{Name}
-use Rattle.mp_names.specs.declared.names.Name.TheVariants.{Group, Row as RowName}
+use Rattle.mp_names.specs.declared.names.Name.TheVariants.{Group}
 use Rattle.mp_names.specs.declared.names.Tag.{Tag}
 use Rattle.mp_names.specs.Names.{In, Distinct}
 use Rattle.mp_names.specs.Outlines.{OutlineIsSound, groups_of}
+use Rattle.mp_names.proofs.NameParts.{same_parts}
 use Rattle.mp_model.specs.declared.record.Output.{Output}
 use Rattle.mp_model.specs.declared.record.Rec.{Rec}
 use Rattle.mp_model.specs.declared.value.Value.{Value}
@@ -20,50 +19,18 @@ use Rattle.mp_model.specs.Folds.{cell_before, entry_at, fold_of, keys_of, of_key
 use Rattle.mp_model.specs.QueryLaws.{LaterStagesPostNothing}
 use Rattle.mp_model.specs.Stages.{record_of_output, stage_records}
 use Rattle.mp_job.proofs.Ascents.{ascending-Contains}
-use Rattle.mp_job.proofs.Members.{nothing_in_nil, Contains-cases, Contains-flat_map, Contains-here, Contains-later, Contains-map, flat_map-Contains, map-Contains}
+use Rattle.mp_job.proofs.Members.{nothing_in_nil, Contains-cases, Contains-flat_map, flat_map-Contains, map-Contains}
 use Rattle.mp_outline.specs.JobOutline.{name_of_record, outline_of}
 use Rattle.mp_outline.specs.Laws.{OutputsInOrder, group_at}
 use Rattle.mp_outline.proofs.FilterMaps.{made, maker}
 use Rattle.mp_outline.proofs.Found.{found, found_there}
 use Rattle.mp_outline.proofs.Named.{named_once}
-use Rattle.mp_outline.proofs.Outputs.{HasGroup, group_is, group_stands, timeline_rises}
+use Rattle.mp_outline.proofs.Outputs.{HasGroup, along_are, group_is, group_stands, outputs_are, outputs_in_order, timeline_rises}
 use Rattle.mp_outline.proofs.Pairs.{Pairs}
-use Rattle.mp_outline.proofs.PairsMade.{Pairs-filter_map, Pairs-map, places_rise}
-use Rattle.mp_outline.proofs.Stages.{same_parts}
+use Rattle.mp_outline.proofs.PairsMade.{Pairs-filter_map}
 use Rattle.mp_outline.proofs.Tags.{tag_irreflexive}
 use Rattle.mp_outline.proofs.Timelines.{groups_are_on}
 use Rattle.mp_worker_invariant.specs.Given.{outputs_given, records_made, values_given}
-
--- rows that have one name have one time and one tag
-
-time_in : Name → ℕ
-time_in (RowName t g) = t
-time_in _ = 0
-
-tag_in : Name → Tag
-tag_in (RowName t g) = g
-tag_in _ = record { 0 = 0; 1 = 0 }
-
-pub same_row : (s t : ℕ) (a b : Tag) → RowName s a ≡ RowName t b → (s ≡ t) × (a ≡ b)
-unfolding time_in tag_in
-same_row s t a b e = (ap time_in e, ap tag_in e)
-
--- The outputs of one group
-
--- the output of a value at its place
-abbrev output_of : ℕ → ℕ → ℕ × Value → Output
-output_of t k p = record { time = t; tag = record { 0 = k; 1 = p.0 }; value = p.1 }
-
--- they have its time, and tags of its key
-pub outputs_are : (t k : ℕ) (values : List Value) (o : Output) → Contains (outputs_at t k values) o → (o.time ≡ t) × (o.tag.0 ≡ k)
-outputs_are t k values o h =
-    let a = found (λ p. output_of t k p ≡ o) (enumerate_from 0 values) (Contains-map (output_of t k) (enumerate_from 0 values) o h) in
-    (ap (λ (p : Output). p.time) (sym a.2), ap (λ (p : Output). p.tag.0) (sym a.2))
-
--- and stand in the order of their tags
-pub outputs_in_order : (t k : ℕ) (values : List Value) → Pairs OutputsInOrder (outputs_at t k values)
-outputs_in_order t k values =
-    Pairs-map (λ (p r : ℕ × Value). p.0 < r.0) OutputsInOrder (output_of t k) (λ p r l e. inr (refl, l)) (enumerate_from 0 values) (places_rise 0 values)
 
 -- a record has the time and the tag of the output that made it, whatever its key is
 made_parts : (key : Option ℕ) (o : Output) (r : Rec) → option_map (λ k. record { time = o.time; key = k; tag = o.tag; value = o.value }) key ≡ Some r → (r.time ≡ o.time) × (r.tag ≡ o.tag)
@@ -78,14 +45,6 @@ module _ {Cell : Type 0} (q : QueryFacts Cell) (j : ℕ) where
   -- the cell after the groups before a time
   abbrev cell_upto : Cell → List Entry → ℕ → Cell
   cell_upto cell es t = fold_of q j cell (take_while (λ e. nat_lt e.time t) es)
-
-  along_are : (cell : Cell) (es : List Entry) (o : Output) → Contains (outputs_along q j cell es) o → (e : Entry) × Contains es e × (o.time ≡ e.time) × (o.tag.0 ≡ e.key)
-  along_are cell [] o h = absurd (nothing_in_nil o h)
-  along_are cell (e ∷ es) o h =
-      ⊎_elim
-      (λ (i : Contains (outputs_at e.time e.key (q.gives j cell e)) o). let a = outputs_are e.time e.key (q.gives j cell e) o i in (e, Contains-here e es, a.0, a.1))
-      (λ (i : Contains (outputs_along q j (q.step j cell e) es) o). let a = along_are (q.step j cell e) es o i in (a.0, Contains-later e a.0 es a.1, a.2, a.3))
-      (Contains-append_cases (outputs_at e.time e.key (q.gives j cell e)) (outputs_along q j (q.step j cell e) es) o h)
 
   -- the outputs that a cell and a group give
   abbrev gives_at : Cell → Entry → List Output
@@ -110,7 +69,7 @@ module _ {Cell : Type 0} (q : QueryFacts Cell) (j : ℕ) where
                 ⊎_elim
                 (λ (k : Contains (gives_at cell f) o). k)
                 (λ (k : Contains (outputs_along q j (q.step j cell f) fs) o).
-                let a = along_are (q.step j cell f) fs o k in
+                let a = along_are q j (q.step j cell f) fs o k in
                 let less : f.time < a.0.time = rises.0 a.0 a.1 in
                 let also : o.time ≡ a.0.time = a.2 in
                 absurd (omega arith))
@@ -151,7 +110,7 @@ module _ {Cell : Type 0} (q : QueryFacts Cell) (j : ℕ) where
     pub output_is_given : (o : Output) → Contains (stage_outputs q j rs) o → o.time ≡ t → o.tag.0 ≡ k → Contains given_here o
     output_is_given o h timed tagged =
         let a = found (λ l. Contains (outputs_of q j rs l) o) (keys_of rs) (Contains-flat_map (outputs_of q j rs) (keys_of rs) o h) in
-        let b = along_are (q.fresh j) (timeline q j a.0 rs) o a.2 in
+        let b = along_are q j (q.fresh j) (timeline q j a.0 rs) o a.2 in
         let c = group_is q j a.0 rs b.0 b.1 in
         let same : a.0 ≡ k = ap (λ (e : Entry). e.key) c.0 ∙ (sym b.3 ∙ tagged) in
         (of_key_at o timed).0 (subst (λ (l : ℕ). Contains (outputs_of q j rs l) o) same a.2)

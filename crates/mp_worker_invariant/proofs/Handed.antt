@@ -11,6 +11,7 @@ use Rattle.mp_names.specs.Keeping.{IsHeld, IsWaiting}
 use Rattle.mp_names.proofs.Grows.{grown_given}
 use Rattle.mp_names.proofs.Hosts.{pending_new}
 use Rattle.mp_names.proofs.Lists.{Distinct_append, In_append, In_left, In_push, In_right, prefix_push, prefix_refl}
+use Rattle.mp_names.proofs.NameParts.{same_group, same_row}
 use Rattle.mp_model.specs.declared.record.Output.{Output}
 use Rattle.mp_model.specs.declared.record.Rec.{Rec}
 use Rattle.mp_model.specs.Facts.{JobFacts, QueryFacts}
@@ -24,14 +25,15 @@ use Rattle.mp_outline.proofs.Named.{In_named, named_In, named_once}
 use Rattle.mp_outline.proofs.Pairs.{Pairs-weaker}
 use Rattle.mp_outline.proofs.Stages.{name_stands, record_named}
 use Rattle.mp_outline.proofs.Tags.{tag_irreflexive}
+use Rattle.mp_outline.proofs.Outputs.{outputs_are, outputs_in_order}
 use Rattle.mp_msg.specs.Contents.{IsRecordOf}
 use Rattle.mp_route.specs.Routed.{Routed}
 use Rattle.mp_route.specs.Unsent.{HoldsAllBut, HoldsUnsent, names_held}
-use Rattle.mp_host_laws.proofs.Logs.{push_has, same_group}
+use Rattle.mp_host_laws.proofs.Logs.{push_has}
 use Rattle.mp_worker_invariant.specs.Given.{outputs_given, records_made, values_given}
 use Rattle.mp_worker_invariant.specs.Laws.{GroupsHandOn}
 use Rattle.mp_worker_invariant.specs.Parts.{HoldsRowsBut}
-use Rattle.mp_worker_invariant.proofs.Given.{made_once, outputs_are, outputs_come, outputs_in_order, outputs_stand, records_come, records_stand, same_row}
+use Rattle.mp_worker_invariant.proofs.Given.{made_once, outputs_come, outputs_stand, records_come, records_stand}
 
 -- Names that are held by a new log only, and those that are held by both
 

@@ -15,7 +15,7 @@ use Rattle.mp_names.specs.Outlines.{IsOwedBy, IsOwedTo, OutlineIsSound}
 use Rattle.mp_names.specs.Logs.{Log, LogIsLegal, with_applied, with_ingested, with_sent, with_settled, with_took}
 use Rattle.mp_machine.specs.Steps.{logged}
 use Rattle.mp_machine.proofs.Keeps.{logged_grows}
-use Rattle.mp_stamps.specs.Seen.{seen_at}
+use Rattle.mp_stamps.specs.Seen.{SeenIsDone, seen_at}
 use Rattle.mp_bins.specs.Notes.{Notes, with_note}
 use Rattle.mp_model.specs.Facts.{JobFacts, QueryFacts}
 use Rattle.mp_outline.specs.JobOutline.{outline_of}
@@ -27,9 +27,9 @@ use Rattle.mp_handoff.specs.Laws.{MoversStay}
 use Rattle.mp_handoff.specs.MoversState.{MoversState}
 use Rattle.mp_handoff.specs.MoversOf.{IsMoversOf}
 use Rattle.mp_handoff.proofs.Same.{movers_always_stay}
-use Rattle.mp_worker_invariant.specs.Kept.{AreMoversAt, IsHostAt, IsRouterAt, StepsKeepParts, with_host, with_movers, with_next, with_notes}
+use Rattle.mp_worker_invariant.specs.Kept.{StepsKeepParts, with_host, with_movers, with_next, with_notes}
 use Rattle.mp_worker_invariant.specs.Laws.{HostsStay, RoutersStay, StepsStayLegal, UnsentRowsStay, UnwrittenStay}
-use Rattle.mp_worker_invariant.specs.Parts.{ArePartsOf, AreSentBefore, AreTaken, AtEach, Parts, SeenIsDone, place_after}
+use Rattle.mp_worker_invariant.specs.Parts.{AreMoversAt, ArePartsOf, AreSentBefore, AreTaken, AtEach, IsHostAt, IsRouterAt, Parts, place_after}
 use Rattle.mp_worker_invariant.proofs.Legal.{steps_stay_legal}
 use Rattle.mp_worker_invariant.proofs.Noted.{place_not_before, sent_else, sent_more, sent_stays, taken_else, taken_more, taken_stays}
 use Rattle.mp_worker_invariant.proofs.Unheard.{hosts_stay, routers_stay, seen_stays, unsent_rows_stay, unwritten_rows_stay}
@@ -104,7 +104,7 @@ module _ {Cell : Type 0} (q : QueryFacts Cell) (job : JobFacts) (sound : Outline
   legal = steps_stay_legal q job sound p.number parts.worker p.log parts.legal p.seen parts.done
 
   -- what was seen to be over is over after a step of any kind
-  over : (kind : Kind) (x : Name) → SeenIsDone q job p.number (logged kind p.log x) p.seen
+  over : (kind : Kind) (x : Name) → SeenIsDone (outline_of q job) p.number (logged kind p.log x) p.seen
   over kind x = seen_stays q job p.number p.log (logged kind p.log x) p.seen (logged_grows kind p.log x) parts.done
 
   -- where nothing else is taken, the notes stay
@@ -157,14 +157,14 @@ module _ {Cell : Type 0} (q : QueryFacts Cell) (job : JobFacts) (sound : Outline
 
   -- Bins that move
 
-  control_sent : p.number ≡ 0 → p.next.0 < length job.controls → ArePartsOf q job (with_next p (with_sent p.log (Ctrl p.next.0 p.next.1)) (place_after job.shape.workers p.next))
+  control_sent : p.number ≡ 0 → p.next.index < length job.controls → ArePartsOf q job (with_next p (with_sent p.log (Ctrl p.next.index p.next.receiver)) (place_after job.shape.workers p.next))
   control_sent first listed =
-      let x = Ctrl p.next.0 p.next.1 in
+      let x = Ctrl p.next.index p.next.receiver in
       let log = with_sent p.log x in
       let next = parts.next first in
       record {
         worker = parts.worker;
-        legal = legal.send_control p.next.0 p.next.1 first listed next.fits (next.sent p.next.0 p.next.1 listed next.fits ∙ place_not_before p.next);
+        legal = legal.send_control p.next.index p.next.receiver first listed next.fits (next.sent p.next.index p.next.receiver listed next.fits ∙ place_not_before p.next);
         done = over SendControl x;
         notes = notes_while log refl;
         next = λ e. sent_more job p.log p.next next;

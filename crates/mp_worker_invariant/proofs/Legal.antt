@@ -9,18 +9,17 @@ use Rattle.mp_names.specs.Outlines.{OutlineIsSound}
 use Rattle.mp_names.specs.Logs.{Log, LogIsLegal, with_applied, with_sent}
 use Rattle.mp_names.proofs.Keeps.{group_keeps, held_keeps, ingested_keeps, packet_keeps, time_keeps, took_keeps, written_keeps}
 use Rattle.mp_names.proofs.Owners.{move_in_shape}
-use Rattle.mp_machine.proofs.Keeps.{passed_below}
+use Rattle.mp_names.proofs.Exact.{passed_below}
 use Rattle.mp_stamps.specs.declared.seen.Seen.{Seen}
-use Rattle.mp_stamps.specs.Seen.{seen_at}
+use Rattle.mp_stamps.specs.Seen.{SeenIsDone, seen_at}
 use Rattle.mp_model.specs.Facts.{JobFacts, QueryFacts}
 use Rattle.mp_outline.specs.JobOutline.{outline_of}
 use Rattle.mp_host_laws.specs.Hosted.{Hosted}
 use Rattle.mp_host_laws.specs.HostOf.{IsReadyAt}
 use Rattle.mp_handoff.specs.Due.{IsDueHere}
 use Rattle.mp_worker_invariant.specs.Laws.{StepsStayLegal}
-use Rattle.mp_worker_invariant.specs.Parts.{SeenIsDone}
 
-module _ {Cell : Type 0} (q : QueryFacts Cell) (job : JobFacts) (sound : OutlineIsSound (outline_of q job)) (w : ℕ) (worker : w < job.shape.workers) (log : Log) (legal : LogIsLegal (outline_of q job) w log) (seen : Seen) (done : SeenIsDone q job w log seen) where
+module _ {Cell : Type 0} (q : QueryFacts Cell) (job : JobFacts) (sound : OutlineIsSound (outline_of q job)) (w : ℕ) (worker : w < job.shape.workers) (log : Log) (legal : LogIsLegal (outline_of q job) w log) (seen : Seen) (done : SeenIsDone (outline_of q job) w log seen) where
   -- worker 0 has all control records from the start
   control_legal : (i v : ℕ) → w ≡ 0 → i < length job.controls → v < job.shape.workers → has log.sent (Ctrl i v) ≡ false → LogIsLegal (outline_of q job) w (with_sent log (Ctrl i v))
   control_legal i v first listed receiver unsent = held_keeps (outline_of q job) w log legal is_ctrl (Ctrl i v) (refl, (listed, receiver), eq-eqb w 0 first, unsent)

@@ -8,7 +8,5 @@ pub mod Conditions
 pub mod Noted
 pub mod Kept
 pub mod InTurn
-pub mod OneByOne
 pub mod Asked
 pub mod Agreeing
-pub mod Tallied

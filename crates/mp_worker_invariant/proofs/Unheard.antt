@@ -16,6 +16,7 @@ use Rattle.mp_model.specs.declared.record.Output.{Output}
 use Rattle.mp_model.specs.Entry.{Entry}
 use Rattle.mp_model.specs.Facts.{JobFacts, QueryFacts}
 use Rattle.mp_model.specs.Folds.{fold_of}
+use Rattle.mp_stamps.specs.Seen.{SeenIsDone}
 use Rattle.mp_outline.specs.JobOutline.{outline_of}
 use Rattle.mp_outline.specs.Laws.{timeline_of}
 use Rattle.mp_route.specs.Routed.{Routed}
@@ -26,7 +27,7 @@ use Rattle.mp_host_laws.specs.Hosted.{Hosted}
 use Rattle.mp_host_laws.specs.HostOf.{CameInto, IsHostOf, IsInHandSince, IsStateOf, MovesInOrder, is_taken_in}
 use Rattle.mp_host_laws.proofs.Lists.{filter_within}
 use Rattle.mp_host_laws.proofs.Logs.{has_push, same_test}
-use Rattle.mp_worker_invariant.specs.Parts.{HoldsRowsBut, SeenIsDone}
+use Rattle.mp_worker_invariant.specs.Parts.{HoldsRowsBut}
 use Rattle.mp_worker_invariant.specs.Laws.{HostsStay, RoutersStay, UnsentRowsStay, UnwrittenStay}
 
 -- Names of two kinds are two
@@ -127,7 +128,7 @@ module _ {Cell : Type 0} (q : QueryFacts Cell) (job : JobFacts) (w : ℕ) where
   }
 
   -- what was seen to be over stays over
-  pub seen_stays : (old new : Log) (seen : Seen) → LogGrows old new → SeenIsDone q job w old seen → SeenIsDone q job w new seen
+  pub seen_stays : (old new : Log) (seen : Seen) → LogGrows old new → SeenIsDone (outline_of q job) w old seen → SeenIsDone (outline_of q job) w new seen
   seen_stays old new seen grows done at t l passed = grown_closed (outline_of q job) w old new grows at t (done at t l passed)
 
 -- Answer rows to be written

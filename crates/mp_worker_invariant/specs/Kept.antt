@@ -4,6 +4,7 @@ use Rattle.mp_names.specs.declared.locations.Loc.TheVariants.{CtlMail, Host, Out
 use Rattle.mp_names.specs.declared.names.Name.{Name}
 use Rattle.mp_names.specs.declared.names.Name.TheVariants.{Ctrl, Rec as RecName, Packet, Row, Group, Settled, Written}
 use Rattle.mp_names.specs.declared.names.Tag.{Tag}
+use Rattle.mp_names.specs.declared.pointstamps.ControlCursor.{ControlCursor}
 use Rattle.mp_names.specs.Controls.{control_of}
 use Rattle.mp_names.specs.Names.{has, In, IsLeast, IsPrefix, is_row}
 use Rattle.mp_names.specs.Outlines.{IsOwedBy, IsOwedTo, share}
@@ -11,21 +12,21 @@ use Rattle.mp_names.specs.Logs.{Log, empty_log, with_applied, with_ingested, wit
 use Rattle.mp_names.specs.Frontiers.{HasPassed, HasReached}
 use Rattle.mp_names.specs.Keeping.{IsHeld, IsUnsettled, IsUnwritten}
 use Rattle.mp_stamps.specs.declared.seen.Seen.{Seen}
-use Rattle.mp_stamps.specs.Seen.{seen_at}
+use Rattle.mp_stamps.specs.Seen.{SeenIsDone, seen_at}
 use Rattle.mp_bins.specs.Notes.{Notes, with_note}
 use Rattle.mp_model.specs.declared.record.Output.{Output}
 use Rattle.mp_model.specs.Facts.{JobFacts, QueryFacts}
 use Rattle.mp_outline.specs.JobOutline.{outline_of}
 use Rattle.mp_route.specs.Routed.{Routed}
-use Rattle.mp_route.specs.Unsent.{HoldsUnsent, MayGo}
+use Rattle.mp_route.specs.Unsent.{MayGo}
 use Rattle.mp_output.specs.Holding.{HoldsUnwritten}
 use Rattle.mp_host_laws.specs.Hosted.{Hosted}
-use Rattle.mp_host_laws.specs.HostOf.{IsHostOf, HostMatchesLogAndSeen, IsReadyAt, OwnersAreCurrent}
+use Rattle.mp_host_laws.specs.HostOf.{HostMatchesLogAndSeen, IsReadyAt, OwnersAreCurrent}
 use Rattle.mp_host_laws.specs.Laws.{MayLeaveNow}
 use Rattle.mp_handoff.specs.MoversState.{MoversState}
 use Rattle.mp_handoff.specs.Due.{IsDueHere}
-use Rattle.mp_handoff.specs.MoversOf.{IsMoversOf, KnowsMoves}
-use Rattle.mp_worker_invariant.specs.Parts.{ArePartsOf, AtEach, HoldsRowsBut, Parts, SeenIsDone, place_after}
+use Rattle.mp_handoff.specs.MoversOf.{KnowsMoves}
+use Rattle.mp_worker_invariant.specs.Parts.{AreMoversAt, ArePartsOf, AtEach, HoldsRowsBut, IsHostAt, IsRouterAt, Parts, cursor, place_after}
 
 -- the worker's log and its router of a stage are new
 abbrev pub with_router : {Cell : Type 0} → Parts Cell → Log → ℕ → Routed → Parts Cell
@@ -40,7 +41,7 @@ abbrev pub with_movers : {Cell : Type 0} → Parts Cell → Log → ℕ → Move
 with_movers p log j m = record p { log = log; movers = set p.movers j m }
 
 -- its log and the place of the next control record to be sent are
-abbrev pub with_next : {Cell : Type 0} → Parts Cell → Log → ℕ × ℕ → Parts Cell
+abbrev pub with_next : {Cell : Type 0} → Parts Cell → Log → ControlCursor → Parts Cell
 with_next p log next = record p { log = log; next = next }
 
 -- its log and what it noted are
@@ -56,58 +57,46 @@ abbrev pub with_unwritten : {Cell : Type 0} → Parts Cell → Log → List Outp
 with_unwritten p log rows = record p { log = log; unwritten = rows }
 
 module _ {Cell : Type 0} (q : QueryFacts Cell) (job : JobFacts) where
-  -- a router of this stage holds what the worker's log says
-  abbrev pub IsRouterAt : ℕ → Log → ℕ → Routed → Type 0
-  IsRouterAt w log j r = (r.stage ≡ j) × HoldsUnsent q job w log r
-
-  -- a host of this worker and stage does
-  abbrev pub IsHostAt : ℕ → Log → ℕ → Hosted Cell → Type 0
-  IsHostAt w log j h = (h.stage ≡ j) × (h.worker ≡ w) × IsHostOf q job log h
-
-  -- movers of this worker and stage do
-  abbrev pub AreMoversAt : ℕ → Log → ℕ → MoversState → Type 0
-  AreMoversAt w log j m = (m.stage ≡ j) × (m.worker ≡ w) × IsMoversOf (outline_of q job) log m
-
   -- Each step of a worker keeps its parts what its log says: where those that the step is of are so, all others are
   pub record StepsKeepParts (p : Parts Cell) : Type 0 where
     -- the next record of the share is ingested
     pub ingest : (x : Name) (r : Routed) → IsPrefix (p.log.ingested ++ x ∷ []) (share (outline_of q job) p.number)
-        → IsRouterAt p.number (with_ingested p.log x) 0 r → ArePartsOf q job (with_router p (with_ingested p.log x) 0 r)
+        → IsRouterAt q job p.number (with_ingested p.log x) 0 r → ArePartsOf q job (with_router p (with_ingested p.log x) 0 r)
     -- a control record is sent
-    pub send_control : p.number ≡ 0 → p.next.0 < length job.controls
-        → ArePartsOf q job (with_next p (with_sent p.log (Ctrl p.next.0 p.next.1)) (place_after job.shape.workers p.next))
+    pub send_control : p.number ≡ 0 → p.next.index < length job.controls
+        → ArePartsOf q job (with_next p (with_sent p.log (Ctrl p.next.index p.next.receiver)) (place_after job.shape.workers p.next))
     -- a record is sent
     pub route : (j : ℕ) (x : Name) (r : Routed) → MayGo q job p.number p.log j p.seen x
-        → IsRouterAt p.number (with_sent p.log x) j r → ArePartsOf q job (with_router p (with_sent p.log x) j r)
+        → IsRouterAt q job p.number (with_sent p.log x) j r → ArePartsOf q job (with_router p (with_sent p.log x) j r)
     -- a record is taken
     pub receive : (j t k : ℕ) (g : Tag) (h : Hosted Cell) → IsOwedTo (outline_of q job) p.number (RecName j t k g) → has p.log.took (RecName j t k g) ≡ false
-        → IsHostAt p.number (with_took p.log (RecName j t k g)) j h → ArePartsOf q job (with_host p (with_took p.log (RecName j t k g)) j h)
+        → IsHostAt q job p.number (with_took p.log (RecName j t k g)) j h → ArePartsOf q job (with_host p (with_took p.log (RecName j t k g)) j h)
     -- a control record is taken: it is noted, and the movers of its stage note its time
     pub receive_control : (i : ℕ) (notes : Notes) (m : MoversState) → IsOwedTo (outline_of q job) p.number (Ctrl i p.number) → has p.log.took (Ctrl i p.number) ≡ false
         → notes ≡ record p.notes { noted = with_note p.notes.noted (record { index = i; control = control_of job.controls i }); room = notes.room }
-        → AreMoversAt p.number (with_took p.log (Ctrl i p.number)) (control_of job.controls i).stage m
+        → AreMoversAt q job p.number (with_took p.log (Ctrl i p.number)) (control_of job.controls i).stage m
         → ArePartsOf q job (with_movers (with_notes p (with_took p.log (Ctrl i p.number)) notes) (with_took p.log (Ctrl i p.number)) (control_of job.controls i).stage m)
     -- a packet is taken
     pub receive_packet : (j b t : ℕ) (h : Hosted Cell) → IsOwedTo (outline_of q job) p.number (Packet j b t) → has p.log.took (Packet j b t) ≡ false
-        → IsHostAt p.number (with_took p.log (Packet j b t)) j h → ArePartsOf q job (with_host p (with_took p.log (Packet j b t)) j h)
+        → IsHostAt q job p.number (with_took p.log (Packet j b t)) j h → ArePartsOf q job (with_host p (with_took p.log (Packet j b t)) j h)
     -- a packet is sent: its bin is out of the host, and the movers know that it is sent
     pub extract : (j b t : ℕ) (h : Hosted Cell) (m : MoversState) → IsLeast (IsDueHere (outline_of q job) p.log p.seen p.number j) (Packet j b t) → HasReached (seen_at p.seen (Host j)) t
-        → IsHostAt p.number (with_sent p.log (Packet j b t)) j h → AreMoversAt p.number (with_sent p.log (Packet j b t)) j m
+        → IsHostAt q job p.number (with_sent p.log (Packet j b t)) j h → AreMoversAt q job p.number (with_sent p.log (Packet j b t)) j m
         → ArePartsOf q job (with_movers (with_host p (with_sent p.log (Packet j b t)) j h) (with_sent p.log (Packet j b t)) j m)
     -- a time is settled
     pub settle : (j t : ℕ) (m : MoversState) → IsLeast (IsUnsettled (outline_of q job) p.log j) (Settled j t) → HasPassed (seen_at p.seen CtlMail) t
         → ((b : ℕ) → IsOwedBy (outline_of q job) p.number (Packet j b t) → In (Packet j b t) p.log.sent)
-        → AreMoversAt p.number (with_settled p.log (Settled j t)) j m → ArePartsOf q job (with_movers p (with_settled p.log (Settled j t)) j m)
+        → AreMoversAt q job p.number (with_settled p.log (Settled j t)) j m → ArePartsOf q job (with_movers p (with_settled p.log (Settled j t)) j m)
     -- an answer row is taken
     pub receive_row : (t : ℕ) (g : Tag) (rows : List Output) → IsOwedTo (outline_of q job) p.number (Row t g) → has p.log.took (Row t g) ≡ false
         → HoldsUnwritten (with_took p.log (Row t g)) rows → ArePartsOf q job (with_unwritten p (with_took p.log (Row t g)) rows)
     -- a group is applied, and hands its records to the router of the next stage
-    pub apply : (j t k : ℕ) (old new : Hosted Cell) (r : Routed) → IsHostAt p.number p.log j old → IsReadyAt q job p.log p.seen old t k → suc j < job.shape.stages
-        → IsHostAt p.number (with_applied p.log (Group j t k)) j new → IsRouterAt p.number (with_applied p.log (Group j t k)) (suc j) r
+    pub apply : (j t k : ℕ) (old new : Hosted Cell) (r : Routed) → IsHostAt q job p.number p.log j old → IsReadyAt q job p.log p.seen old t k → suc j < job.shape.stages
+        → IsHostAt q job p.number (with_applied p.log (Group j t k)) j new → IsRouterAt q job p.number (with_applied p.log (Group j t k)) (suc j) r
         → ArePartsOf q job (with_router (with_host p (with_applied p.log (Group j t k)) j new) (with_applied p.log (Group j t k)) (suc j) r)
     -- a group of the last stage is applied, and gives answer rows
-    pub apply_last : (j t k : ℕ) (old new : Hosted Cell) (rows : List Output) → IsHostAt p.number p.log j old → IsReadyAt q job p.log p.seen old t k → suc j ≡ job.shape.stages
-        → IsHostAt p.number (with_applied p.log (Group j t k)) j new → HoldsRowsBut q job p.number (with_applied p.log (Group j t k)) [] rows
+    pub apply_last : (j t k : ℕ) (old new : Hosted Cell) (rows : List Output) → IsHostAt q job p.number p.log j old → IsReadyAt q job p.log p.seen old t k → suc j ≡ job.shape.stages
+        → IsHostAt q job p.number (with_applied p.log (Group j t k)) j new → HoldsRowsBut q job p.number (with_applied p.log (Group j t k)) [] rows
         → ArePartsOf q job (with_unsent (with_host p (with_applied p.log (Group j t k)) j new) (with_applied p.log (Group j t k)) rows)
     -- an answer row is sent
     pub send_row : (x : Name) (rows : List Output) → IsLeast (IsHeld (outline_of q job) p.number p.log is_row) x
@@ -116,17 +105,17 @@ module _ {Cell : Type 0} (q : QueryFacts Cell) (job : JobFacts) where
     pub write : (t : ℕ) (rows : List Output) → p.number ≡ 0 → IsLeast (IsUnwritten p.log) (Written t) → HasPassed (seen_at p.seen OutMail) t
         → HoldsUnwritten (with_settled p.log (Written t)) rows → ArePartsOf q job (with_unwritten p (with_settled p.log (Written t)) rows)
     -- new frontiers are seen
-    pub see : (seen : Seen) → SeenIsDone q job p.number p.log seen → ArePartsOf q job (record p { seen = seen })
+    pub see : (seen : Seen) → SeenIsDone (outline_of q job) p.number p.log seen → ArePartsOf q job (record p { seen = seen })
 
   abbrev pub StepsAlwaysKeepParts : Type 0
   StepsAlwaysKeepParts = (p : Parts Cell) → ArePartsOf q job p → StepsKeepParts p
 
   -- What is asked of the parts of a worker: that a host is informed, that owners and moves are known as far as was seen, that the host may give up the bin that is due to leave, and that a row that is still to come is of a time that isn't written
   pub record PartsAreAsked (p : Parts Cell) : Type 0 where
-    pub informed : (j : ℕ) (h : Hosted Cell) → IsHostAt p.number p.log j h → HostMatchesLogAndSeen q job p.log p.seen h
+    pub informed : (j : ℕ) (h : Hosted Cell) → IsHostAt q job p.number p.log j h → HostMatchesLogAndSeen q job p.log p.seen h
     pub owners : (j : ℕ) → j < job.shape.stages → OwnersAreCurrent q job p.notes p.seen j
     pub moves : (j : ℕ) → KnowsMoves (outline_of q job) p.log p.notes p.seen p.number j
-    pub leaves : (j b t : ℕ) (h : Hosted Cell) → j < job.shape.stages → IsHostAt p.number p.log j h → IsLeast (IsDueHere (outline_of q job) p.log p.seen p.number j) (Packet j b t) → HasReached (seen_at p.seen (Host j)) t
+    pub leaves : (j b t : ℕ) (h : Hosted Cell) → j < job.shape.stages → IsHostAt q job p.number p.log j h → IsLeast (IsDueHere (outline_of q job) p.log p.seen p.number j) (Packet j b t) → HasReached (seen_at p.seen (Host j)) t
         → MayLeaveNow q job p.log h b t
     pub row_not_written : (t : ℕ) (g : Tag) → IsOwedTo (outline_of q job) p.number (Row t g) → has p.log.took (Row t g) ≡ false → has p.log.settled (Written t) ≡ false
 
@@ -135,13 +124,13 @@ module _ {Cell : Type 0} (q : QueryFacts Cell) (job : JobFacts) where
   PartsBegin =
       (w : ℕ) (seen : Seen) (notes : Notes) (routers : List Routed) (hosts : List (Hosted Cell)) (movers : List MoversState)
       → w < job.shape.workers
-      → SeenIsDone q job w empty_log seen
+      → SeenIsDone (outline_of q job) w empty_log seen
       → notes.shape ≡ job.shape
       → notes.noted ≡ []
       → length routers ≡ job.shape.stages
-      → AtEach routers (IsRouterAt w empty_log)
+      → AtEach routers (IsRouterAt q job w empty_log)
       → length hosts ≡ job.shape.stages
-      → AtEach hosts (IsHostAt w empty_log)
+      → AtEach hosts (IsHostAt q job w empty_log)
       → length movers ≡ job.shape.stages
-      → AtEach movers (AreMoversAt w empty_log)
-      → ArePartsOf q job (record { number = w; log = empty_log; seen = seen; notes = notes; next = (0, 0); routers = routers; hosts = hosts; movers = movers; unsent = []; unwritten = [] })
+      → AtEach movers (AreMoversAt q job w empty_log)
+      → ArePartsOf q job (record { number = w; log = empty_log; seen = seen; notes = notes; next = cursor 0 0; routers = routers; hosts = hosts; movers = movers; unsent = []; unwritten = [] })

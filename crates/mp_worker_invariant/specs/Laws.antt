@@ -11,10 +11,11 @@ use Rattle.mp_names.specs.Outlines.{IsOwedBy, IsOwedTo, Outline, share}
 use Rattle.mp_names.specs.Logs.{Log, LogGrows, LogIsLegal, with_applied, with_ingested, with_sent, with_settled, with_took}
 use Rattle.mp_names.specs.Frontiers.{HasPassed, HasReached}
 use Rattle.mp_names.specs.Keeping.{IsHeld, IsUnsettled, IsUnwritten}
+use Rattle.mp_names.specs.Locations.{IsLocation}
 use Rattle.mp_machine.specs.Steps.{IsNext, IsReady, KindFits}
 use Rattle.mp_machine.specs.Worlds.{Worker}
 use Rattle.mp_stamps.specs.declared.seen.Seen.{Seen}
-use Rattle.mp_stamps.specs.Seen.{HasLoc, seen_at}
+use Rattle.mp_stamps.specs.Seen.{SeenIsDone, seen_at}
 use Rattle.mp_model.specs.declared.record.Output.{Output}
 use Rattle.mp_model.specs.declared.record.Rec.{Rec}
 use Rattle.mp_model.specs.Facts.{JobFacts, QueryFacts}
@@ -34,7 +35,7 @@ use Rattle.mp_host_laws.specs.HostOf.{IsHostOf, IsReadyAt}
 use Rattle.mp_handoff.specs.Due.{IsDueHere}
 use Rattle.mp_worker_invariant.specs.Given.{output_at, outputs_given, records_made}
 use Rattle.mp_worker_invariant.specs.Machine.{machine_worker}
-use Rattle.mp_worker_invariant.specs.Parts.{HoldsRowsBut, Parts, SeenIsDone}
+use Rattle.mp_worker_invariant.specs.Parts.{HoldsRowsBut, Parts}
 
 -- What is no concern of the answer rows that are to be written: all but rows that are taken and times that are written
 pub record UnwrittenStay : Type 0 where
@@ -50,7 +51,7 @@ ConditionsAgree =
     (o : Outline) (w : ℕ) (kind : Kind) (x : Name) (a b : Worker)
     → KindFits o kind
     → a.log ≡ b.log
-    → ((at : Loc) → HasLoc o.stages at → a.seen at ≡ b.seen at)
+    → ((at : Loc) → IsLocation o.stages at → a.seen at ≡ b.seen at)
     → IsNext o w a kind x × IsReady o w a kind x
     → IsNext o w b kind x × IsReady o w b kind x
 
@@ -81,7 +82,7 @@ module _ {Cell : Type 0} (q : QueryFacts Cell) (job : JobFacts) where
 
   -- what was seen to be over is over in a log that grew
   abbrev pub SeenStaysDone : Type 0
-  SeenStaysDone = (w : ℕ) (old new : Log) (seen : Seen) → LogGrows old new → SeenIsDone q job w old seen → SeenIsDone q job w new seen
+  SeenStaysDone = (w : ℕ) (old new : Log) (seen : Seen) → LogGrows old new → SeenIsDone (outline_of q job) w old seen → SeenIsDone (outline_of q job) w new seen
 
   -- Each step keeps the log of its worker legal, by what the parts say of it
   pub record StepsStayLegal (w : ℕ) (log : Log) (seen : Seen) : Type 0 where
@@ -97,7 +98,7 @@ module _ {Cell : Type 0} (q : QueryFacts Cell) (job : JobFacts) where
 
   abbrev pub StepsAlwaysStayLegal : Type 0
   StepsAlwaysStayLegal =
-      (w : ℕ) (log : Log) (seen : Seen) → w < job.shape.workers → LogIsLegal (outline_of q job) w log → SeenIsDone q job w log seen → StepsStayLegal w log seen
+      (w : ℕ) (log : Log) (seen : Seen) → w < job.shape.workers → LogIsLegal (outline_of q job) w log → SeenIsDone (outline_of q job) w log seen → StepsStayLegal w log seen
 
   -- What ingesting does to the router of stage 0, and which record is ingested next: that of the index at the next place of the job's share
   pub record SharesAreIngested (w : ℕ) (log : Log) : Type 0 where
@@ -138,8 +139,8 @@ module _ {Cell : Type 0} (q : QueryFacts Cell) (job : JobFacts) where
   pub record ConditionsAreTold (p : Parts Cell) (posted : Log) : Type 0 where
     pub ingest : (x : Name) → IsPrefix (p.log.ingested ++ x ∷ []) (share (outline_of q job) p.number) → CanDo p posted Ingest x
     pub no_ingest : ((x : Name) → IsPrefix (p.log.ingested ++ x ∷ []) (share (outline_of q job) p.number) → ⊥) → (x : Name) → CanDo p posted Ingest x → ⊥
-    pub send_control : p.number ≡ 0 → p.next.0 < length job.controls → CanDo p posted SendControl (Ctrl p.next.0 p.next.1)
-    pub no_send_control : (p.number ≡ 0 → length job.controls ≤ p.next.0) → (x : Name) → CanDo p posted SendControl x → ⊥
+    pub send_control : p.number ≡ 0 → p.next.index < length job.controls → CanDo p posted SendControl (Ctrl p.next.index p.next.receiver)
+    pub no_send_control : (p.number ≡ 0 → length job.controls ≤ p.next.index) → (x : Name) → CanDo p posted SendControl x → ⊥
     pub extract : (j b t : ℕ) → j < job.shape.stages → IsLeast (IsDueHere (outline_of q job) p.log p.seen p.number j) (Packet j b t) → HasReached (seen_at p.seen (HostLoc j)) t → CanDo p posted (Extract j) (Packet j b t)
     pub no_extract : (j : ℕ) → ((b t : ℕ) → IsLeast (IsDueHere (outline_of q job) p.log p.seen p.number j) (Packet j b t) → HasReached (seen_at p.seen (HostLoc j)) t → ⊥) → (x : Name) → CanDo p posted (Extract j) x → ⊥
     pub settle : (j t : ℕ) → IsLeast (IsUnsettled (outline_of q job) p.log j) (Settled j t) → HasPassed (seen_at p.seen CtlMail) t → ((b : ℕ) → IsOwedBy (outline_of q job) p.number (Packet j b t) → In (Packet j b t) p.log.sent) → CanDo p posted (Settle j) (Settled j t)

@@ -3,7 +3,4 @@ pub mod Parts
 pub mod Machine
 pub mod Given
 pub mod Laws
-pub mod Onward
 pub mod Kept
-pub mod Tallies
-pub mod Samples

@@ -1,6 +1,6 @@
 use Rattle.std.proofs.Common.{[], ◌∷◌, arith, length-append}
 use Rattle.mp_names.specs.Logs.{empty_log}
-use Rattle.mp_worker_invariant.specs.Kept.{IsHostAt}
+use Rattle.mp_worker_invariant.specs.Parts.{IsHostAt}
 use Rattle.mp_worker.proofs.Begun.{one_more_at}
 use Rattle.mp_worker.proofs.beginning.new_hosts.Goals as goal
 

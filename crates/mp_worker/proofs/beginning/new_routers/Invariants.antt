@@ -1,7 +1,6 @@
 use Rattle.std.proofs.Common.{◌≡◌, ℕ, length}
 use Rattle.mp_names.specs.Logs.{empty_log}
-use Rattle.mp_worker_invariant.specs.Kept.{IsRouterAt}
-use Rattle.mp_worker_invariant.specs.Parts.{AtEach}
+use Rattle.mp_worker_invariant.specs.Parts.{AtEach, IsRouterAt}
 use Rattle.mp_worker.proofs.beginning.new_routers.Given as goal
 
 abbrev pub invariant-loop-stage : goal.invariant-loop-stage

@@ -11,7 +11,7 @@ push-requires-clause-changes g c κs within =
     let q = g.Q.Query.facts job.rules in
     let log = c.args.log.now in
     let count : c.if-unsettled.count ≡ cond c.unsettled.result 1 2 = elim c.if-unsettled.branch [ then-unsettled w ↦ rw w.if-unsettled.true w.count-is | else-unsettled w ↦ rw w.if-unsettled.false w.count-is ] in
-    rw c.worker.ensures (control_changes q job log.worker log.log c.args.index c.args.control c.requires.control c.requires.fresh c.args.movers.now c.requires.movers c.unsettled.result c.unsettled.ensures.told c.if-unsettled.count count)
+    rw (c.worker.ensures, c.one_less.ensures, c.one_more.ensures) (control_changes q job log.worker log.log c.args.index c.args.control c.requires.control c.requires.fresh c.args.movers.now c.requires.movers c.unsettled.result c.unsettled.ensures.told c.if-unsettled.count count)
 
 pub note-requires-clause-not_yet : goal.note-requires-clause-not_yet
 note-requires-clause-not_yet g c =

@@ -12,7 +12,7 @@ push-requires-clause-changes g c κs within =
     let sound = outline_is_sound q (laws.has_stages job.rules) (laws.posts_are_later job.rules) (laws.later_stages_post_nothing job.rules) job c.requires.job in
     let log = c.args.log.now in
     let count : c.if-waits.count ≡ cond c.waits.result 1 2 = elim c.if-waits.branch [ then-waits w ↦ rw w.if-waits.true w.count-is | else-waits w ↦ rw w.if-waits.false w.count-is ] in
-    record_changes q job log.worker log.log c.args.stage c.args.rec c.args.host.now c.requires.host c.requires.legal c.args.name c.requires.name c.requires.fresh sound c.requires.owed c.waits.result c.waits.ensures.told c.if-waits.count count
+    rw (c.one_less.ensures, c.one_more.ensures) (record_changes q job log.worker log.log c.args.stage c.args.rec c.args.host.now c.requires.host c.requires.legal c.args.name c.requires.name c.requires.fresh sound c.requires.owed c.waits.result c.waits.ensures.told c.if-waits.count count)
 
 pub returns-clause-host : goal.returns-clause-host
 returns-clause-host g c =

@@ -10,7 +10,7 @@ use Rattle.mp_outline.specs.JobOutline.{name_of_record}
 use Rattle.mp_msg.specs.Contents.{IsRecordOf}
 use Rattle.mp_route.specs.Routed.{Routed}
 use Rattle.mp_route.specs.Unsent.{HoldsAllBut, HoldsUnsent}
-use Rattle.mp_worker_invariant.specs.Onward.{content, records_at}
+use Rattle.mp_parts.specs.Onward.{content, records_at}
 use Rattle.mp_worker.proofs.Applied.{AppliesBy, Fields, all_written, can_apply, changes_are, changes_length, in_time, informed, kept_so_far, kept_with_records, kept_with_room, kept_with_rows, keyed, knows, none_to_apply, records_are, router_at, rows_are, same_length}
 use Rattle.mp_worker.proofs.Counted.{woken_once}
 use Rattle.mp_worker.proofs.worker.Worker.apply.Goals as goal

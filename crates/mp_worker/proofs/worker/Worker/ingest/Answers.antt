@@ -61,7 +61,7 @@ push-requires-clause-changes g c κs within =
     let share = rw kept.same at c.share.ensures in
     let found = c.in-Some.ensures.lookup.3 in
     let next = next_record q job sound _ kept.parts c.self.inside.number kept.number _ c.names-next.ensures _ share _ _ found.0 (found.1 _) (rw kept.same at c.in_ok-rec.ensures) in
-    rw c.in_ok-make_room.ensures.made (ingested_counts q job sound _ kept.parts _ next)
+    rw (c.in_ok-make_room.ensures.made, c.one_less.ensures, c.one_more.ensures) (ingested_counts q job sound _ kept.parts _ next)
 
 pub invariant_of-self-2 : goal.invariant_of-self-2
 invariant_of-self-2 g c =

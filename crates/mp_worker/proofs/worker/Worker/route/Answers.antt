@@ -40,7 +40,7 @@ send-requires-clause-changes g c = λ κs b.
     let may = goes here c.in-Some.rec c.self.inside.seen c.in-Some.ensures.may_go in
     let i = c.self.inside in
     let r = c.in-Some.rec in
-    rw (c.in_ok-make_room.ensures.made, c.rec.ensures) (record_sent (outline_of (g.Q.Query.facts job.rules) job) i.log.worker i.log.log sound c.args.stage r.time r.key r.tag may.0.0)
+    rw (c.in_ok-make_room.ensures.made, c.rec.ensures, c.one_less.ensures, c.one_more.ensures) (record_sent (outline_of (g.Q.Query.facts job.rules) job) i.log.worker i.log.log sound c.args.stage r.time r.key r.tag may.0.0)
 
 pub send-requires-clause-ends : goal.send-requires-clause-ends
 send-requires-clause-ends g c = λ κs b.

@@ -16,7 +16,7 @@ send-requires-clause-may g c κs within =
     let kept = c.self.invariant in
     let sound = outline_is_sound (g.Q.Query.facts job.rules) (laws.has_stages job.rules) (laws.posts_are_later job.rules) (laws.later_stages_post_nothing job.rules) job kept.legal in
     let all = c.controls.ensures ∙ ap (λ (f : JobFacts). f.controls) kept.same in
-    let listed = subst (λ (cs : List Control). c.self.inside.next.0 < length cs) all c.in-Some.ensures.lookup.3.0 in
+    let listed = subst (λ (cs : List Control). c.self.inside.next.index < length cs) all c.in-Some.ensures.lookup.3.0 in
     rw (c.in_ok-make_room.ensures.made, c.control-message.ensures) (may_send_control kept refl c.if-self-ne0.false sound listed)
 
 pub send-requires-clause-changes : goal.send-requires-clause-changes
@@ -26,9 +26,9 @@ send-requires-clause-changes g c κs within =
     let kept = c.self.invariant in
     let sound = outline_is_sound (g.Q.Query.facts job.rules) (laws.has_stages job.rules) (laws.posts_are_later job.rules) (laws.later_stages_post_nothing job.rules) job kept.legal in
     let all = c.controls.ensures ∙ ap (λ (f : JobFacts). f.controls) kept.same in
-    let listed = subst (λ (cs : List Control). c.self.inside.next.0 < length cs) all c.in-Some.ensures.lookup.3.0 in
-    let control : c.in-Some.control.now ≡ control_of job.controls c.self.inside.next.0 = c.in-Some.ensures.lookup.3.1 no_control ∙ ap (λ (cs : List Control). control_of cs c.self.inside.next.0) all in
-    rw (c.in_ok-make_room.ensures.made, c.control-message.ensures, control) (control_counted kept refl c.if-self-ne0.false sound listed)
+    let listed = subst (λ (cs : List Control). c.self.inside.next.index < length cs) all c.in-Some.ensures.lookup.3.0 in
+    let control : c.in-Some.control.now ≡ control_of job.controls c.self.inside.next.index = c.in-Some.ensures.lookup.3.1 no_control ∙ ap (λ (cs : List Control). control_of cs c.self.inside.next.index) all in
+    rw (c.in_ok-make_room.ensures.made, c.control-message.ensures, c.one_less.ensures, c.one_more.ensures, control) (control_counted kept refl c.if-self-ne0.false sound listed)
 
 pub send-requires-clause-ends : goal.send-requires-clause-ends
 send-requires-clause-ends g c κs within =
@@ -41,7 +41,7 @@ returns-in_default-send-clause-none g c =
     let kept = c.self.invariant in
     let sound = outline_is_sound (g.Q.Query.facts job.rules) (laws.has_stages job.rules) (laws.posts_are_later job.rules) (laws.later_stages_post_nothing job.rules) job kept.legal in
     let all = c.controls.ensures ∙ ap (λ (f : JobFacts). f.controls) kept.same in
-    let listed = subst (λ (cs : List Control). c.self.inside.next.0 < length cs) all c.in-Some.ensures.lookup.3.0 in
+    let listed = subst (λ (cs : List Control). c.self.inside.next.index < length cs) all c.in-Some.ensures.lookup.3.0 in
     let full = rw c.in_ok-make_room.ensures.made at c.in_default-send.ensures.full in
     rw (← c.self.view_is) (λ x can. rw (← one_control kept refl c.if-self-ne0.false sound listed x can) (edge_told kept refl _ refl (g.P.Post.was_full c.args.post.now) _ _ refl full))
 
@@ -57,10 +57,10 @@ invariant_of-self-2 g c =
     let kept = c.self.invariant in
     let sound = outline_is_sound (g.Q.Query.facts job.rules) (laws.has_stages job.rules) (laws.posts_are_later job.rules) (laws.later_stages_post_nothing job.rules) job kept.legal in
     let all = c.controls.ensures ∙ ap (λ (f : JobFacts). f.controls) kept.same in
-    let listed = subst (λ (cs : List Control). c.self.inside.next.0 < length cs) all c.in-Some.ensures.lookup.3.0 in
+    let listed = subst (λ (cs : List Control). c.self.inside.next.index < length cs) all c.in-Some.ensures.lookup.3.0 in
     let n = c.self.inside.next in
     let workers = ap (λ (s : Shape). s.workers) c.shape.ensures.shape ∙ ap (λ (f : JobFacts). f.shape.workers) kept.same in
-    let place : c.place_after-self-inside.result ≡ place_after job.shape.workers (n.0, n.1) = c.place_after-self-inside.ensures ∙ ap (λ w. place_after w (n.0, n.1)) workers in
+    let place : c.place_after-self-inside.result ≡ place_after job.shape.workers n = c.place_after-self-inside.ensures ∙ ap (λ w. place_after w n) workers in
     let worker = rw c.in_ok-make_room.ensures.made at c.in-Ok.ensures.worker in
     let sent = rw (c.in_ok-make_room.ensures.made, c.control-message.ensures) at c.in-Ok.ensures.sent in
     rw place (control_kept kept refl c.if-self-ne0.false sound listed c.send.new.log worker sent)

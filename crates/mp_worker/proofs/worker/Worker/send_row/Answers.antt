@@ -28,7 +28,7 @@ send-requires-clause-changes g c = λ κs b.
     let least = least_row c.self.invariant.parts.unsent c.in-Some.ensures.some c.in-Some.ensures.in_order in
     let i = c.self.inside in
     let row = c.in-Some.field-0 in
-    rw (c.in_ok-make_room.ensures.made, c.row-row.ensures) (row_sent (outline_of (g.Q.Query.facts job.rules) job) i.log.worker i.log.log sound row.time row.tag least.0)
+    rw (c.in_ok-make_room.ensures.made, c.row-row.ensures, c.one_less.ensures, c.one_more.ensures) (row_sent (outline_of (g.Q.Query.facts job.rules) job) i.log.worker i.log.log sound row.time row.tag least.0)
 
 pub send-requires-clause-ends : goal.send-requires-clause-ends
 send-requires-clause-ends g c = λ κs b.

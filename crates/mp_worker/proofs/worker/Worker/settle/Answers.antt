@@ -28,7 +28,7 @@ push-requires-clause-changes g c κs within =
     let sound = outline_is_sound (g.Q.Query.facts job.rules) (laws.has_stages job.rules) (laws.posts_are_later job.rules) (laws.later_stages_post_nothing job.rules) job kept.legal in
     let m = c.index_mut-movers.result.now in
     let at = movers_at kept sound c.args.stage c.requires.stage m c.index_mut-movers.ensures.value in
-    rw c.in_ok-make_room.ensures.made (settled_counted kept refl sound c.args.stage c.requires.stage m at c.in-Some.time c.in-Some.ensures.may_settle)
+    rw (c.in_ok-make_room.ensures.made, c.one_less.ensures) (settled_counted kept refl sound c.args.stage c.requires.stage m at c.in-Some.time c.in-Some.ensures.may_settle)
 
 pub invariant_of-self-2 : goal.invariant_of-self-2
 invariant_of-self-2 g c =

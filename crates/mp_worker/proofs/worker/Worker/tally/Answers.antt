@@ -1,6 +1,6 @@
 use Rattle.std.proofs.Common.{◌∙◌, ℕ, ap}
-use Rattle.mp_worker_invariant.proofs.Tallied.{names_moved}
-use Rattle.mp_worker_invariant.specs.Tallies.{sent_packets}
+use Rattle.mp_parts.proofs.Tallied.{names_moved}
+use Rattle.mp_parts.specs.Tallies.{sent_packets}
 use Rattle.mp_worker.proofs.worker.Worker.tally.Goals as goal
 
 pub returns-clause-moved : goal.returns-clause-moved

@@ -2,9 +2,9 @@ use Rattle.std.proofs.Common.{◌≡◌, ◌∙◌, ap, arith}
 use Rattle.std.proofs.Math.Seq.{map-set_same}
 use Rattle.std.proofs.lemmas.Option.{slice_get_within}
 use Rattle.std.proofs.lemmas.Result.{on_ok_weaker}
-use Rattle.mp_worker_invariant.specs.Onward.{content}
-use Rattle.mp_worker_invariant.proofs.OneByOne.{new_there, some_there}
-use Rattle.mp_worker_invariant.proofs.onward.make_room_onward.Goals as goal
+use Rattle.mp_parts.specs.Onward.{content}
+use Rattle.mp_parts.proofs.OneByOne.{new_there, some_there}
+use Rattle.mp_parts.proofs.onward.make_room_onward.Goals as goal
 
 pub returns-then-at-routers-clause-held : goal.returns-then-at-routers-clause-held
 returns-then-at-routers-clause-held g c =

@@ -8,7 +8,7 @@ use Rattle.mp_model.specs.Facts.{JobFacts, QueryFacts}
 use Rattle.mp_handoff.specs.declared.sent.Sent.{Sent}
 use Rattle.mp_handoff.specs.Keys.{HasKeys}
 use Rattle.mp_handoff.specs.MoversState.{MoversState}
-use Rattle.mp_worker_invariant.specs.declared.tally.Moved.{Moved}
+use Rattle.mp_parts.specs.declared.tally.Moved.{Moved}
 
 -- a packet of a stage that was sent
 abbrev pub moved_of : ℕ → Sent → Moved

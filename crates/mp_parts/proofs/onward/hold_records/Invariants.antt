@@ -1,8 +1,8 @@
 -- The records of the values that are left are still to be held.
 use Rattle.std.proofs.Common.{◌≡◌, ◌+◌}
 use Rattle.std.specs.Vec.Iter.{into_iter_items, into_iter_len}
-use Rattle.mp_worker_invariant.proofs.OneByOne.{RecordsLeft}
-use Rattle.mp_worker_invariant.proofs.onward.hold_records.Given as goal
+use Rattle.mp_parts.proofs.OneByOne.{RecordsLeft}
+use Rattle.mp_parts.proofs.onward.hold_records.Given as goal
 
 abbrev pub invariant-loop-value : goal.invariant-loop-value
 invariant-loop-value g l =

@@ -14,10 +14,9 @@ use Rattle.mp_handoff.specs.declared.sent.Sent.{Sent}
 use Rattle.mp_handoff.specs.Keys.{SentHasKeys}
 use Rattle.mp_handoff.specs.MoversState.{MoversState}
 use Rattle.mp_handoff.specs.MoversOf.{packets_of}
-use Rattle.mp_worker_invariant.specs.declared.tally.Moved.{Moved}
-use Rattle.mp_worker_invariant.specs.Kept.{AreMoversAt}
-use Rattle.mp_worker_invariant.specs.Parts.{AtEach}
-use Rattle.mp_worker_invariant.specs.Tallies.{MovedHasKeys, moved_by, moved_of, name_of_moved, sent_packets}
+use Rattle.mp_parts.specs.declared.tally.Moved.{Moved}
+use Rattle.mp_worker_invariant.specs.Parts.{AreMoversAt, AtEach}
+use Rattle.mp_parts.specs.Tallies.{MovedHasKeys, moved_by, moved_of, name_of_moved, sent_packets}
 
 -- what the packets of a stage are called
 names_of : (j : ℕ) (sent : List Sent) → map name_of_moved (map (moved_of j) sent) ≡ packets_of j sent

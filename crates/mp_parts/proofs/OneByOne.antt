@@ -21,7 +21,7 @@ use Rattle.mp_output.specs.Unwritten.{Unwritten, place_rank}
 use Rattle.mp_worker_invariant.specs.Given.{output_at}
 use Rattle.mp_worker_invariant.specs.Parts.{HoldsRowsBut}
 use Rattle.mp_worker_invariant.proofs.InTurn.{row_is_held}
-use Rattle.mp_worker_invariant.specs.Onward.{records_at}
+use Rattle.mp_parts.specs.Onward.{records_at}
 
 -- Lists with a new element
 

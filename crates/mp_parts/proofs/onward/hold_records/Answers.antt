@@ -1,8 +1,8 @@
 use Rattle.std.proofs.Common.{◌∙◌, List, subst, sym, arith}
 use Rattle.std.specs.Vec.Iter.{into_iter_items}
 use Rattle.mp_model.specs.declared.value.Value.{Value}
-use Rattle.mp_worker_invariant.proofs.OneByOne.{RecordsLeft, all_left, next_is, next_left, none_left}
-use Rattle.mp_worker_invariant.proofs.onward.hold_records.Goals as goal
+use Rattle.mp_parts.proofs.OneByOne.{RecordsLeft, all_left, next_is, next_left, none_left}
+use Rattle.mp_parts.proofs.onward.hold_records.Goals as goal
 
 pub loop-value-init : goal.loop-value-init
 loop-value-init g c =

@@ -1,9 +1,9 @@
 use Rattle.std.proofs.Common.{◌++◌, ◌∙◌, List, ap, map, sym}
 use Rattle.std.proofs.lemmas.List.Elements.{All-append}
-use Rattle.mp_worker_invariant.specs.declared.tally.Moved.{Moved}
-use Rattle.mp_worker_invariant.specs.Tallies.{MovedHasKeys, moved_of}
-use Rattle.mp_worker_invariant.proofs.Tallied.{keys_moved, one_more_read}
-use Rattle.mp_worker_invariant.proofs.tally.moved_so_far.Goals as goal
+use Rattle.mp_parts.specs.declared.tally.Moved.{Moved}
+use Rattle.mp_parts.specs.Tallies.{MovedHasKeys, moved_of}
+use Rattle.mp_parts.proofs.Tallied.{keys_moved, one_more_read}
+use Rattle.mp_parts.proofs.tally.moved_so_far.Goals as goal
 
 pub loop-one-preserved : goal.loop-one-preserved
 loop-one-preserved g c =

@@ -1,6 +1,5 @@
 //! Where the outputs of a group go: to the router of the next stage, and from the last one to the answer rows to be sent.
-ghost use Rattle.std.specs.Prelude.{◌≡◌, ◌==◌, ◌≤◌, ◌<◌, ◌+◌, ℕ, suc, [], All, Contains, IsOk, IsSome, None, OnOk, Some, length, map, slice_get, if◌then◌else◌};
-ghost use Rattle.mp_names.specs.declared.locations.Loc.TheVariants.{OutRoute, Route};
+ghost use Rattle.std.specs.Prelude.{◌≡◌, ◌≤◌, ◌<◌, ◌+◌, ℕ, [], All, Contains, IsOk, IsSome, None, OnOk, Some, length, map, slice_get};
 ghost use Rattle.mp_names.specs.Logs.{Log};
 ghost use Rattle.mp_names.specs.Limits.{last_time};
 ghost use Rattle.mp_model.specs.Folds.{outputs_at};
@@ -9,7 +8,8 @@ ghost use Rattle.mp_outline.specs.JobOutline.{name_of_record, name_of_row};
 ghost use Rattle.mp_msg.specs.Contents.{IsRecordOf};
 ghost use Rattle.mp_route.specs.Routed.{Routed};
 ghost use Rattle.mp_route.specs.Unsent.{HoldsAllBut, HoldsUnsent};
-ghost use Rattle.mp_worker_invariant.specs.Onward.{content, records_at};
+ghost use Rattle.mp_count_laws.specs.Changes.{location_after};
+ghost use Rattle.mp_parts.specs.Onward.{content, records_at};
 ghost use Rattle.mp_worker_invariant.specs.Parts.{HoldsRowsBut};
 
 use mp_model::{Naming, Output, Query, Rec, Time, Value};
@@ -21,7 +21,7 @@ use std::alloc::AllocError;
 /// The location at which the outputs of a stage are counted until they are sent.
 pub fn location_after(stage: u32, stages: u32) -> Loc
     requires { stage < stages }
-    ensures { result ≡ (if suc stage == stages then OutRoute else Route (suc stage)) }
+    ensures { result ≡ location_after stage stages }
 {
     if stage + 1 == stages {
         Loc::OutRoute
@@ -52,7 +52,7 @@ pub fn make_room_onward<Q: Query, J: Naming>(
 }
 
 /// Gives the outputs of a group, which has this time and key, to the router of a stage, each as a record of its own key and
-/// with its place in its tag. The router has room for them, so the answer is always `Ok`.
+/// with its place in its tag. The router has room for them, so `AllocError` never comes.
 pub fn hold_records<Q: Query, J: Naming>(
     query: &Q,
     stage: u32,
@@ -93,7 +93,7 @@ pub fn hold_records<Q: Query, J: Naming>(
 }
 
 /// Gives the outputs of a group of the last stage, which has this time and key, to the answer rows to be sent, each with its
-/// place in its tag. There is room for them, so the answer is always `Ok`.
+/// place in its tag. There is room for them, so `AllocError` never comes.
 pub fn hold_rows<Q: Query, J: Naming>(
     time: Time,
     group: u64,
