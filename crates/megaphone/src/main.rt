@@ -1,11 +1,14 @@
+//! Layer: the command.
+//!
 //! The program: the words of the command line, the files of the system and standard output.
 #![tactic(auto)]
 
-ghost use Rattle.std.specs.Prelude.{◌≡◌, ◌⊎◌, None, OnSome, IfSome};
+ghost use Rattle.std.specs.Prelude.{◌≡◌, ◌⊎◌, None};
 ghost use Rattle.std.specs.Process.{exit_status};
+ghost use Rattle.mp_outside.specs.Fault.{Rose};
 ghost use Rattle.mp_outside.specs.Files.{SameFiles};
 ghost use Rattle.mp_words.specs.Words.{command_in};
-ghost use Rattle.mp_cli.specs.Ends.{ComesWhere, IsAnswered, IsRefusal};
+ghost use Rattle.mp_cli.specs.Ends.{ComesWhere, IsCommandAnswered, IsRefusal, MaySay, Says};
 ghost use Rattle.mp_cli.specs.Outcome.{MayCome, Outcome, status_of};
 
 use mp_cli::{lack_memory, run};
@@ -42,9 +45,16 @@ fn answer<D: Depot, S: Sink, R: AllocGlobal>(
     ensures usage { ComesWhere 2 (exit_status result) (command_in words.now ≡ None) }
     ensures outcome { (outcome : Outcome) × MayCome (command_in words.now) (D.files depot.old) outcome
         × (status_of outcome ≡ exit_status result) }
-    ensures answer { exit_status result ≡ 0 → OnSome (D.files depot.old)
-        (IfSome (command_in words.now) (IsAnswered (D.files depot.old) (D.files depot.new))) }
+    ensures read_fault { exit_status result ≡ 6
+        → Rose (D.read_faults depot.old) (D.read_faults depot.new) }
+    ensures write_fault { exit_status result ≡ 7
+        → Rose (D.write_faults depot.old) (D.write_faults depot.new) }
+    ensures answer { exit_status result ≡ 0
+        → IsCommandAnswered (command_in words.now) (D.files depot.old) (D.files depot.new) }
     ensures untouched { IsRefusal (exit_status result) → SameFiles (D.files depot.old) (D.files depot.new) }
+    ensures said { Says (S.written said.old) (S.written said.new)
+        (MaySay (command_in words.now) (D.files depot.old) (exit_status result))
+        (Rose (S.faults said.old) (S.faults said.new) ⊎ (exit_status result ≡ 8)) }
 {
     let status = run(rt, words, depot, said, &OpenGate);
     ExitCode::from(status.code)

@@ -12,7 +12,7 @@ use Rattle.mp_control.specs.declared.refused.ControlReason.{ControlReason}
 use Rattle.mp_control.specs.Controls.{controls_of}
 use Rattle.mp_names.specs.declared.controls.Control.{Control}
 use Rattle.mp_model.specs.declared.record.Event.{Event}
-use Rattle.mp_cli.specs.Ends.{ComesWhere, IsLineAt, Says}
+use Rattle.mp_cli.specs.Ends.{ComesWhere, MaySay, Says}
 use Rattle.mp_cli.specs.Outcome.{Outcome, Answered, Usage, EventsRefused, ConfigRefused, NoFile, ReadFault, WriteFault, NoMemory, TooLarge, status_of, line_said, with_text, unless_refused, config_refusal, events_refusal, refusal_of_config, refusal_of_events, after_config, after_events, called_for, MayCome, MayFail, IsOfCommand}
 use Rattle.mp_words.specs.Values.{Options}
 
@@ -122,10 +122,6 @@ complete_at (Some given) (Some files) (EventsRefused line why) code reads writes
 complete_at (Some given) (Some files) (ConfigRefused line why) code reads writes (inr fault) (inl e) read write asked is some answered no_reads no_writes = absurd fault
 complete_at (Some given) (Some files) (NoFile name) code reads writes (inr fault) (inl e) read write asked is some answered no_reads no_writes = absurd fault
 complete_at (Some given) (Some files) (TooLarge name) code reads writes (inr fault) (inl e) read write asked is some answered no_reads no_writes = absurd fault
-
--- what the sink may say at this status
-abbrev pub MaySay : Option Options → Option Files → ℕ → List ℕ → Type 0
-MaySay command told status line = (code : ℕ) × ((code ≡ status) ⊎ (status ≡ 8)) × IsLineAt command told code line
 
 -- nothing is said where there is an answer
 pub says_nothing_at : (command : Option Options) (told : Option Files) (written : Option (List ℕ)) (else_so : Type 0) → MayCome command told Answered → Says written written (MaySay command told 0) else_so

@@ -13,7 +13,7 @@ use Rattle.mp_q_simple.specs.Q1.{q1_facts, row as row_of_q1}
 use Rattle.mp_q_simple.specs.Q2.{q2_facts, row as row_of_q2}
 use Rattle.mp_q_join.specs.Q3.{q3_facts}
 use Rattle.mp_q_join.specs.declared.home.Home.{Home}
-use Rattle.mp_q_join.specs.Joining.{Kept, after_value, row_of, rows_along, rows_of_home, rows_of_value}
+use Rattle.mp_q_join.specs.Joining.{PersonCell, after_value, row_of, rows_along, rows_of_home, rows_of_value}
 use Rattle.mp_q_window.specs.Counts.{greatest_of, row_at}
 use Rattle.mp_q_window.specs.Q5.{q5_facts}
 
@@ -69,7 +69,7 @@ of_auction : (home : Option Home) (id : ℕ) → All IsRow (option_to_list (opti
 of_auction (Some home) id = listed (Some (row_of home id)) tt
 of_auction None id = All-nil IsRow
 
-of_value : (cell : Kept) (v : Value) → All IsRow (rows_of_value cell v)
+of_value : (cell : PersonCell) (v : Value) → All IsRow (rows_of_value cell v)
 of_value cell (Person id name city state) = of_home (is_some cell.home) _ cell.waiting
 of_value cell (Auction id seller category reserve expires) = of_auction cell.home id
 of_value cell (Bid auction bidder price) = All-nil IsRow
@@ -77,7 +77,7 @@ of_value cell (Sale of price) = All-nil IsRow
 of_value cell (Count auction count) = All-nil IsRow
 of_value cell (Row fields) = All-nil IsRow
 
-along : (cell : Kept) (rs : List Rec) → All IsRow (rows_along cell rs)
+along : (cell : PersonCell) (rs : List Rec) → All IsRow (rows_along cell rs)
 along cell [] = All-nil IsRow
 along cell (r ∷ rs) = All-append IsRow (rows_of_value cell r.value) (rows_along (after_value cell r.value) rs) (of_value cell r.value) (along (after_value cell r.value) rs)
 

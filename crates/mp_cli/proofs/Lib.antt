@@ -1,7 +1,7 @@
 mod Codes
 mod Coming
 mod Ending
-mod GivingRows
+pub mod GivingRows
 mod Joined
 mod Parts
 mod Written

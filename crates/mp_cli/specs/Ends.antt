@@ -1,5 +1,6 @@
 -- What is promised of the end of a call.
-use Rattle.std.specs.Prelude.{ℕ, ◌≡◌, ◌≢◌, ◌⊎◌, ◌≤◌, Option, Some, None, Ok, List, take, length, IfSome}
+use Rattle.std.specs.Prelude.{ℕ, ◌≡◌, ◌≢◌, ◌⊎◌, ◌≤◌, Bool, false, Option, Some, None, Ok, List, take, length}
+use Rattle.std.specs.Prelude.{IfSome, OnSome}
 use Rattle.mp_model.specs.declared.record.Event.{Event}
 use Rattle.mp_outside.specs.Files.{Files, file_at}
 use Rattle.mp_outside.specs.Sink.{grown}
@@ -17,17 +18,20 @@ pub record HasEvents (told : Option Files) (name : List ℕ) (events : List Even
 -- the name after `--out` holds exactly the query's one-thread answer to the events
 abbrev pub IsAnswered : Option Files → Option Files → Options → Type 0
 IsAnswered old new asked =
-    (events : List Event) × HasEvents old asked.events events × (file_at new asked.out ≡ Some (answer_of asked.query events))
+    (events : List Event) × HasEvents old asked.events events
+    × (file_at new asked.out ≡ Some (answer_of asked.query events))
 
 -- the name after `--out` is as it was, or holds the first bytes of the answer
 abbrev pub IsAnsweredInPart : Option Files → Option Files → Options → Type 0
 IsAnsweredInPart old new asked =
     (file_at new asked.out ≡ file_at old asked.out)
-    ⊎ ((events : List Event) × (k : ℕ) × HasEvents old asked.events events × (file_at new asked.out ≡ Some (take k (answer_of asked.query events))))
+    ⊎ ((events : List Event) × (k : ℕ) × HasEvents old asked.events events
+    × (file_at new asked.out ≡ Some (take k (answer_of asked.query events))))
 
 -- the statuses at which the files are as they were
 abbrev pub IsRefusal : ℕ → Type 0
-IsRefusal code = (code ≡ 2) ⊎ ((code ≡ 3) ⊎ ((code ≡ 4) ⊎ ((code ≡ 5) ⊎ ((code ≡ 6) ⊎ (code ≡ 9)))))
+IsRefusal code =
+    (code ≡ 2) ⊎ ((code ≡ 3) ⊎ ((code ≡ 4) ⊎ ((code ≡ 5) ⊎ ((code ≡ 6) ⊎ (code ≡ 9)))))
 
 -- the name is not that after `--out`
 abbrev pub IsOther : Option Options → List ℕ → Type 0
@@ -39,6 +43,11 @@ pub record IsLineAt (command : Option Options) (told : Option Files) (code : ℕ
   pub may : MayCome command told outcome
   pub status : status_of outcome ≡ code
   pub said : line_said outcome ≡ line
+
+-- a line that may be said at this status: its own line, or with status 8 that of any outcome that may come
+abbrev pub MaySay : Option Options → Option Files → ℕ → List ℕ → Type 0
+MaySay command told status line =
+    (code : ℕ) × ((code ≡ status) ⊎ (status ≡ 8)) × IsLineAt command told code line
 
 -- the bytes grew by the first bytes of a line: by all of it, or something else is so
 pub record Says (old new : Option (List ℕ)) (IsLine : List ℕ → Type 0) (else_so : Type 0) : Type 0 where
@@ -56,3 +65,20 @@ ComesWhere status code cause = (code ≡ status → cause) × (cause → (code �
 abbrev pub IsInput : Option Options → List ℕ → Type 0
 IsInput None name = ⊥
 IsInput (Some asked) name = (name ≡ asked.events) ⊎ (name ≡ asked.config)
+
+module _ {D : Type 0} (found : D → List ℕ → Bool → D → Type 0) where
+  -- a `find` of a file that the command reads answered that it isn't there, and left the depot in this state
+  abbrev pub LacksInput : Option Options → D → Type 0
+  LacksInput command new = (before : D) × (name : List ℕ) × IsInput command name × found before name false new
+
+-- where the depot tells its files, the answer to the command is written
+abbrev pub IsCommandAnswered : Option Options → Option Files → Option Files → Type 0
+IsCommandAnswered command old new = OnSome old (IfSome command (IsAnswered old new))
+
+-- where the depot tells its files, the answer to the command is written in part, or nothing is
+abbrev pub IsCommandAnsweredInPart : Option Options → Option Files → Option Files → Type 0
+IsCommandAnsweredInPart command old new = OnSome old (IfSome command (IsAnsweredInPart old new))
+
+-- each name but that after `--out` holds what it held
+abbrev pub OthersStay : Option Options → Option Files → Option Files → Type 0
+OthersStay command old new = (name : List ℕ) → IsOther command name → file_at new name ≡ file_at old name

@@ -1,6 +1,8 @@
+-- What the contracts of this crate cite.
 pub mod Config
 pub mod Ends
 pub mod Outcome
 pub mod Queries
 pub mod Reading
 pub mod Refused
+pub mod Writing

@@ -1,5 +1,6 @@
 -- How a call can end: its status and its line.
-use Rattle.std.specs.Prelude.{ℕ, ◌≡◌, ◌⊎◌, ◌++◌, Option, Some, None, Result, Ok, Err, List, [], length, nat_le, codes, MatchOption, if◌then◌else◌}
+use Rattle.std.specs.Prelude.{ℕ, ◌≡◌, ◌⊎◌, ◌++◌, Option, Some, None, Result, Ok, Err, List, []}
+use Rattle.std.specs.Prelude.{length, nat_le, codes, MatchOption, if◌then◌else◌}
 use Rattle.std.specs.Fmt.{decimal}
 use Rattle.mp_model.specs.declared.record.Event.{Event}
 use Rattle.mp_events.specs.declared.refused.EventsReason.{EventsReason}
@@ -43,8 +44,10 @@ status_of (TooLarge name) = 9
 abbrev pub line_said : Outcome → List ℕ
 line_said Answered = []
 line_said Usage = codes "usage: megaphone run|replay|check|make|demo\n"
-line_said (EventsRefused line why) = codes "events line " ++ (decimal line ++ (codes ": " ++ (reason_text why ++ codes "\n")))
-line_said (ConfigRefused line why) = codes "config line " ++ (decimal line ++ (codes ": " ++ (text_of_control why ++ codes "\n")))
+line_said (EventsRefused line why) =
+    codes "events line " ++ (decimal line ++ (codes ": " ++ (reason_text why ++ codes "\n")))
+line_said (ConfigRefused line why) =
+    codes "config line " ++ (decimal line ++ (codes ": " ++ (text_of_control why ++ codes "\n")))
 line_said (NoFile name) = codes "no file " ++ (name ++ codes "\n")
 line_said ReadFault = codes "read fault\n"
 line_said WriteFault = codes "write fault\n"
@@ -97,10 +100,11 @@ after_events config text = unless_refused (refusal_of_events text) config
 -- is read for the shape that the command asks for
 abbrev pub called_for : Option Files → Options → Outcome
 called_for told asked =
-    with_text asked.events (file_at told asked.events) (after_events (with_text asked.config (file_at told asked.config) (after_config (shape_of asked))))
+    with_text asked.events (file_at told asked.events)
+    (after_events (with_text asked.config (file_at told asked.config) (after_config (shape_of asked))))
 
--- A fault of the outside, or want of memory, may come in place of what is called for. The writing may fail only where an
--- answer is called for
+-- A fault of the outside, or want of memory, may come in place of what is called for. The writing may fail only
+-- where an answer is called for
 abbrev pub MayFail : Outcome → Outcome → Type 0
 MayFail called ReadFault = Unit {0}
 MayFail called WriteFault = called ≡ Answered
@@ -118,9 +122,10 @@ IsOfCommand asked (NoFile name) = (name ≡ asked.events) ⊎ (name ≡ asked.co
 IsOfCommand asked (TooLarge name) = (name ≡ asked.events) ⊎ (name ≡ asked.config)
 IsOfCommand asked _ = Unit {0}
 
--- The outcomes that may come. Words that are no command end as usage. Where the depot tells its files, a command ends as
--- these call for, or fails
+-- The outcomes that may come. Words that are no command end as usage. Where the depot tells its files, a command
+-- ends as these call for, or fails
 abbrev pub MayCome : Option Options → Option Files → Outcome → Type 0
 MayCome None told outcome = (outcome ≡ Usage) ⊎ (outcome ≡ NoMemory)
 MayCome (Some asked) told outcome =
-    MatchOption told (IsOfCommand asked outcome) (λ _. (outcome ≡ called_for told asked) ⊎ MayFail (called_for told asked) outcome)
+    MatchOption told (IsOfCommand asked outcome)
+    (λ _. (outcome ≡ called_for told asked) ⊎ MayFail (called_for told asked) outcome)

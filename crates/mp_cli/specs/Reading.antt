@@ -24,7 +24,8 @@ pub data CannotRead (told : Option Files) (name : List ℕ) : Outcome → Type 0
 -- why a file was refused: it gave no text, or one that is refused so
 abbrev pub RefusedBy : Option Files → List ℕ → (List ℕ → Option Outcome) → Outcome → Type 0
 RefusedBy told name refusal outcome =
-    CannotRead told name outcome ⊎ ((text : List ℕ) × IsRead told name text × (refusal text ≡ Some outcome))
+    CannotRead told name outcome
+    ⊎ ((text : List ℕ) × IsRead told name text × (refusal text ≡ Some outcome))
 
 -- the event file was read, and says these events
 abbrev pub ReadsEvents : Option Files → List ℕ → List Event → Type 0
@@ -32,4 +33,5 @@ ReadsEvents told name events = (text : List ℕ) × IsRead told name text × (ev
 
 -- the configuration was read, and says these control records for a job of this shape
 abbrev pub ReadsConfig : Option Files → List ℕ → Shape → List Control → Type 0
-ReadsConfig told name shape controls = (text : List ℕ) × IsRead told name text × (controls_of text shape ≡ Ok controls)
+ReadsConfig told name shape controls =
+    (text : List ℕ) × IsRead told name text × (controls_of text shape ≡ Ok controls)

@@ -3,9 +3,9 @@ ghost use Rattle.std.specs.Prelude.{◌≡◌, ◌≤◌, false, List, ℕ, IfOk
 ghost use Rattle.mp_job.specs.Legal.{ControlsFit};
 ghost use Rattle.mp_model.specs.Legal.{EventsAreLegal};
 ghost use Rattle.mp_outside.specs.Fault.{Rose};
-ghost use Rattle.mp_cli.specs.Outcome.{refusal_of_config, refusal_of_events, status_of};
+ghost use Rattle.mp_cli.specs.Outcome.{refusal_of_config, refusal_of_events};
 ghost use Rattle.mp_cli.specs.Reading.{CannotRead, IsRead, ReadsConfig, ReadsEvents, RefusedBy};
-ghost use Rattle.mp_cli.specs.Refused.{outcome_of};
+ghost use Rattle.mp_cli.specs.Refused.{EndsAs, outcome_of};
 
 use crate::refusal::Refusal;
 use mp_control::{Control, ControlRefused, Shape, read_control};
@@ -24,10 +24,12 @@ pub fn events_in<'a, D: Depot>(
 ) -> Result<Vec<Event>, Refusal<'a>>
     ensures events { IfOk result (λ v. ReadsEvents (D.files depot.old) name.now v.items) }
     ensures legal { IfOk result (λ v. EventsAreLegal v.items) }
-    ensures refused { IfErr result (λ r. RefusedBy (D.files depot.old) name.now refusal_of_events (outcome_of r)) }
+    ensures refused { IfErr result (λ r.
+        RefusedBy (D.files depot.old) name.now refusal_of_events (outcome_of r)) }
 
-    ensures failed { IfErr result (λ r. status_of (outcome_of r) ≡ 6 → Rose (D.read_faults depot.old) (D.read_faults depot.new)) }
-    ensures not_found { IfErr result (λ r. status_of (outcome_of r) ≡ 5 → D.found depot.old name.now false depot.new) }
+    ensures failed { IfErr result (λ r. EndsAs r 6
+        → Rose (D.read_faults depot.old) (D.read_faults depot.new)) }
+    ensures not_found { IfErr result (λ r. EndsAs r 5 → D.found depot.old name.now false depot.new) }
     ensures files { D.files depot.new ≡ D.files depot.old }
     ensures reads { D.read_faults depot.old ≤ D.read_faults depot.new }
     ensures writes { D.write_faults depot.new ≡ D.write_faults depot.old }
@@ -40,8 +42,8 @@ pub fn events_in<'a, D: Depot>(
     }
 }
 
-/// The control records of the configuration of this name, for a job of this shape. `NoFile`, `ReadFault`, `TooLarge` and
-/// `NoMemory`: the file can't be read; `ConfigRefused`: its first bad line.
+/// The control records of the configuration of this name, for a job of this shape. `NoFile`, `ReadFault`,
+/// `TooLarge` and `NoMemory`: the file can't be read; `ConfigRefused`: its first bad line.
 pub fn controls_in<'a, D: Depot>(
     alloc: Global,
     depot: &mut D,
@@ -50,10 +52,12 @@ pub fn controls_in<'a, D: Depot>(
 ) -> Result<Vec<Control>, Refusal<'a>>
     ensures config { IfOk result (λ v. ReadsConfig (D.files depot.old) name.now shape.now v.items) }
     ensures legal { IfOk result (λ v. ControlsFit shape.now v.items) }
-    ensures refused { IfErr result (λ r. RefusedBy (D.files depot.old) name.now (refusal_of_config shape.now) (outcome_of r)) }
+    ensures refused { IfErr result (λ r.
+        RefusedBy (D.files depot.old) name.now (refusal_of_config shape.now) (outcome_of r)) }
 
-    ensures failed { IfErr result (λ r. status_of (outcome_of r) ≡ 6 → Rose (D.read_faults depot.old) (D.read_faults depot.new)) }
-    ensures not_found { IfErr result (λ r. status_of (outcome_of r) ≡ 5 → D.found depot.old name.now false depot.new) }
+    ensures failed { IfErr result (λ r. EndsAs r 6
+        → Rose (D.read_faults depot.old) (D.read_faults depot.new)) }
+    ensures not_found { IfErr result (λ r. EndsAs r 5 → D.found depot.old name.now false depot.new) }
     ensures files { D.files depot.new ≡ D.files depot.old }
     ensures reads { D.read_faults depot.old ≤ D.read_faults depot.new }
     ensures writes { D.write_faults depot.new ≡ D.write_faults depot.old }
@@ -75,8 +79,9 @@ fn read_named<'a, D: Depot>(
     ensures text { IfOk result (λ v. IsRead (D.files depot.old) name.now v.items) }
     ensures refused { IfErr result (λ r. CannotRead (D.files depot.old) name.now (outcome_of r)) }
 
-    ensures failed { IfErr result (λ r. status_of (outcome_of r) ≡ 6 → Rose (D.read_faults depot.old) (D.read_faults depot.new)) }
-    ensures not_found { IfErr result (λ r. status_of (outcome_of r) ≡ 5 → D.found depot.old name.now false depot.new) }
+    ensures failed { IfErr result (λ r. EndsAs r 6
+        → Rose (D.read_faults depot.old) (D.read_faults depot.new)) }
+    ensures not_found { IfErr result (λ r. EndsAs r 5 → D.found depot.old name.now false depot.new) }
     ensures files { D.files depot.new ≡ D.files depot.old }
     ensures reads { D.read_faults depot.old ≤ D.read_faults depot.new }
     ensures writes { D.write_faults depot.new ≡ D.write_faults depot.old }

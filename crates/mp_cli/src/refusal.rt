@@ -4,8 +4,8 @@ ghost use Rattle.std.specs.Fmt.{decimal};
 ghost use Rattle.std.specs.List.{flat_map};
 ghost use Rattle.mp_outside.specs.Fault.{Rose};
 ghost use Rattle.mp_outside.specs.Sink.{grown};
-ghost use Rattle.mp_cli.specs.Refused.{outcome_of};
-ghost use Rattle.mp_cli.specs.Outcome.{line_said, number_in, status_of};
+ghost use Rattle.mp_cli.specs.Outcome.{number_in, status_of};
+ghost use Rattle.mp_cli.specs.Refused.{line_of, outcome_of};
 
 use mp_control::ControlReason;
 use mp_events::EventsReason;
@@ -63,7 +63,8 @@ impl<'a> Refusal<'a> {
     /// The words of its line, in four parts. `digits` says the number of the line that it speaks of.
     fn words<'b>(&'b self, digits: &'b str) -> (&'b str, &'b str, &'b str, &'b str)
         requires { digits.now ≡ decimal (number_in (outcome_of self.now)) }
-        ensures { line_said (outcome_of self.now) ≡ result.0.now ++ (result.1.now ++ (result.2.now ++ (result.3.now ++ codes "\n"))) }
+        ensures { line_of self.now
+            ≡ result.0.now ++ (result.1.now ++ (result.2.now ++ (result.3.now ++ codes "\n"))) }
     {
         match self {
             Refusal::Usage => ("usage: megaphone run|replay|check|make|demo", "", "", ""),
@@ -77,10 +78,12 @@ impl<'a> Refusal<'a> {
         }
     }
 
-    /// Writes its line, without taking memory. `Failed` and `NoMemory`: those of the sink; a part of the line may be written.
+    /// Writes its line, without taking memory. `Failed` and `NoMemory`: those of the sink; a part of the line
+    /// may be written.
     pub fn say<S: Sink>(&self, said: &mut S) -> Result<(), Fault>
-        ensures whole { OnOk result (S.written said.new ≡ grown (S.written said.old) (line_said (outcome_of self.now))) }
-        ensures part { OnErr result ((k : ℕ) × (S.written said.new ≡ grown (S.written said.old) (take k (line_said (outcome_of self.now))))) }
+        ensures whole { OnOk result (S.written said.new ≡ grown (S.written said.old) (line_of self.now)) }
+        ensures part { OnErr result
+            ((k : ℕ) × (S.written said.new ≡ grown (S.written said.old) (take k (line_of self.now)))) }
         ensures failed { result ≡ Err Fault.Failed → Rose (S.faults said.old) (S.faults said.new) }
     {
         let mut digits = itoa::Buffer::new();
@@ -92,8 +95,10 @@ impl<'a> Refusal<'a> {
 
 /// Writes the parts of a line, one after the other.
 fn say_parts<S: Sink>(said: &mut S, parts: &[&str]) -> Result<(), Fault>
-    ensures whole { OnOk result (S.written said.new ≡ grown (S.written said.old) (flat_map (λ part. part.now) parts.now)) }
-    ensures part { OnErr result ((k : ℕ) × (S.written said.new ≡ grown (S.written said.old) (take k (flat_map (λ part. part.now) parts.now)))) }
+    ensures whole { OnOk result
+        (S.written said.new ≡ grown (S.written said.old) (flat_map (λ part. part.now) parts.now)) }
+    ensures part { OnErr result ((k : ℕ) ×
+        (S.written said.new ≡ grown (S.written said.old) (take k (flat_map (λ part. part.now) parts.now)))) }
     ensures failed { result ≡ Err Fault.Failed → Rose (S.faults said.old) (S.faults said.new) }
 {
     for part in parts {

@@ -2,8 +2,8 @@
 ghost use Rattle.std.specs.Prelude.{◌≡◌, ◌⊎◌, ◌≤◌, ℕ, take, length, codes};
 ghost use Rattle.mp_outside.specs.Fault.{Rose};
 ghost use Rattle.mp_outside.specs.Sink.{grown};
-ghost use Rattle.mp_cli.specs.Outcome.{line_said, status_of};
-ghost use Rattle.mp_cli.specs.Refused.{outcome_of};
+ghost use Rattle.mp_cli.specs.Outcome.{status_of};
+ghost use Rattle.mp_cli.specs.Refused.{line_of, outcome_of};
 
 use crate::refusal::Refusal;
 use mp_outside::{Fault, Sink};
@@ -15,11 +15,13 @@ pub struct Status {
     pub code: u8,
 }
 
-/// Says why there is no answer. Its status is that of the refusal, but where `said` finds no memory: then it is that of
-/// want of memory.
+/// Says why there is no answer. Its status is that of the refusal, but where `said` finds no memory: then it
+/// is that of an allocation failure.
 pub fn refuse<S: Sink>(refusal: &Refusal, said: &mut S) -> Status
     ensures code { (result.code ≡ status_of (outcome_of refusal.now)) ⊎ (result.code ≡ 8) }
-    ensures said { (k : ℕ) × (S.written said.new ≡ grown (S.written said.old) (take k (line_said (outcome_of refusal.now)))) × ((length (line_said (outcome_of refusal.now)) ≤ k) ⊎ (Rose (S.faults said.old) (S.faults said.new) ⊎ (result.code ≡ 8))) }
+    ensures said { let line = line_of refusal.now in
+        (k : ℕ) × (S.written said.new ≡ grown (S.written said.old) (take k line))
+        × ((length line ≤ k) ⊎ (Rose (S.faults said.old) (S.faults said.new) ⊎ (result.code ≡ 8))) }
 {
     match refusal.say(said) {
         Ok(()) => Status {
@@ -37,7 +39,8 @@ pub fn refuse<S: Sink>(refusal: &Refusal, said: &mut S) -> Status
 /// Ends a call for which there was no memory before its words were read.
 pub fn lack_memory<S: Sink>(said: &mut S) -> Status
     ensures code { result.code ≡ 8 }
-    ensures said { (k : ℕ) × (S.written said.new ≡ grown (S.written said.old) (take k (codes "no memory\n"))) }
+    ensures said { (k : ℕ)
+        × (S.written said.new ≡ grown (S.written said.old) (take k (codes "no memory\n"))) }
 {
     refuse(&Refusal::NoMemory, said)
 }

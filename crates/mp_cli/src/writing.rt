@@ -1,5 +1,5 @@
 //! The answer's way into its file.
-ghost use Rattle.std.specs.Prelude.{◌≡◌, ◌⊎◌, ◌<◌, ℕ, take, IfErr, OnErr, OnOk};
+ghost use Rattle.std.specs.Prelude.{◌≡◌, IfErr, OnErr, OnOk};
 ghost use Rattle.mp_model.specs.Answers.{one_thread_answer};
 ghost use Rattle.mp_model.specs.Legal.{EventsAreLegal};
 ghost use Rattle.mp_output.specs.Rows.{GivesRows};
@@ -9,9 +9,10 @@ ghost use Rattle.mp_words.specs.Limits.{AreWithinLimits};
 ghost use Rattle.mp_words.specs.Values.{options_in};
 ghost use Rattle.mp_job.specs.Legal.{ControlsFit};
 ghost use Rattle.mp_cli.specs.Config.{shape_of};
-ghost use Rattle.mp_cli.specs.Outcome.{StopsAnswer, status_of};
+ghost use Rattle.mp_cli.specs.Outcome.{StopsAnswer};
 ghost use Rattle.mp_cli.specs.Queries.{answer_of, stages_of};
-ghost use Rattle.mp_cli.specs.Refused.{outcome_of};
+ghost use Rattle.mp_cli.specs.Refused.{EndsAs, outcome_of};
+ghost use Rattle.mp_cli.specs.Writing.{HoldsPart};
 
 use crate::refusal::Refusal;
 use crate::shape::shape_of;
@@ -28,8 +29,9 @@ use mp_words::{QueryName, RunOptions};
 use std::alloc::Global;
 use std::marker::Brand;
 
-/// Runs the dataflow that a command asks for on these events, with its bins moved as these control records say, and makes
-/// its file hold the answer.
+/// Runs the dataflow that a command asks for on these events, with its bins moved as these control records
+/// say, and makes its file hold the answer. `WriteFault`: the file couldn't be begun or appended to;
+/// `NoMemory`: no memory.
 pub fn write_answer<'a, D: Depot, G: Gate>(
     alloc: Global,
     depot: &mut D,
@@ -41,25 +43,29 @@ pub fn write_answer<'a, D: Depot, G: Gate>(
     requires options { AreWithinLimits options.now }
     requires events { EventsAreLegal events.items }
     requires controls { ControlsFit (shape_of (options_in options.now)) controls.items }
-    ensures whole { OnOk result (D.files depot.new ≡ with_file (D.files depot.old) options.now.out.now (answer_of options.now.query events.items)) }
-    ensures part { OnErr result ((D.files depot.new ≡ D.files depot.old) ⊎ ((k : ℕ) × (D.files depot.new ≡ with_file (D.files depot.old) options.now.out.now (take k (answer_of options.now.query events.items))))) }
+    ensures whole { let answer = answer_of options.now.query events.items in
+        OnOk result (D.files depot.new ≡ with_file (D.files depot.old) options.now.out.now answer) }
+    ensures part { let answer = answer_of options.now.query events.items in
+        OnErr result (HoldsPart (D.files depot.old) (D.files depot.new) options.now.out.now answer) }
     ensures refused { IfErr result (λ r. StopsAnswer (outcome_of r)) }
 
-    ensures failed { IfErr result (λ r. status_of (outcome_of r) ≡ 7 → Rose (D.write_faults depot.old) (D.write_faults depot.new)) }
+    ensures failed { IfErr result (λ r. EndsAs r 7
+        → Rose (D.write_faults depot.old) (D.write_faults depot.new)) }
 {
     match options.query {
-        QueryName::Q1 => run_query(alloc, depot, Q1 {}, options, events, controls, gate),
-        QueryName::Q2 => run_query(alloc, depot, Q2 {}, options, events, controls, gate),
+        QueryName::Q1 => run_query(alloc, depot, Q1, options, events, controls, gate),
+        QueryName::Q2 => run_query(alloc, depot, Q2, options, events, controls, gate),
         QueryName::Q3 => run_query(alloc, depot, Q3 {}, options, events, controls, gate),
-        QueryName::Q4 => run_query(alloc, depot, Q4 {}, options, events, controls, gate),
+        QueryName::Q4 => run_query(alloc, depot, Q4, options, events, controls, gate),
         QueryName::Q5 => run_query(alloc, depot, Q5 {}, options, events, controls, gate),
-        QueryName::Q6 => run_query(alloc, depot, Q6 {}, options, events, controls, gate),
+        QueryName::Q6 => run_query(alloc, depot, Q6, options, events, controls, gate),
         QueryName::Q7 => run_query(alloc, depot, Q7 {}, options, events, controls, gate),
         QueryName::Q8 => run_query(alloc, depot, Q8 {}, options, events, controls, gate),
     }
 }
 
-/// Runs a query on these events, with bins moved by these control records, and makes the file hold its answer.
+/// Runs a query on these events, with bins moved by these control records, and makes the file hold its
+/// answer.
 fn run_query<'a, D: Depot, Q: Query, G: Gate>(
     alloc: Global,
     depot: &mut D,
@@ -74,11 +80,14 @@ fn run_query<'a, D: Depot, Q: Query, G: Gate>(
     requires controls { ControlsFit (shape_of (options_in options.now)) controls.items }
     requires stages { stages_of options.now.query ≡ Q.STAGES }
     requires rows { GivesRows (Q.facts (Q.rules query)) }
-    ensures whole { OnOk result (D.files depot.new ≡ with_file (D.files depot.old) options.now.out.now (one_thread_answer (Q.facts (Q.rules query)) events.items)) }
-    ensures part { OnErr result ((D.files depot.new ≡ D.files depot.old) ⊎ ((k : ℕ) × (D.files depot.new ≡ with_file (D.files depot.old) options.now.out.now (take k (one_thread_answer (Q.facts (Q.rules query)) events.items))))) }
+    ensures whole { let answer = one_thread_answer (Q.facts (Q.rules query)) events.items in
+        OnOk result (D.files depot.new ≡ with_file (D.files depot.old) options.now.out.now answer) }
+    ensures part { let answer = one_thread_answer (Q.facts (Q.rules query)) events.items in
+        OnErr result (HoldsPart (D.files depot.old) (D.files depot.new) options.now.out.now answer) }
     ensures refused { IfErr result (λ r. StopsAnswer (outcome_of r)) }
 
-    ensures failed { IfErr result (λ r. status_of (outcome_of r) ≡ 7 → Rose (D.write_faults depot.old) (D.write_faults depot.new)) }
+    ensures failed { IfErr result (λ r. EndsAs r 7
+        → Rose (D.write_faults depot.old) (D.write_faults depot.new)) }
 {
     let job = Job::new(alloc, query, events, controls, shape_of(options))?;
     depot.begin(options.out)?;

@@ -13,7 +13,7 @@ use Rattle.mp_machine.proofs.Full.{full_where_known}
 use Rattle.mp_machine.proofs.Worlds.{run_right}
 use Rattle.mp_model.specs.Facts.{JobFacts, QueryFacts}
 use Rattle.mp_outline.specs.JobOutline.{outline_of}
-use Rattle.mp_worker_invariant.specs.declared.tally.Tally.{Tally}
+use Rattle.mp_parts.specs.declared.tally.Tally.{Tally}
 use Rattle.mp_refinement.specs.State.{WorkerState}
 use Rattle.mp_refinement.specs.SystemState.{KnowsTheEnd, SystemState}
 use Rattle.mp_drive.specs.Driven.{AllKnowTheEnd, AreReached}

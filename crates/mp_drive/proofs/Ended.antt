@@ -7,16 +7,13 @@ use Rattle.std.specs.Prelude.{◌↔◌, IsTrue, Option, slice_get}
 use Rattle.std.proofs.lemmas.Bool.{false≢true}
 use Rattle.std.proofs.lemmas.Iterator.Search.{true_from_All}
 use Rattle.std.proofs.lemmas.List.Elements.{All-from_all_within, All-head}
-use Rattle.mp_names.specs.declared.locations.Loc.{Loc}
-use Rattle.mp_names.specs.declared.locations.Loc.TheVariants.{Route, Mail, Move, State, Host}
 use Rattle.mp_names.specs.declared.names.Name.TheVariants.{Row, Written}
 use Rattle.mp_names.specs.Logs.{Log, empty_log}
 use Rattle.mp_names.specs.Names.{In}
 use Rattle.mp_names.specs.Outlines.{Outline, OutlineIsSound}
-use Rattle.mp_stamps.specs.Seen.{HasLoc}
 use Rattle.mp_outside.specs.Sink.{grown}
 use Rattle.mp_machine.specs.Promises.{LogIsFull}
-use Rattle.mp_machine.specs.Runs.{IsLocation, WorkerIsFinished, run_of_machine}
+use Rattle.mp_machine.specs.Runs.{WorkerIsFinished, run_of_machine}
 use Rattle.mp_machine.specs.Worlds.{World}
 use Rattle.mp_machine.proofs.Full.{full_where_known}
 use Rattle.mp_machine.proofs.Worlds.{run_right}
@@ -30,19 +27,11 @@ use Rattle.mp_answer_laws.proofs.Written.{full_logs_answer, written_lines_begin}
 use Rattle.mp_drive.specs.Driven.{AllKnowTheEnd, AreReached, HasBegun, HasWritten, first_log}
 use Rattle.mp_drive.proofs.Written.{first_legal, some_first}
 
-has_loc : (o : Outline) (at : Loc) → IsLocation o at → HasLoc o.stages at
-has_loc o (Route j) l = l
-has_loc o (Mail j) l = l
-has_loc o (Move j) l = l
-has_loc o (State j) l = l
-has_loc o (Host j) l = l
-has_loc o at l = tt
-
 -- a worker that knows the end is finished as the machine has it
 pub finished : (o : Outline) (world : World) (w : ℕ) (s : WorkerState) → IsWorkerOf o w s (world.worker w) → KnowsTheEnd o s → WorkerIsFinished o world w
 finished o world w s is know =
     record {
-      done = λ at l. sym (is.seen at (has_loc o at l)) ∙ know.done at (has_loc o at l);
+      done = λ at l. sym (is.seen at l) ∙ know.done at l;
       written = λ e t g took.
           subst (λ (log : Log). In (Written t) log.settled) is.log
           (know.written (is.number ∙ e) t g (subst (λ (log : Log). In (Row t g) log.took) (sym is.log) took));

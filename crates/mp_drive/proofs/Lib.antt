@@ -3,7 +3,6 @@ pub mod Leading
 pub mod Listed
 pub mod Numbered
 pub mod Opened
-pub mod RowsOfQ1
 pub mod Tallied
 pub mod Tried
 pub mod Turned

@@ -9,7 +9,7 @@ use Rattle.mp_names.specs.declared.kinds.Kind.TheVariants.{Ingest, SendControl, 
 use Rattle.mp_names.specs.Names.{joined_below}
 use Rattle.mp_names.specs.Outlines.{Outline}
 use Rattle.mp_machine.specs.Places.{each_below, kinds_of, places}
-use Rattle.mp_machine.proofs.Places.{places_counted}
+use Rattle.mp_machine.proofs.Places.{last_ones, length_each, length_joined, length_kinds, places_counted, to_apply, to_extract, to_receive, to_route, to_settle}
 
 last_or_not : (i n : ℕ) → i < suc n → (i < n) ⊎ (i ≡ n)
 last_or_not i n l = grind arith
@@ -28,13 +28,6 @@ behind (y ∷ xs) ys (suc i) k x e h = behind xs ys i k x (omega arith) h
 
 -- The kinds
 
-length_each : (n : ℕ) (kind : ℕ → Kind) → length (each_below n kind) ≡ n
-length_each zero kind = refl
-length_each (suc n) kind =
-    let a : length (each_below (suc n) kind) ≡ length (each_below n kind) + length (kind n ∷ []) = length-append (each_below n kind) (kind n ∷ []) in
-    let b = length_each n kind in
-    omega arith
-
 each_at : (n : ℕ) (kind : ℕ → Kind) (i : ℕ) → i < n → slice_get (each_below n kind) i ≡ Some (kind i)
 each_at zero kind i l = absurd (omega arith)
 each_at (suc n) kind i l =
@@ -45,25 +38,7 @@ each_at (suc n) kind i l =
     behind (each_below n kind) (kind n ∷ []) i 0 (kind i) (omega arith) (ap (λ j. Some (kind j)) (sym e)))
     (last_or_not i n l)
 
--- the beginning of the list of kinds, to the end of each of its parts
-
-abbrev to_route : Outline → List Kind
-to_route o = Ingest ∷ SendControl ∷ [] ++ each_below o.stages Route
-
-abbrev to_receive : Outline → List Kind
-to_receive o = to_route o ++ each_below o.workers Receive
-
-abbrev to_extract : Outline → List Kind
-to_extract o = to_receive o ++ each_below o.stages Extract
-
-abbrev to_settle : Outline → List Kind
-to_settle o = to_extract o ++ each_below o.stages Settle
-
-abbrev to_apply : Outline → List Kind
-to_apply o = to_settle o ++ each_below o.stages Apply
-
-abbrev last_ones : List Kind
-last_ones = SendRow ∷ Write ∷ Exchange ∷ []
+-- how many there are to the end of each part
 
 more : (xs ys : List Kind) (n m : ℕ) → length xs ≡ n → length ys ≡ m → length (xs ++ ys) ≡ n + m
 more xs ys n m e f = let a = length-append xs ys in omega arith
@@ -82,9 +57,6 @@ length_settle o = more (to_extract o) (each_below o.stages Settle) (2 + o.stages
 
 length_apply : (o : Outline) → length (to_apply o) ≡ 2 + o.stages + o.workers + o.stages + o.stages + o.stages
 length_apply o = more (to_settle o) (each_below o.stages Apply) (2 + o.stages + o.workers + o.stages + o.stages) o.stages (length_settle o) (length_each o.stages Apply)
-
-pub length_kinds : (o : Outline) → length (kinds_of o) ≡ 2 + o.stages + o.workers + o.stages + o.stages + o.stages + 3
-length_kinds o = more (to_apply o) last_ones (2 + o.stages + o.workers + o.stages + o.stages + o.stages) 3 (length_apply o) refl
 
 upto_apply : (o : Outline) (i : ℕ) (kind : Kind) → slice_get (to_apply o) i ≡ Some kind → slice_get (kinds_of o) i ≡ Some kind
 upto_apply o i kind h = in_front (to_apply o) last_ones i kind h
@@ -148,17 +120,6 @@ at_map : {X Y : Type 0} (f : X → Y) (xs : List X) (i : ℕ) (x : X) → slice_
 at_map f [] i x h = absurd (cc)
 at_map f (y ∷ xs) zero x h = let e : y ≡ x = cc in ap (λ z. Some (f z)) e
 at_map f (y ∷ xs) (suc i) x h = at_map f xs i x h
-
-length_joined : {X : Type 0} (n m : ℕ) (f : ℕ → List X) → ((w : ℕ) → length (f w) ≡ m) → length (joined_below n f) ≡ n * m
-length_joined zero m f h = omega arith
-length_joined (suc n) m f h =
-    let a = length-append (joined_below n f) (f n) in
-    let b = length_joined n m f h in
-    let c = h n in
-    times n m (length (joined_below n f)) (length (f n)) (length (joined_below n f ++ f n)) a b c
-  where
-    times : (n m x y z : ℕ) → z ≡ x + y → x ≡ n * m → y ≡ m → z ≡ suc n * m
-    times n m x y z a b c = grind arith
 
 after_joined : (n m i k y : ℕ) → i ≡ m * n + k → y ≡ n * m → i ≡ y + k
 after_joined n m i k y e f = omega arith

@@ -1,47 +1,25 @@
 -- What a full log holds: the groups that its worker owns, and the packets of the moves from it.
-use Rattle.std.proofs.Common.{◌≡◌, ℕ, Bool, true, false, cond, List, [], ◌∷◌, length, filter, sym, subst, refl}
+use Rattle.std.proofs.Common.{◌≡◌, ℕ, Bool, true, false, List, length, filter, sym, subst, refl}
 use Rattle.std.specs.Prelude.{◌↔◌}
-use Rattle.std.proofs.lemmas.Bool.{false≢true, eqb-true, eq-eqb, both_ways, false_from_ne_true}
+use Rattle.std.proofs.lemmas.Bool.{false≢true, eqb-true, eq-eqb}
 use Rattle.mp_names.specs.declared.names.Name.{Name}
 use Rattle.mp_names.specs.declared.names.Name.TheVariants.{Packet, Group}
 use Rattle.mp_names.specs.Names.{has, In, Distinct, joined_below, is_group, is_packet}
 use Rattle.mp_names.specs.Outlines.{Outline, OutlineIsSound, owner_before, IsMove, groups_of}
 use Rattle.mp_names.specs.Logs.{Log, LogIsLegal, IsReadyGroup, is_owned, owned_groups}
-use Rattle.mp_names.proofs.Lists.{In_here, In_later, In_filter, filter_In, In_joined, joined_In, Distinct_filter, Distinct_joined}
+use Rattle.mp_names.proofs.Lists.{In_filter, filter_In, In_joined, joined_In, Distinct_filter, Distinct_joined}
 use Rattle.mp_names.proofs.Orders.{ascending_once, filter_ascends}
 use Rattle.mp_names.proofs.Owners.{move_in_shape}
 use Rattle.mp_names.proofs.Listed.{groups_are, groups_ascend}
-use Rattle.mp_names.proofs.Counting.{length_equal}
+use Rattle.mp_names.proofs.Counting.{length_equal, once_by_tests}
+use Rattle.mp_names.proofs.NameParts.{stage_in}
 use Rattle.mp_machine.specs.Promises.{LogIsFull}
 
--- a list of which each name passes a test, of which those that pass stand once
-once_by_tests : (xs : List Name) → ((x : Name) → In x xs → (p : Name → Bool) × (p x ≡ true) × Distinct (filter p xs)) → Distinct xs
-once_by_tests [] h = tt
-once_by_tests (y ∷ ys) h = (
-  false_from_ne_true (has ys y) (λ i. let r = h y (In_here y ys) in twice r.0 r.1 (r.0 y) r.1 r.2 i),
-  once_by_tests ys (λ x i. let r = h x (In_later x y ys i) in (r.0, r.1, rest r.0 (r.0 y) r.2)),
-)
-  where
-    twice : (p : Name → Bool) → p y ≡ true → (b : Bool) → b ≡ true → Distinct (cond b (y ∷ filter p ys) (filter p ys)) → In y ys → ⊥
-    twice p f true e d i = both_ways (has (filter p ys) y) d.0 (filter_In p y ys i f)
-    twice p f false e d i = absurd (false≢true e)
-
-    rest : (p : Name → Bool) (b : Bool) → Distinct (cond b (y ∷ filter p ys) (filter p ys)) → Distinct (filter p ys)
-    rest p true d = d.1
-    rest p false d = d
-
-stage_of : Name → ℕ
-stage_of (Packet j b t) = j
-stage_of (Group j t k) = j
-stage_of _ = 0
-
-group_stage : (j : ℕ) (x : Name) → is_group j x ≡ true → stage_of x ≡ j
-unfolding stage_of
+group_stage : (j : ℕ) (x : Name) → is_group j x ≡ true → stage_in x ≡ j
 group_stage j (Group i t k) e = eqb-true i j e
 group_stage j _ e = absurd (false≢true e)
 
-packet_stage : (j : ℕ) (x : Name) → is_packet j x ≡ true → stage_of x ≡ j
-unfolding stage_of
+packet_stage : (j : ℕ) (x : Name) → is_packet j x ≡ true → stage_in x ≡ j
 packet_stage j (Packet i b t) e = eqb-true i j e
 packet_stage j _ e = absurd (false≢true e)
 
@@ -55,7 +33,7 @@ module _ (o : Outline) (ok : OutlineIsSound o) (w : ℕ) where
   all_owned_once : Distinct all_owned
   unfolding all_owned
   all_owned_once =
-      Distinct_joined o.stages (owned_groups o w) stage_of (λ j l. owned_once j) (λ j x l i. group_stage j x (groups_are o ok j x (In_filter (is_owned o w) x (groups_of o j) i).0).1)
+      Distinct_joined o.stages (owned_groups o w) stage_in (λ j l. owned_once j) (λ j x l i. group_stage j x (groups_are o ok j x (In_filter (is_owned o w) x (groups_of o j) i).0).1)
 
   module _ (log : Log) (legal : LogIsLegal o w log) (full : LogIsFull o w log) where
     applied_once : Distinct log.applied
@@ -107,4 +85,4 @@ sent_packets_are_moves o ok w log legal full j b t = (moved, sent)
 -- in a legal log each stands once
 pub sent_packets_are_distinct : (o : Outline) (w : ℕ) (log : Log) → LogIsLegal o w log → Distinct (joined_below o.stages (λ j. filter (is_packet j) log.sent))
 sent_packets_are_distinct o w log legal =
-    Distinct_joined o.stages (λ j. filter (is_packet j) log.sent) stage_of (λ j l. Distinct_filter (is_packet j) log.sent legal.sent_once) (λ j x l i. packet_stage j x (In_filter (is_packet j) x log.sent i).1)
+    Distinct_joined o.stages (λ j. filter (is_packet j) log.sent) stage_in (λ j l. Distinct_filter (is_packet j) log.sent legal.sent_once) (λ j x l i. packet_stage j x (In_filter (is_packet j) x log.sent i).1)

@@ -5,16 +5,13 @@ use Rattle.std.specs.List.{slice_get}
 use Rattle.std.proofs.lemmas.List.{append-nil}
 use Rattle.std.proofs.lemmas.Option.{slice_get-get_or}
 use Rattle.mp_names.specs.declared.kinds.Kind.{Kind}
-use Rattle.mp_names.specs.declared.locations.Loc.{Loc}
-use Rattle.mp_names.specs.declared.locations.Loc.TheVariants.{Ctl, CtlMail, Source, Route, Mail, Move, State, Host, OutRoute, OutMail}
 use Rattle.mp_names.specs.declared.names.Name.{Name}
 use Rattle.mp_names.specs.declared.names.Name.TheVariants.{Row, Written}
 use Rattle.mp_names.specs.Logs.{Log}
 use Rattle.mp_names.specs.Names.{In}
 use Rattle.mp_names.specs.Outlines.{Outline, OutlineIsSound}
-use Rattle.mp_stamps.specs.Seen.{HasLoc}
 use Rattle.mp_machine.specs.Places.{places}
-use Rattle.mp_machine.specs.Runs.{IsLocation, NotNow, WorkerIsFinished, is_made, run_of_machine, turn_of_machine}
+use Rattle.mp_machine.specs.Runs.{NotNow, WorkerIsFinished, is_made, run_of_machine, turn_of_machine}
 use Rattle.mp_machine.specs.Steps.{IsPlace}
 use Rattle.mp_machine.specs.Worlds.{World}
 use Rattle.mp_machine.proofs.Ends.{all_over}
@@ -72,23 +69,11 @@ module _ (o : Outline) (t : SystemState) where
       none k.0 k.1 (w, kind) (ap (slice_get (places o)) k.2 ∙ slice_get-get_or (places o) c.0 (w, kind) c.1 ∙ ap Some c.2)
 
   -- a worker that is finished knows the end
-  is_location : (at : Loc) → HasLoc o.stages at → IsLocation o at
-  is_location Ctl h = h
-  is_location CtlMail h = h
-  is_location Source h = h
-  is_location (Route j) h = h
-  is_location (Mail j) h = h
-  is_location (Move j) h = h
-  is_location (State j) h = h
-  is_location (Host j) h = h
-  is_location OutRoute h = h
-  is_location OutMail h = h
-
   knows : (depth : ℕ) (world : World) (w : ℕ) (s : WorkerState) → Refines o depth t world → slice_get t.workers w ≡ Some s → WorkerIsFinished o world w → KnowsTheEnd o s
   knows depth world w s are is finished =
       let it = are.workers w s is in
       record {
-        done = λ at has. it.seen at has ∙ finished.done at (is_location at has);
+        done = λ at has. it.seen at has ∙ finished.done at has;
         written = λ z u g i.
             let first : w ≡ 0 = sym it.number ∙ z in
             let taken : In (Row u g) (world.worker w).log.took = subst (λ (log : Log). In (Row u g) log.took) it.log i in

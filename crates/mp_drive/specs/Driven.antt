@@ -14,6 +14,10 @@ use Rattle.mp_answer_laws.specs.Lines.{written_lines}
 use Rattle.mp_worker.specs.declared.turn.Turn.{Turn as Answered}
 use Rattle.mp_worker.specs.declared.turn.Turn.TheVariants as worker
 
+-- steps, each a worker and a kind
+abbrev pub Steps : Type 0
+Steps = List (ℕ × Kind)
+
 -- what a worker answers, as the machine's turn
 abbrev pub turn_in : Answered → Turn
 turn_in (worker.Did x) = Did x
@@ -21,17 +25,18 @@ turn_in (worker.Seen version) = Saw version
 turn_in _ = NotNow
 
 -- after these steps the workers are in the state of the machine's run
-abbrev pub AreAfter : Outline → List (ℕ × Kind) → SystemState → Type 0
+abbrev pub AreAfter : Outline → Steps → SystemState → Type 0
 AreAfter o steps t = Refines o t.post.depth t (run_of_machine o t.post.depth steps)
 
 -- some steps lead to the state of the workers
 abbrev pub AreReached : Outline → SystemState → Type 0
-AreReached o t = (steps : List (ℕ × Kind)) × AreAfter o steps t
+AreReached o t = (steps : Steps) × AreAfter o steps t
 
 -- Whatever steps led to the old state, these lead on to the new one, with these turns
-pub record LeadsOn (o : Outline) (steps : List (ℕ × Kind)) (turns : List Turn) (old new : SystemState) : Type 0 where
-  pub turns_are : (before : List (ℕ × Kind)) → AreAfter o before old → turns ≡ turns_of o old.post.depth (run_of_machine o old.post.depth before) steps
-  pub state_is : (before : List (ℕ × Kind)) → AreAfter o before old → AreAfter o (before ++ steps) new
+pub record LeadsOn (o : Outline) (steps : Steps) (turns : List Turn) (old new : SystemState) : Type 0 where
+  pub turns_are : (before : Steps) → AreAfter o before old
+      → turns ≡ turns_of o old.post.depth (run_of_machine o old.post.depth before) steps
+  pub state_is : (before : Steps) → AreAfter o before old → AreAfter o (before ++ steps) new
   pub depth : new.post.depth ≡ old.post.depth
 
 -- One step leads on, and it is made
@@ -60,7 +65,7 @@ module _ {Cell : Type 0} (q : QueryFacts Cell) (events : List Event) where
 
 -- Some steps lead on, of which so many are made, which is no more than the machine can make in all
 pub record MakesSteps (o : Outline) (n : ℕ) (old new : SystemState) : Type 0 where
-  pub steps : List (ℕ × Kind)
+  pub steps : Steps
   pub turns : List Turn
   pub lead : LeadsOn o steps turns old new
   pub count : made_count turns ≡ n

@@ -14,7 +14,8 @@ use Rattle.mp_drive.specs.Driven.{AreReached}
 abbrev pub together : List WorkerState → Posted → Queues Name → SystemState
 together workers board post = record { workers = workers; board = board; post = post }
 
--- They are of the job that they were made for, which is legal; a run of the machine leads to where they are; and none has stopped
+-- They are of the job that they were made for, which is legal; a run of the machine leads to where they are; none
+-- has stopped
 pub record IsKept {Cell : Type 0} (q : QueryFacts Cell) (job its : JobFacts) (t : SystemState) : Type 0 where
   pub same : its ≡ job
   pub legal : JobIsLegal q job

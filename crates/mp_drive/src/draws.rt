@@ -4,8 +4,8 @@ ghost use Rattle.mp_drive.specs.Draws.{first_state, next_state};
 
 use std::marker::Model;
 
-/// Draws from a seed: each is the one before times 48,271, modulo 2^31 - 1 (a generator of Lehmer's, this project's
-/// profile). Contracts see the last draw.
+/// Draws from a seed: each is the one before times 48,271, modulo 2^31 - 1 (a generator of Lehmer's, this
+/// project's profile). Contracts see the last draw.
 #[derive(Drop, Debug)]
 pub struct Draws {
     state: u64,

@@ -1,10 +1,10 @@
-//! Workers driven on one thread, by any list of steps or by the seeded schedule: each run is a run of the machine, and what
-//! a finished run wrote is the one-thread answer.
+//! Layer: workers on one thread.
+//!
+//! Workers driven on one thread, by any list of steps or by the seeded schedule: each run is a run of the
+//! machine, and what a finished run wrote is the one-thread answer.
 #![tactic(auto)]
 
 mod draws;
-#[cfg(test)]
-mod handing;
 mod list;
 mod places;
 mod plain;
@@ -12,10 +12,6 @@ mod run;
 mod seed;
 mod stop;
 mod tallies;
-#[cfg(test)]
-mod tests;
-#[cfg(test)]
-mod worked;
 
 pub use draws::Draws;
 pub use plain::Plain;

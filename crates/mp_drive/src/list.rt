@@ -1,5 +1,5 @@
 //! Driving by a list of steps.
-ghost use Rattle.std.specs.Prelude.{◌≡◌, ◌≢◌, ◌<◌, ◌≤◌, ℕ, All, Err, IfOk, List, OnErr, OnOk, Option, map};
+ghost use Rattle.std.specs.Prelude.{◌≡◌, ◌<◌, ◌≤◌, ℕ, All, Err, IfOk, List, OnErr, OnOk, Option, map};
 ghost use Rattle.mp_outside.specs.Fault.{Rose};
 ghost use Rattle.mp_outline.specs.JobOutline.{outline_of};
 ghost use Rattle.mp_drive.specs.declared.stop.DriveStop.TheVariants.{Write};
@@ -13,8 +13,9 @@ use mp_worker::Turn;
 use std::alloc::Global;
 
 impl<'a, Q: Query, J: Naming> Plain<'a, Q, J> {
-    /// Makes the steps of a list, each a worker and a kind, in order: what each answered. The room for the answers is taken
-    /// before the first step. `Memory` and `Write` are those of the step that answered them; the steps before it stay.
+    /// Makes the steps of a list, each a worker and a kind, in order: what each answered. The room for the
+    /// answers is taken before the first step. `Memory` and `Write` are those of the step that answered them;
+    /// the steps before it stay.
     pub fn drive_list<S: Sink>(
         &mut self,
         alloc: Global,

@@ -1,5 +1,6 @@
 //! The workers of a job on one thread.
-ghost use Rattle.std.specs.Prelude.{◌≡◌, ◌≢◌, take, ◌<◌, ◌≤◌, ◌↔◌, ◌∷◌, [], ℕ, Err, IfOk, IsTrue, List, OnErr, OnOk, Option, Some, length, replicate, slice_get};
+ghost use Rattle.std.specs.Prelude.{◌≡◌, ◌<◌, ◌≤◌, ◌↔◌, ◌∷◌, [], ℕ, Err, IfOk, IsTrue, List, OnErr, OnOk};
+ghost use Rattle.std.specs.Prelude.{Option, Some, length, replicate, slice_get, take};
 ghost use Rattle.mp_names.specs.Logs.{empty_log};
 ghost use Rattle.mp_outside.specs.Fault.{Rose};
 ghost use Rattle.mp_model.specs.Answers.{one_thread_answer};
@@ -27,7 +28,8 @@ use mp_worker::{Stop, Turn, Worker};
 use std::alloc::{AllocError, Global};
 use std::marker::Model;
 
-/// The workers of the job J, their board and the mailboxes between them, for one thread. Contracts see a `SystemState`.
+/// The workers of the job J, their board and the mailboxes between them, for one thread. Contracts see a
+/// `SystemState`.
 #[derive(Drop)]
 pub struct Plain<'a, Q: Query, J: Naming> {
     pub(crate) job: &'a Job<Q>,
@@ -50,15 +52,16 @@ impl<'a, Q: Query, J: Naming> Model for Plain<'a, Q, J> {
 }
 
 impl<'a, Q: Query, J: Naming> Plain<'a, Q, J> {
-    /// Workers that have done nothing, with mailboxes that take `depth` messages each. The query's last stage gives rows
-    /// alone. `AllocError`: no memory.
+    /// Workers that have done nothing, with mailboxes that take `depth` messages each. The query's last stage
+    /// gives rows alone. `AllocError`: no memory.
     pub fn open(alloc: Global, job: &'a Job<Q>, depth: u32) -> Result<Plain<'a, Q, J>, AllocError>
         requires job { job.now ≡ J.job }
         requires rows { GivesRows (Q.facts J.job.rules) }
         ensures start { let o = outline_of (Q.facts J.job.rules) J.job in
             IfOk result (λ p. Refines o depth p (start_of_machine o)) }
         ensures depth { IfOk result (λ p. p.post.depth ≡ depth) }
-        ensures nothing_written { IfOk result (λ p. written_lines (Q.facts J.job.rules) J.job.events (first_log p) ≡ []) }
+        ensures nothing_written { let q = Q.facts J.job.rules in
+            IfOk result (λ p. written_lines q J.job.events (first_log p) ≡ []) }
     {
         let board = Board::open(alloc, job)?;
         let workers = new_workers(alloc, job, board.seen())?;
@@ -71,9 +74,18 @@ impl<'a, Q: Query, J: Naming> Plain<'a, Q, J> {
         })
     }
 
-    /// One step of a worker. `Memory`: no memory; `Write`: a write failed, which comes only of a write, where the sink's
-    /// count of faults rose in this call or stands at its last value, 2^64 - 1. With either no step is made, and a part of
-    /// the lines of the next time, from their front, may be written.
+    /// The frontiers that the posted logs show.
+    pub fn seen(&self) -> Seen
+        ensures version { result.version ≡ self.now.board.version }
+        ensures frontiers { let o = outline_of (Q.facts J.job.rules) J.job in
+            ShowsFrontiers o self.now.board.logs result }
+    {
+        self.board.seen()
+    }
+
+    /// One step of a worker. `Memory`: no memory; `Write`: a write failed, which comes only of a write, where
+    /// the sink's count of faults rose in this call or stands at its last value, 2^64 - 1. With either no
+    /// step is made, and a part of the lines of the next time, from their front, may be written.
     pub fn step<S: Sink>(
         &mut self,
         worker: u32,
@@ -83,7 +95,8 @@ impl<'a, Q: Query, J: Naming> Plain<'a, Q, J> {
         requires worker { worker < J.job.shape.workers }
         ensures turn { let o = outline_of (Q.facts J.job.rules) J.job in
             IfOk result (λ turn. LeadsOn o ((worker, kind) ∷ []) (turn_in turn ∷ []) self.old self.new) }
-        ensures unchanged { let o = outline_of (Q.facts J.job.rules) J.job in OnErr result (LeadsOn o [] [] self.old self.new) }
+        ensures unchanged { let o = outline_of (Q.facts J.job.rules) J.job in
+            OnErr result (LeadsOn o [] [] self.old self.new) }
 
         ensures written { let q = Q.facts J.job.rules in
             (before : Option (List ℕ)) → HasWritten q J.job.events before self.old (S.written sink.old)
@@ -104,14 +117,16 @@ impl<'a, Q: Query, J: Naming> Plain<'a, Q, J> {
         }
     }
 
-    /// Whether each worker knows that all is over. What worker 0 has written is a beginning of the one-thread answer, and
-    /// then all of it.
+    /// Whether each worker knows that all is over. What worker 0 has written is a beginning of the one-thread
+    /// answer, and then all of it.
     pub fn is_finished(&self) -> bool
         ensures known { IsTrue result ↔ AllKnowTheEnd (outline_of (Q.facts J.job.rules) J.job) self.now }
         ensures answer { let q = Q.facts J.job.rules in
-            IsTrue result → written_lines q J.job.events (first_log self.now) ≡ one_thread_answer q J.job.events }
+            IsTrue result
+            → written_lines q J.job.events (first_log self.now) ≡ one_thread_answer q J.job.events }
         ensures begun { let q = Q.facts J.job.rules in
-            (k : ℕ) × (written_lines q J.job.events (first_log self.now) ≡ take k (one_thread_answer q J.job.events)) }
+            (k : ℕ) × (written_lines q J.job.events (first_log self.now)
+            ≡ take k (one_thread_answer q J.job.events)) }
     {
         self.workers.iter().all(|worker| worker.is_finished())
     }
@@ -126,10 +141,12 @@ fn new_workers<'a, Q: Query, J: Naming>(
     requires job { job.now ≡ J.job }
     requires rows { GivesRows (Q.facts J.job.rules) }
     requires version { seen.version ≡ 0 }
-    requires opening { ShowsFrontiers (outline_of (Q.facts J.job.rules) J.job) (replicate J.job.shape.workers empty_log) seen }
+    requires opening { let o = outline_of (Q.facts J.job.rules) J.job in
+        ShowsFrontiers o (replicate J.job.shape.workers empty_log) seen }
     ensures all { IfOk result (λ workers. length workers.items ≡ J.job.shape.workers) }
     ensures new { let o = outline_of (Q.facts J.job.rules) J.job in
-        IfOk result (λ workers. (w : ℕ) (s : WorkerState) → slice_get workers.items w ≡ Some s → IsNewWorker o w s) }
+        IfOk result (λ workers. (w : ℕ) (s : WorkerState)
+        → slice_get workers.items w ≡ Some s → IsNewWorker o w s) }
 {
     let count = job.shape().workers;
     let mut workers = Vec::with_capacity(alloc, count as usize)?;

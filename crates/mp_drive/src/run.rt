@@ -14,10 +14,11 @@ use mp_model::{Naming, Query};
 use mp_outside::Sink;
 use std::alloc::Global;
 
-/// Runs a whole job on one thread, by the schedule of a seed, with mailboxes that take `depth` messages each, and writes the
-/// answer: how many steps were made. The query's last stage gives rows alone. `Memory`: no memory, or more steps were made
-/// than a u64 counts, which no job that fits into memory has. `Write`: a write failed; only where the sink's count of faults
-/// rose in this call or stands at its last value, 2^64 - 1. With either a beginning of the answer is written.
+/// Runs a whole job on one thread, by the schedule of a seed, with mailboxes that take `depth` messages each,
+/// and writes the answer: how many steps were made. The query's last stage gives rows alone. `Memory`: no
+/// memory, or more steps were made than a u64 counts, which no job that fits into memory has. `Write`: a
+/// write failed; only where the sink's count of faults rose in this call or stands at its last value, 2^64 -
+/// 1. With either a beginning of the answer is written.
 pub fn replay<Q: Query, J: Naming, S: Sink, G: Gate>(
     alloc: Global,
     job: &Job<Q>,
@@ -29,8 +30,10 @@ pub fn replay<Q: Query, J: Naming, S: Sink, G: Gate>(
     requires job { job.now ≡ J.job }
     requires rows { GivesRows (Q.facts J.job.rules) }
     requires depth { 0 < depth }
-    ensures answer { OnOk result (S.written sink.new ≡ grown (S.written sink.old) (one_thread_answer (Q.facts J.job.rules) J.job.events)) }
-    ensures part { OnErr result (HasBegun (Q.facts J.job.rules) J.job.events (S.written sink.old) (S.written sink.new)) }
+    ensures answer { let q = Q.facts J.job.rules in
+        OnOk result (S.written sink.new ≡ grown (S.written sink.old) (one_thread_answer q J.job.events)) }
+    ensures part { let q = Q.facts J.job.rules in
+        OnErr result (HasBegun q J.job.events (S.written sink.old) (S.written sink.new)) }
     ensures failed { result ≡ Err Write → Rose (S.faults sink.old) (S.faults sink.new) }
     ensures frame { S.frame sink.new ≡ S.frame sink.old }
     ensures writes { S.faults sink.old ≤ S.faults sink.new }

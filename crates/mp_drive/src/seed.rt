@@ -1,5 +1,5 @@
 //! Driving by the seeded schedule.
-ghost use Rattle.std.specs.Prelude.{◌≡◌, ◌<◌, ◌≤◌, ◌+◌, ◌*◌, ◌^◌, ◌≢◌, ℕ, length, Err, IfOk, List, OnErr, OnOk, Option};
+ghost use Rattle.std.specs.Prelude.{◌≡◌, ◌<◌, ◌≤◌, ℕ, length, Err, IfOk, List, OnErr, OnOk, Option};
 ghost use Rattle.mp_names.specs.declared.kinds.Kind.{Kind};
 ghost use Rattle.mp_names.specs.Outlines.{name_count};
 ghost use Rattle.mp_machine.specs.Runs.{Turn, made_count};
@@ -19,12 +19,12 @@ use mp_outside::Sink;
 use mp_worker::Turn;
 
 impl<'a, Q: Query, J: Naming> Plain<'a, Q, J> {
-    /// Makes steps by the schedule of a seed (this project's profile) until each worker knows that all is over: how many
-    /// were made, those that can't be made now not counted. While some worker doesn't know the end there is one draw; from
-    /// the place that has its number, modulo the number of places, the steps are tried upward, wrapping round, until one is
-    /// made. The gate is passed before each. `Memory`: the step that answered it had no memory, or more steps were made than
-    /// a u64 counts, which no job that fits into memory has. `Write` is that of the step that answered it. The steps before
-    /// it stay.
+    /// Makes steps by the schedule of a seed (this project's profile) until each worker knows that all is
+    /// over: how many were made, those that can't be made now not counted. While some worker doesn't know the
+    /// end there is one draw; from the place that has its number, modulo the number of places, the steps are
+    /// tried upward, wrapping round, until one is made. The gate is passed before each. `Memory`: the step
+    /// that answered it had no memory, or more steps were made than a u64 counts, which no job that fits into
+    /// memory has. `Write` is that of the step that answered it. The steps before it stay.
     pub fn drive_seed<S: Sink, G: Gate>(
         &mut self,
         seed: u64,
@@ -32,8 +32,10 @@ impl<'a, Q: Query, J: Naming> Plain<'a, Q, J> {
         sink: &mut S,
     ) -> Result<u64, DriveStop>
         requires depth { 0 < self.old.post.depth }
-        ensures finished { IfOk result (λ _. AllKnowTheEnd (outline_of (Q.facts J.job.rules) J.job) self.new) }
-        ensures made { IfOk result (λ n. MakesSteps (outline_of (Q.facts J.job.rules) J.job) n self.old self.new) }
+        ensures finished { let o = outline_of (Q.facts J.job.rules) J.job in
+            IfOk result (λ _. AllKnowTheEnd o self.new) }
+        ensures made { let o = outline_of (Q.facts J.job.rules) J.job in
+            IfOk result (λ n. MakesSteps o n self.old self.new) }
 
         ensures answer { let q = Q.facts J.job.rules in
             (before : Option (List ℕ)) → HasWritten q J.job.events before self.old (S.written sink.old)
@@ -58,8 +60,8 @@ impl<'a, Q: Query, J: Naming> Plain<'a, Q, J> {
         Ok(made)
     }
 
-    // Makes one step: of the places upward from this one, wrapping round, that of the first whose step can be made now. There
-    // is one, since some worker doesn't know the end.
+    // Makes one step: of the places upward from this one, wrapping round, that of the first whose step can be
+    // made now. There is one, since some worker doesn't know the end.
     fn step_from<S: Sink, G: Gate>(
         &mut self,
         start: u64,
@@ -69,7 +71,8 @@ impl<'a, Q: Query, J: Naming> Plain<'a, Q, J> {
         requires depth { 0 < self.old.post.depth }
         requires unfinished { AllKnowTheEnd (outline_of (Q.facts J.job.rules) J.job) self.old → ⊥ }
         requires start { start < length (places (outline_of (Q.facts J.job.rules) J.job)) }
-        ensures made { IfOk result (λ _. MakesStep (outline_of (Q.facts J.job.rules) J.job) self.old self.new) }
+        ensures made { let o = outline_of (Q.facts J.job.rules) J.job in
+            IfOk result (λ _. MakesStep o self.old self.new) }
 
         ensures written { let q = Q.facts J.job.rules in
             (before : Option (List ℕ)) → HasWritten q J.job.events before self.old (S.written sink.old)

@@ -1,25 +1,28 @@
 //! What the workers tell of what they have done.
 ghost use Rattle.std.specs.Prelude.{◌≡◌, ℕ, IfOk, Some, length, slice_get};
 ghost use Rattle.mp_outline.specs.JobOutline.{outline_of};
-ghost use Rattle.mp_worker_invariant.specs.declared.tally.Tally.{Tally as Told};
+ghost use Rattle.mp_parts.specs.declared.tally.Tally.{Tally as Told};
 ghost use Rattle.mp_refinement.specs.State.{WorkerState};
 ghost use Rattle.mp_drive.specs.Driven.{AllKnowTheEnd};
 ghost use Rattle.mp_drive.specs.Tallies.{IsTallyOf, TellsLog};
 
 use crate::Plain;
 use mp_model::{Naming, Query};
-use mp_worker_invariant::Tally;
+use mp_parts::Tally;
 use std::alloc::{AllocError, Global};
 
 impl<'a, Q: Query, J: Naming> Plain<'a, Q, J> {
-    /// What each worker has done so far, by the workers' numbers. Where each knows that all is over, these are the job's
-    /// tallies. `AllocError`: no memory.
+    /// What each worker has done so far, by the workers' numbers. Where each knows that all is over, these
+    /// are the job's tallies. `AllocError`: no memory.
     pub fn tallies(&self, alloc: Global) -> Result<Vec<Tally>, AllocError>
         ensures all { IfOk result (λ tallies. length tallies.items ≡ J.job.shape.workers) }
-        ensures told { IfOk result (λ tallies. (w : ℕ) (s : WorkerState) (t : Told) → slice_get self.now.workers w ≡ Some s
-            → slice_get tallies.items w ≡ Some t → TellsLog (Q.facts J.job.rules) J.job s.log t) }
-        ensures at_the_end { IfOk result (λ tallies. (w : ℕ) (t : Told) → AllKnowTheEnd (outline_of (Q.facts J.job.rules) J.job) self.now
-            → slice_get tallies.items w ≡ Some t → IsTallyOf (Q.facts J.job.rules) J.job w t) }
+        ensures told { let q = Q.facts J.job.rules in
+            IfOk result (λ tallies. (w : ℕ) (s : WorkerState) (t : Told)
+            → slice_get self.now.workers w ≡ Some s → slice_get tallies.items w ≡ Some t
+            → TellsLog q J.job s.log t) }
+        ensures at_the_end { let q = Q.facts J.job.rules in
+            IfOk result (λ tallies. (w : ℕ) (t : Told) → AllKnowTheEnd (outline_of q J.job) self.now
+            → slice_get tallies.items w ≡ Some t → IsTallyOf q J.job w t) }
     {
         let mut tallies = Vec::with_capacity(alloc, self.workers.len())?;
         for worker in &self.workers {

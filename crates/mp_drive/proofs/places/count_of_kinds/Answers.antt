@@ -1,5 +1,5 @@
 use Rattle.std.proofs.Common.{arith}
-use Rattle.mp_drive.proofs.Numbered.{length_kinds}
+use Rattle.mp_machine.proofs.Places.{length_kinds}
 use Rattle.mp_drive.proofs.places.count_of_kinds.Goals as goal
 
 pub returns : goal.returns

@@ -1,6 +1,7 @@
 use Rattle.std.proofs.Common.{◌+◌, ◌^◌, refl, arith}
 use Rattle.std.proofs.lemmas.Nat.{mul-le}
-use Rattle.mp_drive.proofs.Numbered.{length_kinds, some_outline, as_product}
+use Rattle.mp_machine.proofs.Places.{length_kinds}
+use Rattle.mp_drive.proofs.Numbered.{some_outline, as_product}
 use Rattle.mp_drive.proofs.places.count_of_places.Goals as goal
 
 pub overflow_mul-result : goal.overflow_mul-result

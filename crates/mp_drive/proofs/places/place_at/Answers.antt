@@ -1,6 +1,7 @@
 use Rattle.std.proofs.Common.{◌≡◌, length, refl, arith}
 use Rattle.mp_machine.specs.Places.{kinds_of}
-use Rattle.mp_drive.proofs.Numbered.{length_kinds, some_outline, place_of_kind, worker_below}
+use Rattle.mp_machine.proofs.Places.{length_kinds}
+use Rattle.mp_drive.proofs.Numbered.{some_outline, place_of_kind, worker_below}
 use Rattle.mp_drive.proofs.places.place_at.Goals as goal
 
 pub nonzero_div-result : goal.nonzero_div-result

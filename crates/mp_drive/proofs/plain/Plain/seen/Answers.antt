@@ -1,0 +1,11 @@
+-- The board is that of the workers.
+use Rattle.std.proofs.Common.{subst}
+use Rattle.mp_outline.specs.JobOutline.{outline_of}
+use Rattle.mp_board.specs.Boards.{ShowsFrontiers}
+use Rattle.mp_refinement.specs.SystemState.{SystemState}
+use Rattle.mp_drive.proofs.plain.Plain.seen.Goals as goal
+
+pub returns-clause-frontiers : goal.returns-clause-frontiers
+returns-clause-frontiers g c =
+    let o = outline_of (g.Q.Query.facts g.J.Naming.job.rules) g.J.Naming.job in
+    subst (λ (t : SystemState). ShowsFrontiers o t.board.logs c.seen.result) c.self.view_is c.seen.ensures.frontiers
