@@ -1,0 +1,118 @@
+//! The query of the tests.
+ghost use Rattle.std.specs.Prelude.{◌≡◌, IfOk};
+ghost use Rattle.mp_samples.specs.Bids.{fields_of, mark_of, row_of};
+
+use mp_model::{Field, Fields, Group, PostList, Query, Rec, Time, Value};
+use std::alloc::{AllocError, Global};
+
+/// Each bid makes a record of its auction's key, which wakes the key ten later. Where it answers, a group that has records
+/// gives a row of the key and marks its cell; otherwise no group gives anything.
+#[derive(Drop)]
+pub struct SampleBids<const ANSWERS: bool> {}
+
+/// The sample query whose groups give nothing.
+pub type WakingBids = SampleBids<false>;
+
+/// The sample query whose groups give rows.
+pub type AnsweringBids = SampleBids<true>;
+
+impl<const ANSWERS: bool> Query for SampleBids<ANSWERS> {
+    ghost use Rattle.std.specs.Prelude.{[], refl};
+    ghost use Rattle.mp_samples.specs.Bids.{sample_bids};
+    ghost use Rattle.mp_samples.specs.Laws.{has_stages, posts_are_later, later_stages_post_nothing, outputs_have_keys, most_is_enough, fresh_stays_fresh, sums_fit};
+
+    type Cell = u64;
+
+    const STAGES: u32 = 1;
+
+    ghost STAGES = { 1 };
+
+    ghost rules = { λ _. [] };
+
+    ghost facts = { λ _. sample_bids ANSWERS };
+
+    fn key(&self, _stage: u32, _time: Time, value: &Value) -> Option<u64> {
+        match value {
+            Value::Bid { auction, .. } => Some(*auction),
+            _ => None,
+        }
+    }
+
+    fn posts(&self, stage: u32, rec: &Rec) -> PostList {
+        let mut posts = PostList::new();
+        if stage == 0 {
+            posts.push(rec.time + 10);
+        }
+        posts
+    }
+
+    fn fresh(&self, _alloc: Global, _stage: u32) -> u64 {
+        0
+    }
+
+    fn is_fresh(&self, _stage: u32, cell: &u64) -> bool {
+        *cell == 0
+    }
+
+    fn most(&self, _stage: u32, _cell: &u64, _group: &Group) -> u64 {
+        if ANSWERS { 1 } else { 0 }
+    }
+
+    fn step(
+        &self,
+        alloc: Global,
+        _stage: u32,
+        cell: &mut u64,
+        group: &Group,
+    ) -> Result<Vec<Value>, AllocError> {
+        if !ANSWERS {
+            return Ok(Vec::new(alloc));
+        }
+        let rows = row_of(alloc, group.key(), group.recs())?;
+        *cell = mark_of(*cell, group.recs());
+        Ok(rows)
+    }
+
+    ghost stages_are = { λ _. refl };
+
+    ghost has_stages = { λ _. has_stages ANSWERS };
+
+    ghost posts_are_later = { λ _. posts_are_later ANSWERS };
+
+    ghost later_stages_post_nothing = { λ _. later_stages_post_nothing ANSWERS };
+
+    ghost outputs_have_keys = { λ _. outputs_have_keys ANSWERS };
+
+    ghost most_is_enough = { λ _. most_is_enough ANSWERS };
+
+    ghost fresh_stays_fresh = { λ _. fresh_stays_fresh ANSWERS };
+
+    ghost sums_fit = { λ _. sums_fit ANSWERS };
+}
+
+/// The fields of a key's row.
+pub fn fields_of(key: u64) -> Fields
+    ensures { result ≡ fields_of key }
+{
+    let mut fields = Fields::new();
+    fields.push(Field::Number(key));
+    fields
+}
+
+/// The row of a key that has records.
+fn row_of(alloc: Global, key: u64, recs: &[Rec]) -> Result<Vec<Value>, AllocError>
+    ensures { IfOk result (λ v. v.items ≡ row_of key recs.now) }
+{
+    let mut rows = Vec::new(alloc);
+    if !recs.is_empty() {
+        rows.push(Value::Row(fields_of(key)))?;
+    }
+    Ok(rows)
+}
+
+/// 1 once there are records.
+fn mark_of(cell: u64, recs: &[Rec]) -> u64
+    ensures { result ≡ mark_of cell recs.now }
+{
+    if recs.is_empty() { cell } else { 1 }
+}

@@ -1,0 +1,13 @@
+//! Layer: tests, a crate for each layer.
+//!
+//! Tests of what a user writes: the event file, the configuration file and the words of the command line.
+//!
+//! A module tests the crate of its name. The tests stand here and not in their crates, so that each of those is proved once.
+#![tactic(auto)]
+
+#[cfg(test)]
+mod control;
+#[cfg(test)]
+mod events;
+#[cfg(test)]
+mod words;

@@ -1,0 +1,365 @@
+//! Tables of words that are taken and of words that are refused.
+use mp_words::{QueryName, RunOptions, WordsRefused, parse};
+use std::alloc::{AllocError, Global};
+use std::process::Abort;
+use std::test::Fail;
+
+const ASKED: RunOptions<'static> = RunOptions {
+    query: QueryName::Q1,
+    events: "e",
+    config: "c",
+    out: "o",
+    workers: 1,
+    bins: 16,
+    depth: 64,
+    seed: 0,
+};
+
+const RUN: &str = "m run --query q1 --events e --config c --out o";
+
+const REPLAY: &str = "m replay --query q1 --events e --config c --out o";
+
+/// The words of a line, cut at blanks: two blanks side by side make an empty word.
+fn cut(alloc: Global, line: &str) -> Result<Vec<String>, AllocError> {
+    let mut words = Vec::new(alloc);
+    for word in line.split(' ') {
+        words.push(String::from_str(alloc, word)?)?;
+    }
+    Ok(words)
+}
+
+/// Parses the words of a line, and compares the answer.
+fn parses_as<R: AllocGlobal + Abort>(
+    rt: &R,
+    line: &str,
+    want: Result<RunOptions<'_>, WordsRefused>,
+) -> Result<(), AllocError> {
+    let words = cut(rt.alloc(), line)?;
+    assert_eq!(rt; parse(rt.alloc(), words.as_slice()), want, "{line}");
+    Ok(())
+}
+
+/// Parses the words of a line that goes on after a command, and compares the answer.
+fn goes_on_as<R: AllocGlobal + Abort>(
+    rt: &R,
+    command: &str,
+    more: &str,
+    want: Result<RunOptions<'_>, WordsRefused>,
+) -> Result<(), AllocError> {
+    let line = format!(in rt.alloc(); "{command}{more}")?;
+    parses_as(rt, line.as_str(), want)
+}
+
+/// Parses the words of a line that are refused.
+fn refuses<R: AllocGlobal + Abort>(rt: &R, line: &str) -> Result<(), AllocError> {
+    parses_as(rt, line, Err(WordsRefused::Usage))
+}
+
+#[test]
+fn options_come_in_any_order(rt: HostRuntime) -> Result<(), Fail> {
+    let full = RunOptions {
+        query: QueryName::Q2,
+        workers: 3,
+        bins: 32,
+        depth: 5,
+        ..ASKED
+    };
+    let seeded = RunOptions { seed: 9, ..full };
+    let rows = [
+        ("m run --query q1 --events e --config c --out o", ASKED),
+        (
+            "./megaphone run --out o --config c --events e --query q1",
+            ASKED,
+        ),
+        (" run --query q1 --events e --config c --out o", ASKED),
+        (
+            "m run --query q2 --events e --config c --out o --workers 3 --bins 32 --depth 5",
+            full,
+        ),
+        (
+            "m run --depth 5 --out o --bins 32 --config c --workers 3 --events e --query q2",
+            full,
+        ),
+        ("m replay --query q1 --events e --config c --out o", ASKED),
+        (
+            "m replay --query q2 --events e --config c --out o --workers 3 --bins 32 --depth 5 --seed 9",
+            seeded,
+        ),
+        (
+            "m replay --seed 9 --depth 5 --out o --bins 32 --config c --workers 3 --events e --query q2",
+            seeded,
+        ),
+    ];
+    for (line, want) in rows {
+        parses_as(&rt, line, Ok(want))?;
+    }
+    Ok(())
+}
+
+#[test]
+fn queries_are_q1_to_q8(rt: HostRuntime) -> Result<(), Fail> {
+    let rows = [
+        ("q1", QueryName::Q1),
+        ("q2", QueryName::Q2),
+        ("q3", QueryName::Q3),
+        ("q4", QueryName::Q4),
+        ("q5", QueryName::Q5),
+        ("q6", QueryName::Q6),
+        ("q7", QueryName::Q7),
+        ("q8", QueryName::Q8),
+    ];
+    for (name, query) in rows {
+        let line = format!(in rt.alloc(); "m run --query {name} --events e --config c --out o")?;
+        parses_as(&rt, line.as_str(), Ok(RunOptions { query, ..ASKED }))?;
+    }
+    let rows = ["q0", "q9", "q10", "q01", "q", "", "1", "Q1", "q1q2"];
+    for name in rows {
+        let line = format!(in rt.alloc(); "m run --query {name} --events e --config c --out o")?;
+        refuses(&rt, line.as_str())?;
+    }
+    Ok(())
+}
+
+#[test]
+fn clap_decides_the_words(rt: HostRuntime) -> Result<(), Fail> {
+    let rows = [
+        ("m run --query=q1 --events=e --config=c --out=o", ASKED),
+        ("m run --query q1 --events e --config c --out o --", ASKED),
+        (
+            "m run --query q1 --events - --config c --out o",
+            RunOptions {
+                events: "-",
+                ..ASKED
+            },
+        ),
+        (
+            "m run --query q1 --events=--out --config c --out o",
+            RunOptions {
+                events: "--out",
+                ..ASKED
+            },
+        ),
+        (
+            "m run --query q1 --events a=b --config=a=b --out o",
+            RunOptions {
+                events: "a=b",
+                config: "a=b",
+                ..ASKED
+            },
+        ),
+        (
+            "m run --query q1 --events run --config q1 --out o",
+            RunOptions {
+                events: "run",
+                config: "q1",
+                ..ASKED
+            },
+        ),
+        (
+            "m replay --query q1 --events replay --config c --out=--seed",
+            RunOptions {
+                events: "replay",
+                out: "--seed",
+                ..ASKED
+            },
+        ),
+    ];
+    for (line, want) in rows {
+        parses_as(&rt, line, Ok(want))?;
+    }
+    Ok(())
+}
+
+#[test]
+fn names_may_be_empty_or_coincide(rt: HostRuntime) -> Result<(), Fail> {
+    let empty = RunOptions {
+        events: "",
+        ..ASKED
+    };
+    let rows = [
+        ("m run --query q1 --events  --config c --out o", empty),
+        ("m run --query q1 --events= --config c --out o", empty),
+        (
+            "m run --query q1 --events x --config x --out o",
+            RunOptions {
+                events: "x",
+                config: "x",
+                ..ASKED
+            },
+        ),
+    ];
+    for (line, want) in rows {
+        parses_as(&rt, line, Ok(want))?;
+    }
+    let rows = [
+        "m run --query q1 --events o --config c --out o",
+        "m run --query q1 --events e --config o --out o",
+        "m run --query q1 --events o --config o --out o",
+        "m run --query q1 --events  --config c --out ",
+        "m replay --query q1 --events o --config c --out o",
+    ];
+    for line in rows {
+        refuses(&rt, line)?;
+    }
+    Ok(())
+}
+
+#[test]
+fn numbers_have_limits(rt: HostRuntime) -> Result<(), Fail> {
+    let rows = [
+        (" --workers 001", ASKED),
+        (
+            " --workers 16",
+            RunOptions {
+                workers: 16,
+                ..ASKED
+            },
+        ),
+        (" --bins 1", RunOptions { bins: 1, ..ASKED }),
+        (" --bins 0256", RunOptions { bins: 256, ..ASKED }),
+        (" --depth 1", RunOptions { depth: 1, ..ASKED }),
+        (
+            " --depth 1024",
+            RunOptions {
+                depth: 1024,
+                ..ASKED
+            },
+        ),
+    ];
+    for (more, want) in rows {
+        goes_on_as(&rt, RUN, more, Ok(want))?;
+    }
+    let rows = [
+        " --workers 0",
+        " --workers 17",
+        " --workers 017",
+        " --workers x",
+        " --workers ",
+        " --workers +1",
+        " --workers -1",
+        " --workers=-1",
+        " --workers 18446744073709551617",
+        " --bins 3",
+        " --bins 0",
+        " --bins 512",
+        " --bins 257",
+        " --bins 16.",
+        " --depth 0",
+        " --depth 1025",
+        " --depth 4294967297",
+    ];
+    for more in rows {
+        goes_on_as(&rt, RUN, more, Err(WordsRefused::Usage))?;
+    }
+    Ok(())
+}
+
+#[test]
+fn replay_takes_a_seed(rt: HostRuntime) -> Result<(), Fail> {
+    let rows = [
+        ("", 0),
+        (" --seed 0", 0),
+        (" --seed 1", 1),
+        (" --seed=007", 7),
+        (" --seed 281474976710656", 1 << 48),
+    ];
+    for (more, seed) in rows {
+        goes_on_as(&rt, REPLAY, more, Ok(RunOptions { seed, ..ASKED }))?;
+    }
+    let rows = [
+        " --seed",
+        " --seed ",
+        " --seed x",
+        " --seed +1",
+        " --seed=-1",
+        " --seed 281474976710657",
+        " --seed 18446744073709551616",
+        " --seed 1 --seed 1",
+        " --seed 1 2",
+        " --seeds 1",
+    ];
+    for more in rows {
+        goes_on_as(&rt, REPLAY, more, Err(WordsRefused::Usage))?;
+    }
+    Ok(())
+}
+
+#[test]
+fn words_refused(rt: HostRuntime) -> Result<(), Fail> {
+    let rows = [
+        "m",
+        "",
+        "run",
+        "m run",
+        "m replay",
+        "m check",
+        "m make",
+        "m demo",
+        "m walk --query q1 --events e --config c --out o",
+        "m ru --query q1 --events e --config c --out o",
+        "m --query q1 --events e --config c --out o",
+        "m --query q1 run --events e --config c --out o",
+        "m -- run --query q1 --events e --config c --out o",
+        "m run run --query q1 --events e --config c --out o",
+        "m run replay --query q1 --events e --config c --out o",
+        "m run --query q1 --events e --config c --out o replay",
+        "m check --query q1 --events e --config c --out o",
+        "m re --query q1 --events e --config c --out o",
+        "m --seed 0 replay --query q1 --events e --config c --out o",
+        "m run --events e --config c --out o",
+        "m run --query q1 --config c --out o",
+        "m run --query q1 --events e --out o",
+        "m run --query q1 --events e --config c",
+        "m run --query q1 --query q1 --events e --config c --out o",
+        "m run --query q1 --events e --config c --out o --out=p",
+        "m run --query q1 --events e --config c --out o --bins 1 --bins 1",
+        "m run --query q1 --events e --config c --out",
+        "m run --query q1 --events e --out --config c",
+        "m run --query q1 --events e --config c --out --",
+        "m run --query q1 --events -e --config c --out o",
+        "m run --query q1 --events e --config c --out o p",
+        "m run --query q1 --events e --config c --out o -- p",
+        "m run --query q1 --events e --config c --out o ",
+        "m run --query q1 --events e --config c --out o -",
+        "m run --query q1 --events e --config c --out o --seed 0",
+        "m run --query q1 --events e --config c --outfile o",
+        "m run --query q1 --event e --config c --out o",
+        "m run -query q1 --events e --config c --out o",
+    ];
+    for line in rows {
+        refuses(&rt, line)?;
+    }
+    let none: Vec<String> = Vec::new(rt.alloc());
+    assert_eq!(rt;
+        parse(rt.alloc(), none.as_slice()),
+        Err(WordsRefused::Usage)
+    );
+    Ok(())
+}
+
+#[test]
+fn help_and_version_are_unknown_words(rt: HostRuntime) -> Result<(), Fail> {
+    let words = ["--help", "-h", "help", "--version", "-V", "version"];
+    for word in words {
+        let more = format!(in rt.alloc(); " {word}")?;
+        for command in ["m", "m help", RUN, REPLAY] {
+            goes_on_as(&rt, command, more.as_str(), Err(WordsRefused::Usage))?;
+        }
+        let line = format!(in rt.alloc(); "m {word} run --query q1 --events e --config c --out o")?;
+        refuses(&rt, line.as_str())?;
+    }
+    Ok(())
+}
+
+#[test]
+fn refusals_have_a_text(rt: HostRuntime) -> Result<(), Fail> {
+    assert_eq!(rt;
+        WordsRefused::Usage.to_string(rt.alloc())?.as_str(),
+        "no command"
+    );
+    assert_eq!(rt;
+        WordsRefused::NoMemory.to_string(rt.alloc())?.as_str(),
+        "no memory"
+    );
+    Ok(())
+}

@@ -1,0 +1,91 @@
+//! Of the board: what it tells of the posted logs, and its cause of stopping, each call that takes memory with ample memory.
+ghost use Rattle.std.specs.Prelude.{◌≡◌, IfOk};
+ghost use Rattle.mp_names.specs.Logs.{LogIsLegal, empty_log};
+ghost use Rattle.mp_outline.specs.JobOutline.{outline_of};
+ghost use Rattle.mp_rows.specs.Entries.{AreContributions};
+ghost use Rattle.mp_board.specs.Posted.{posted_log};
+ghost use Rattle.mp_samples.specs.Bids.{waking_bids};
+
+use mp_board::{Board, Cause, Frontier, Hub, HubStop, Job, Loc, Log, Naming, OutlineOf, PostedLog};
+use mp_job::Shape;
+use mp_samples::{WakingBids, job_of_bids};
+use std::alloc::{AllocError, Global};
+use std::marker::Brand;
+use std::process::Abort;
+use std::test::Fail;
+
+const SHAPE: Shape = Shape {
+    workers: 2,
+    bins: 1,
+    stages: 1,
+};
+
+// Bids at 30 and 20, the first in the share of worker 0, the second in that of worker 1.
+fn two_bids(alloc: Global) -> Result<Job<WakingBids>, AllocError>
+    ensures { IfOk result (λ job. job.shape ≡ SHAPE) }
+{
+    job_of_bids(alloc, &[30, 20], SHAPE)
+}
+
+// A copy of the empty log of worker 1.
+fn empty_copy<J: Naming>(alloc: Global, job: &Job<WakingBids>) -> Result<PostedLog, AllocError>
+    requires job { job.now ≡ J.job }
+    requires shape { job.now.shape ≡ SHAPE }
+    ensures log { IfOk result (λ p. posted_log p ≡ empty_log) }
+    ensures legal { IfOk result (λ p. LogIsLegal (outline_of waking_bids J.job) 1 (posted_log p)) }
+    ensures contributions { IfOk result (λ p. AreContributions (outline_of waking_bids J.job) 1 (posted_log p) p.entries.items) }
+{
+    let log = Log::<WakingBids, J>::open(alloc, job, 1)?;
+    let copy = PostedLog::of(alloc, &log)?;
+    Ok(copy)
+}
+
+// Posts the empty log of worker 1 once more.
+fn empty_log_again<J: Naming>(
+    rt: &impl Abort,
+    alloc: Global,
+    job: &Job<WakingBids>,
+) -> Result<(), Fail>
+    requires job { job.now ≡ J.job }
+    requires shape { job.now.shape ≡ SHAPE }
+{
+    let mut board = Board::<OutlineOf<WakingBids, J>>::open(alloc, job)?;
+    let seen = board.exchange(1, empty_copy::<J>(alloc, job)?)?;
+    assert_eq!(rt; seen.version(), 0);
+    assert_eq!(rt; seen.frontier(Loc::Source), Frontier::At(20));
+    assert_eq!(rt; seen.frontier(Loc::OutMail), Frontier::At(20));
+    assert_eq!(rt; seen.frontier(Loc::Ctl), Frontier::Done);
+    assert_eq!(rt; seen.frontier(Loc::State(0)), Frontier::Done);
+    assert_eq!(rt; board.seen(), seen);
+    assert!(rt; board.stopped().is_none());
+    Ok(())
+}
+
+#[test]
+fn shows_all_shares(rt: HostRuntime) -> Result<(), Fail> {
+    let job = two_bids(rt.alloc())?;
+    empty_log_again::<Brand>(&rt, rt.alloc(), &job)
+}
+
+// Stops twice, and asks for an exchange then.
+fn first_cause<J: Naming>(rt: &impl Abort, alloc: Global, job: &Job<WakingBids>) -> Result<(), Fail>
+    requires job { job.now ≡ J.job }
+    requires shape { job.now.shape ≡ SHAPE }
+{
+    let mut board = Board::<OutlineOf<WakingBids, J>>::open(alloc, job)?;
+    let posted = empty_copy::<J>(alloc, job)?;
+    board.stop(Cause::Memory);
+    board.stop(Cause::Write);
+    assert_eq!(rt; board.stopped(), Some(Cause::Memory));
+    assert_eq!(rt;
+        Hub::exchange(&mut board, 1, posted),
+        Err(HubStop::Other(Cause::Memory))
+    );
+    Ok(())
+}
+
+#[test]
+fn keeps_the_first_cause(rt: HostRuntime) -> Result<(), Fail> {
+    let job = two_bids(rt.alloc())?;
+    first_cause::<Brand>(&rt, rt.alloc(), &job)
+}

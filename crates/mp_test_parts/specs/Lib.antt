@@ -1,0 +1,3 @@
+-- What the tests cite.
+pub mod Hosts
+pub mod Parts

@@ -1,0 +1,169 @@
+//! Of movers: a bin goes from worker 0 to worker 1 at 10 and back at 20, with ample memory.
+ghost use Rattle.std.specs.Prelude.{◌≡◌, ◌<◌, [], IfOk};
+
+use mp_bins::{Control, Move, Owners, Shape};
+use mp_handoff::{Movers, Sent, count_of_keys, movers_stay};
+use mp_model::{Naming, Time};
+use mp_msg::BinState;
+use mp_samples::WakingBids;
+use mp_stamps::{Counts, Loc, Seen};
+use std::alloc::{AllocError, Global};
+use std::marker::Brand;
+use std::process::Abort;
+use std::test::Fail;
+
+const SHAPE: Shape = Shape {
+    workers: 2,
+    bins: 1,
+    stages: 1,
+};
+
+const TO_WORKER_1: Move = Move {
+    time: 10,
+    stage: 0,
+    bin: 0,
+    from: 0,
+    to: 1,
+};
+
+const BACK: Move = Move {
+    time: 20,
+    stage: 0,
+    bin: 0,
+    from: 1,
+    to: 0,
+};
+
+const BACK_WITH_NO_KEYS: Sent = Sent {
+    bin: 0,
+    time: 20,
+    keys: 0,
+};
+
+fn to_worker(worker: u32, time: Time) -> Control
+    ensures { result ≡ record { time = time; stage = 0; bin = 0; worker = worker } }
+{
+    Control {
+        time,
+        stage: 0,
+        bin: 0,
+        worker,
+    }
+}
+
+// Both control records are noted, whether or not the stream has passed them.
+fn both_noted(alloc: Global) -> Result<Owners, AllocError>
+    ensures { IfOk result (λ o. o.shape ≡ SHAPE) }
+{
+    let mut owners = Owners::new(alloc, SHAPE)?;
+    owners.note(0, to_worker(1, 10))?;
+    owners.note(1, to_worker(0, 20))?;
+    Ok(owners)
+}
+
+// The movers of a worker that has noted both times, one of them twice.
+fn noted<J: Naming>(alloc: Global, worker: u32) -> Result<Movers<WakingBids, J>, AllocError>
+    requires shape { J.job.shape ≡ SHAPE }
+    requires worker { worker < 2 }
+{
+    let mut movers = Movers::<WakingBids, J>::new(alloc, 0, worker);
+    movers.make_room(3)?;
+    movers.note(20)?;
+    movers.note(10)?;
+    movers.note(20)?;
+    Ok(movers)
+}
+
+// What was seen while control records may still come at one time and groups still wait at another.
+fn seen_at(alloc: Global, control: Option<Time>, group: Option<Time>) -> Result<Seen, AllocError> {
+    let mut counts = Counts::new(alloc);
+    if let Some(time) = control {
+        counts.add(Loc::CtlMail, time, 1)?;
+    }
+    if let Some(time) = group {
+        counts.add(Loc::Host(0), time, 1)?;
+    }
+    Ok(Seen::of(1, 0, &counts))
+}
+
+// Worker 0 sends the bin at 10, and has nothing to send at 20.
+fn first_owner_hands_off<J: Naming>(
+    rt: &impl Abort,
+    alloc: Global,
+    owners: &Owners,
+) -> Result<(), Fail>
+    requires owners { owners.now.shape ≡ J.job.shape }
+    requires shape { J.job.shape ≡ SHAPE }
+    requires events { J.job.events ≡ [] }
+{
+    let mut movers = noted::<J>(alloc, 0)?;
+    let not_passed = seen_at(alloc, Some(10), None)?;
+    let not_reached = seen_at(alloc, None, Some(9))?;
+    let at_ten = seen_at(alloc, Some(15), Some(10))?;
+    let done = seen_at(alloc, None, None)?;
+    assert!(rt; movers.unsettled(10) && movers.unsettled(20) && !movers.unsettled(15));
+    assert_eq!(rt; movers.due(&not_passed, owners), None);
+    assert_eq!(rt; movers.due(&not_reached, owners), None);
+    assert_eq!(rt; movers.due(&at_ten, owners), Some(TO_WORKER_1));
+    assert_eq!(rt; movers.settle(&done, owners), None);
+    movers.make_room_for_sent()?;
+    movers.sent(TO_WORKER_1, 0);
+    assert_eq!(rt; movers.due(&done, owners), None);
+    assert_eq!(rt; movers.settle(&not_passed, owners), None);
+    assert_eq!(rt; movers.settle(&at_ten, owners), Some(10));
+    assert_eq!(rt; movers.settle(&at_ten, owners), None);
+    assert_eq!(rt; movers.settle(&done, owners), Some(20));
+    assert_eq!(rt; movers.settle(&done, owners), None);
+    Ok(())
+}
+
+// Worker 1 has nothing to send at 10, and sends the bin back at 20.
+fn second_owner_hands_back<J: Naming>(
+    rt: &impl Abort,
+    alloc: Global,
+    owners: &Owners,
+) -> Result<(), Fail>
+    requires owners { owners.now.shape ≡ J.job.shape }
+    requires shape { J.job.shape ≡ SHAPE }
+    requires events { J.job.events ≡ [] }
+{
+    let mut movers = noted::<J>(alloc, 1)?;
+    let waits = seen_at(alloc, None, Some(19))?;
+    let done = seen_at(alloc, None, None)?;
+    assert_eq!(rt; movers.due(&waits, owners), None);
+    assert_eq!(rt; movers.settle(&waits, owners), Some(10));
+    assert_eq!(rt; movers.settle(&done, owners), None);
+    assert_eq!(rt; movers.due(&done, owners), Some(BACK));
+    assert!(rt; movers.unsettled(20) && !movers.unsettled(10));
+    movers.make_room_for_sent()?;
+    movers.sent(BACK, 0);
+    assert_eq!(rt; movers.due(&done, owners), None);
+    assert_eq!(rt; movers.settle(&done, owners), Some(20));
+    assert!(rt; !movers.unsettled(20));
+    assert_eq!(rt; movers.sent_so_far(), [BACK_WITH_NO_KEYS].as_slice());
+    Ok(())
+}
+
+fn bin_goes_and_comes_back<J: Naming>(rt: &impl Abort, alloc: Global) -> Result<(), Fail>
+    requires shape { J.job.shape ≡ SHAPE }
+    requires events { J.job.events ≡ [] }
+{
+    movers_stay();
+    let owners = both_noted(alloc)?;
+    first_owner_hands_off::<J>(rt, alloc, &owners)?;
+    second_owner_hands_back::<J>(rt, alloc, &owners)
+}
+
+#[test]
+fn bins_leave_in_turn(rt: HostRuntime) -> Result<(), Fail> {
+    bin_goes_and_comes_back::<Brand>(&rt, rt.alloc())
+}
+
+#[test]
+fn cells_are_counted(rt: HostRuntime) -> Result<(), Fail> {
+    let mut state = BinState::new(rt.alloc());
+    assert_eq!(rt; count_of_keys(&state), 0);
+    state.cells.insert(7, 1u64)?;
+    assert_eq!(rt; count_of_keys(&state), 1);
+    Ok(())
+}

@@ -1,0 +1,18 @@
+//! Layer: tests, a crate for each layer.
+//!
+//! Tests of whole runs: workers driven on one thread, step by step, by the seeded schedule, and beside the
+//! reference answer.
+#![tactic(auto)]
+
+#[cfg(test)]
+mod draws;
+#[cfg(test)]
+mod fold;
+#[cfg(test)]
+mod handing;
+#[cfg(test)]
+mod passes;
+#[cfg(test)]
+mod script;
+#[cfg(test)]
+mod worked;

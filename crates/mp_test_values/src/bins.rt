@@ -1,0 +1,182 @@
+//! The worked values, each call that allocates once with ample memory.
+ghost use Rattle.std.specs.Prelude.{◌≡◌, Some};
+
+use mp_bins::{Control, Move, Owners, Shape, bin_of, first_owner};
+use mp_names::{Time, TimedBin};
+use std::test::Fail;
+
+const ONE_BIN: Shape = Shape {
+    workers: 2,
+    bins: 1,
+    stages: 1,
+};
+
+const FOUR_BINS: Shape = Shape {
+    workers: 3,
+    bins: 4,
+    stages: 1,
+};
+
+fn to_worker(worker: u32, time: u64) -> Control
+    ensures { result ≡ record { time = time; stage = 0; bin = 0; worker = worker } }
+{
+    bin_to_worker(0, worker, time)
+}
+
+fn bin_to_worker(bin: u32, worker: u32, time: u64) -> Control
+    ensures { result ≡ record { time = time; stage = 0; bin = bin; worker = worker } }
+{
+    Control {
+        time,
+        stage: 0,
+        bin,
+        worker,
+    }
+}
+
+fn moved(time: u64, from: u32, to: u32) -> Move {
+    bin_moved(0, time, from, to)
+}
+
+fn bin_moved(bin: u32, time: u64, from: u32, to: u32) -> Move {
+    Move {
+        time,
+        stage: 0,
+        bin,
+        from,
+        to,
+    }
+}
+
+/// Behind the move of a bin at a time.
+fn after(time: Time, bin: u32) -> Option<TimedBin>
+    ensures { result ≡ Some (record { time = time; bin = bin }) }
+{
+    Some(TimedBin { time, bin })
+}
+
+#[test]
+fn bins_of_small_keys(rt: HostRuntime) {
+    for (key, of_four, of_two) in [
+        (0, 0, 0),
+        (1, 2, 1),
+        (2, 0, 0),
+        (3, 3, 1),
+        (4, 1, 0),
+        (5, 0, 0),
+    ] {
+        assert_eq!(rt; bin_of(key, 4), of_four);
+        assert_eq!(rt; bin_of(key, 2), of_two);
+        assert_eq!(rt; bin_of(key, 1), 0);
+    }
+}
+
+#[test]
+fn first_owners_of_four_bins(rt: HostRuntime) {
+    assert_eq!(rt; first_owner(FOUR_BINS, 2), 2);
+    assert_eq!(rt; first_owner(FOUR_BINS, 3), 0);
+}
+
+#[test]
+fn notes_in_any_order(rt: HostRuntime) -> Result<(), Fail> {
+    let mut owners = Owners::new(rt.alloc(), ONE_BIN)?;
+    owners.note(1, to_worker(0, 10))?;
+    owners.note(0, to_worker(1, 10))?;
+    assert_eq!(rt; owners.owner(0, 0, 10), 0);
+    assert!(rt; owners.moves()?.is_empty());
+    Ok(())
+}
+
+#[test]
+fn bin_moves_there_and_back(rt: HostRuntime) -> Result<(), Fail> {
+    let mut owners = Owners::new(rt.alloc(), ONE_BIN)?;
+    owners.make_room(2)?;
+    owners.note(0, to_worker(1, 10))?;
+    owners.note(1, to_worker(0, 20))?;
+    for (time, worker) in [(9, 0), (10, 1), (19, 1), (20, 0), (25, 0)] {
+        assert_eq!(rt; owners.owner(0, 0, time), worker);
+    }
+    assert_eq!(rt; owners.before(0, 0, 10), 0);
+    assert_eq!(rt; owners.before(0, 0, 20), 1);
+    let moves = owners.moves()?;
+    assert_eq!(rt;
+        moves.as_slice(),
+        [moved(10, 0, 1), moved(20, 1, 0)].as_slice()
+    );
+    Ok(())
+}
+
+#[test]
+fn last_record_of_a_time_wins(rt: HostRuntime) -> Result<(), Fail> {
+    let mut owners = Owners::new(rt.alloc(), ONE_BIN)?;
+    owners.note(0, to_worker(1, 10))?;
+    owners.note(1, to_worker(0, 10))?;
+    for time in [9, 10, 19, 20, 25] {
+        assert_eq!(rt; owners.owner(0, 0, time), 0);
+    }
+    assert!(rt; owners.moves()?.is_empty());
+    Ok(())
+}
+
+#[test]
+fn bin_leaves_there_and_back(rt: HostRuntime) -> Result<(), Fail> {
+    let mut owners = Owners::new(rt.alloc(), ONE_BIN)?;
+    owners.note(0, to_worker(1, 10))?;
+    owners.note(1, to_worker(0, 20))?;
+    assert_eq!(rt; owners.next_leaving(0, 0, None), Some(moved(10, 0, 1)));
+    assert_eq!(rt;
+        owners.next_leaving(0, 0, after(9, 5)),
+        Some(moved(10, 0, 1))
+    );
+    assert_eq!(rt; owners.next_leaving(0, 0, after(10, 0)), None);
+    assert_eq!(rt; owners.next_leaving(0, 1, None), Some(moved(20, 1, 0)));
+    assert_eq!(rt; owners.next_leaving(0, 1, after(20, 0)), None);
+    assert_eq!(rt; owners.next_leaving(0, 1, after(u64::MAX, 0)), None);
+    Ok(())
+}
+
+#[test]
+fn bin_leaves_by_the_last_record_of_a_time(rt: HostRuntime) -> Result<(), Fail> {
+    let mut owners = Owners::new(rt.alloc(), ONE_BIN)?;
+    owners.note(0, to_worker(1, 10))?;
+    owners.note(1, to_worker(0, 10))?;
+    owners.note(2, to_worker(1, 30))?;
+    assert_eq!(rt; owners.next_leaving(0, 0, None), Some(moved(30, 0, 1)));
+    assert_eq!(rt; owners.next_leaving(0, 1, None), None);
+    Ok(())
+}
+
+#[test]
+fn two_bins_leave_at_one_time(rt: HostRuntime) -> Result<(), Fail> {
+    let mut owners = Owners::new(rt.alloc(), FOUR_BINS)?;
+    owners.note(0, bin_to_worker(3, 1, 10))?;
+    owners.note(1, bin_to_worker(0, 2, 10))?;
+    owners.note(2, bin_to_worker(1, 0, 5))?;
+    assert_eq!(rt;
+        owners.next_leaving(0, 0, None),
+        Some(bin_moved(0, 10, 0, 2))
+    );
+    assert_eq!(rt;
+        owners.next_leaving(0, 0, after(10, 0)),
+        Some(bin_moved(3, 10, 0, 1))
+    );
+    assert_eq!(rt; owners.next_leaving(0, 0, after(10, 3)), None);
+    assert_eq!(rt;
+        owners.next_leaving(0, 1, None),
+        Some(bin_moved(1, 5, 1, 0))
+    );
+    assert_eq!(rt; owners.next_leaving(0, 2, None), None);
+    Ok(())
+}
+
+#[test]
+fn thousands_of_records_of_one_bin(rt: HostRuntime) -> Result<(), Fail> {
+    let mut owners = Owners::new(rt.alloc(), FOUR_BINS)?;
+    for index in 0..3000 {
+        owners.note(index, bin_to_worker(0, index % 3, u64::from(index)))?;
+    }
+    for time in 0..3000 {
+        assert_eq!(rt; owners.owner(0, 0, u64::from(time)), time % 3);
+    }
+    Ok(())
+}

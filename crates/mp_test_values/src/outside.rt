@@ -1,0 +1,220 @@
+//! Values from worked examples, and each call that takes memory once with ample memory.
+ghost use Rattle.std.specs.Prelude.{◌≡◌, OnOk};
+ghost use Rattle.mp_outside.specs.Files.{with_file};
+
+use mp_outside::{
+    Depot, DepotSink, Fault, HostDepot, HostOut, MemDepot, MemSink, NeverFails, NoSink, Op,
+    ReadRefused, Sink, append_piece, read_all, write_piece,
+};
+use std::alloc::Global;
+use std::test::Fail;
+use std::{env, fs, process};
+
+/// Makes a name with these bytes, by the calls of any depot.
+fn make<D: Depot>(depot: &mut D, name: &str, bytes: &[u8]) -> Result<(), Fault>
+    ensures { OnOk result (D.files depot.new ≡ with_file (D.files depot.old) name.now bytes.now) }
+{
+    depot.begin(name)?;
+    append_piece(depot, name, bytes)?;
+    Ok(())
+}
+
+/// Makes a name and reads it again.
+fn made_and_read<D: Depot>(alloc: Global, depot: &mut D) -> Result<Vec<u8>, ReadRefused> {
+    make(depot, "made", b"xyz")?;
+    read_all(alloc, depot, "made", 3)
+}
+
+/// How much of a piece one call puts behind a name, or `None` where the name isn't there.
+fn appended<D: Depot>(depot: &mut D, name: &str, piece: &[u8]) -> Result<Option<usize>, Fault> {
+    if !depot.find(name)? {
+        return Ok(None);
+    }
+    Ok(Some(depot.append(name, piece)?))
+}
+
+/// Which calls answer `Failed`, of a `find` of a name that is there, and then of a `read`, an `append` and a `begin`.
+fn failed_calls<D: Depot>(depot: &mut D, name: &str) -> [bool; 4] {
+    match depot.find(name) {
+        Ok(true) => {}
+        found => return [found == Err(Fault::Failed), false, false, false],
+    }
+    let read = depot.read(name, 0, &mut [0]);
+    let appended = depot.append(name, b"d");
+    let begun = depot.begin(name);
+    [
+        false,
+        read == Err(Fault::Failed),
+        appended == Err(Fault::Failed),
+        begun == Err(Fault::Failed),
+    ]
+}
+
+/// A depot with one file.
+fn abc(alloc: Global) -> Result<MemDepot, Fail> {
+    let mut depot = MemDepot::new(alloc);
+    depot.put("abc", b"abc")?;
+    Ok(depot)
+}
+
+/// Writes a second line behind the first, where that is there.
+fn second_line(depot: &mut MemDepot) -> Result<(), Fault> {
+    if !depot.find("out")? {
+        return Ok(());
+    }
+    write_piece(&mut DepotSink::new(depot, "out"), b"5|2|9|88\n")
+}
+
+#[test]
+fn read_all_limits(rt: HostRuntime) -> Result<(), Fail> {
+    let mut depot = abc(rt.alloc())?;
+    let whole = read_all(rt.alloc(), &mut depot, "abc", 3)?;
+    assert_eq!(rt; whole.as_slice(), b"abc".as_slice());
+    let short = read_all(rt.alloc(), &mut depot, "abc", 2).err();
+    assert_eq!(rt; short, Some(ReadRefused::TooLarge));
+    let absent = read_all(rt.alloc(), &mut depot, "abd", 3).err();
+    assert_eq!(rt; absent, Some(ReadRefused::NotThere));
+    Ok(())
+}
+
+#[test]
+fn files_missing_or_unreadable(rt: HostRuntime) -> Result<(), Fail> {
+    let mut depot = abc(rt.alloc())?;
+    depot.fail(Op::Read, 1)?;
+    depot.fail(Op::Find, 3)?;
+    let unreadable = read_all(rt.alloc(), &mut depot, "abc", 3).err();
+    assert_eq!(rt; unreadable, Some(ReadRefused::Failed));
+    let readable = read_all(rt.alloc(), &mut depot, "abc", 3).is_ok();
+    assert!(rt; readable);
+    let unfound = read_all(rt.alloc(), &mut depot, "abc", 3).err();
+    assert_eq!(rt; unfound, Some(ReadRefused::Failed));
+    Ok(())
+}
+
+#[test]
+fn depots_in_memory(rt: HostRuntime) -> Result<(), Fail> {
+    let mut depot = MemDepot::new(rt.alloc());
+    let read = made_and_read(rt.alloc(), &mut depot)?;
+    assert_eq!(rt; read.as_slice(), b"xyz".as_slice());
+    assert_eq!(rt; depot.get("made").ok_or("absent")?, b"xyz".as_slice());
+    let mut never = NeverFails::new(rt.alloc());
+    let read = made_and_read(rt.alloc(), &mut never)?;
+    assert_eq!(rt; read.as_slice(), b"xyz".as_slice());
+    Ok(())
+}
+
+#[test]
+fn append_fails(rt: HostRuntime) -> Result<(), Fail> {
+    let mut depot = MemDepot::new(rt.alloc());
+    depot.fail(Op::Append, 2)?;
+    depot.fail(Op::Begin, 2)?;
+    assert_eq!(rt; make(&mut depot, "out", b"3|7|1|222\n"), Ok(()));
+    assert_eq!(rt; depot.begin("out"), Err(Fault::Failed));
+    assert_eq!(rt; second_line(&mut depot), Err(Fault::Failed));
+    assert_eq!(rt;
+        depot.get("out").ok_or("absent")?,
+        b"3|7|1|222\n".as_slice()
+    );
+    assert_eq!(rt; second_line(&mut depot), Ok(()));
+    let both = b"3|7|1|222\n5|2|9|88\n".as_slice();
+    assert_eq!(rt; depot.get("out").ok_or("absent")?, both);
+    Ok(())
+}
+
+#[test]
+fn each_call_fails_by_its_own_plan(rt: HostRuntime) -> Result<(), Fail> {
+    let none = [false; 4];
+    let rows = [
+        (Op::Find, [true, false, false, false]),
+        (Op::Read, [false, true, false, false]),
+        (Op::Append, [false, false, true, false]),
+        (Op::Begin, [false, false, false, true]),
+        (Op::Write, none),
+    ];
+    for (op, second) in rows {
+        let mut depot = abc(rt.alloc())?;
+        depot.fail(op, 2)?;
+        for want in [none, second, none] {
+            assert_eq!(rt; failed_calls(&mut depot, "abc"), want, "where {op:?} fails");
+        }
+    }
+    Ok(())
+}
+
+#[test]
+fn pieces_are_taken_whole(rt: HostRuntime) -> Result<(), Fail> {
+    let mut depot = abc(rt.alloc())?;
+    assert_eq!(rt; appended(&mut depot, "abc", b"defg"), Ok(Some(4)));
+    assert_eq!(rt; appended(&mut depot, "abc", b""), Ok(Some(0)));
+    assert_eq!(rt; appended(&mut depot, "abd", b"efg"), Ok(None));
+    assert_eq!(rt; MemSink::new(rt.alloc()).write(b"abcd"), Ok(4));
+
+    let mut never = NeverFails::new(rt.alloc());
+    assert_eq!(rt; never.put("abc", b"abc"), Ok(()));
+    assert_eq!(rt; appended(&mut never, "abc", b"defg"), Ok(Some(4)));
+    assert_eq!(rt; never.write(b"abcd"), Ok(4));
+    Ok(())
+}
+
+#[test]
+fn sinks_in_memory(rt: HostRuntime) -> Result<(), Fail> {
+    let mut sink = MemSink::new(rt.alloc());
+    sink.fail(Op::Write, 2)?;
+    assert_eq!(rt; write_piece(&mut sink, b"first"), Ok(()));
+    assert_eq!(rt; write_piece(&mut sink, b"lost"), Err(Fault::Failed));
+    assert_eq!(rt; write_piece(&mut sink, b", last"), Ok(()));
+    assert_eq!(rt; sink.bytes(), b"first, last".as_slice());
+
+    let mut never = NeverFails::new(rt.alloc());
+    assert_eq!(rt; write_piece(&mut never, b"all"), Ok(()));
+    assert_eq!(rt; never.bytes(), b"all".as_slice());
+    assert_eq!(rt; never.put("file", b"bytes"), Ok(()));
+    assert_eq!(rt; never.get("file").ok_or("absent")?, b"bytes".as_slice());
+
+    assert_eq!(rt; write_piece(&mut NoSink, b"none"), Err(Fault::Failed));
+    Ok(())
+}
+
+#[test]
+fn files_and_written_bytes_stay_apart(rt: HostRuntime) -> Result<(), Fail> {
+    let mut never = NeverFails::new(rt.alloc());
+    assert_eq!(rt; never.write(b"said"), Ok(4));
+    let read = made_and_read(rt.alloc(), &mut never)?;
+    assert_eq!(rt; read.as_slice(), b"xyz".as_slice());
+    assert_eq!(rt; never.bytes(), b"said".as_slice());
+    assert_eq!(rt; never.write(b" more"), Ok(5));
+    assert_eq!(rt; never.get("made").ok_or("absent")?, b"xyz".as_slice());
+    assert_eq!(rt; never.bytes(), b"said more".as_slice());
+    Ok(())
+}
+
+#[test]
+fn host_depot(rt: HostRuntime) -> Result<(), Fail> {
+    let mut path = env::temp_dir(&rt)?;
+    let id = process::id(rt.process());
+    path.push(format!(in rt.alloc(); "mp_outside_{id}")?.as_str())?;
+    let name = path.as_str();
+    let mut depot = HostDepot::new(&rt);
+    assert_eq!(rt; make(&mut depot, name, b"xyz"), Ok(()));
+    assert_eq!(rt; make(&mut depot, name, b"longer"), Ok(()));
+    let read = read_all(rt.alloc(), &mut depot, name, 6)?;
+    assert_eq!(rt; read.as_slice(), b"longer".as_slice());
+    let long = read_all(rt.alloc(), &mut depot, name, 5).err();
+    assert_eq!(rt; long, Some(ReadRefused::TooLarge));
+    assert_eq!(rt; append_piece(&mut depot, name, b" than"), Ok(()));
+    let more = read_all(rt.alloc(), &mut depot, name, 11)?;
+    assert_eq!(rt; more.as_slice(), b"longer than".as_slice());
+    let inside = format!(in rt.alloc(); "{name}/inside")?;
+    assert_eq!(rt; depot.find(inside.as_str()), Err(Fault::Failed));
+    fs::remove_file(&rt, name)?;
+    assert_eq!(rt; depot.find(name), Ok(false));
+    assert_eq!(rt; depot.append(name, b"more"), Err(Fault::Failed));
+    Ok(())
+}
+
+#[test]
+fn host_out(rt: HostRuntime) -> Result<(), Fail> {
+    let mut out = HostOut::new(&rt);
+    assert_eq!(rt; write_piece(&mut out, b"a line\n"), Ok(()));
+    Ok(())
+}

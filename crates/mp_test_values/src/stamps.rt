@@ -1,0 +1,49 @@
+//! The worked values, with ample memory.
+use mp_names::limits::MAX_STAGES_SEEN;
+use mp_stamps::{Counts, Frontier, Loc, Seen, passed, reaches};
+use std::test::Fail;
+
+#[test]
+fn frontier_of_counts_of_both_signs(rt: HostRuntime) -> Result<(), Fail> {
+    let mut counts = Counts::new(rt.alloc());
+    assert_eq!(rt; counts.frontier(Loc::Host(0)), Frontier::Done);
+    counts.add(Loc::Mail(0), 9, 1)?;
+    counts.add(Loc::Mail(0), 5, -1)?;
+    assert_eq!(rt; counts.frontier(Loc::Host(0)), Frontier::At(5));
+    assert_eq!(rt; counts.frontier(Loc::State(0)), Frontier::Done);
+    counts.add(Loc::Mail(0), 5, 1)?;
+    assert_eq!(rt; counts.at(Loc::Mail(0), 5), 0);
+    assert_eq!(rt; counts.frontier(Loc::Host(0)), Frontier::At(9));
+    counts.add(Loc::Mail(0), 9, -1)?;
+    assert_eq!(rt; counts.frontier(Loc::Host(0)), Frontier::Done);
+    Ok(())
+}
+
+#[test]
+fn passed_at_the_boundary(rt: HostRuntime) {
+    assert!(rt; passed(Frontier::At(5), 4));
+    assert!(rt; !passed(Frontier::At(5), 5));
+    assert!(rt; passed(Frontier::Done, 5));
+    assert!(rt; reaches(Loc::Host(0), Loc::Route(1)));
+    assert!(rt; !reaches(Loc::Host(1), Loc::Route(1)));
+}
+
+#[test]
+fn seen_at_each_location(rt: HostRuntime) -> Result<(), Fail> {
+    let mut counts = Counts::new(rt.alloc());
+    counts.add(Loc::Host(3), 7, 1)?;
+    counts.add(Loc::Move(1), 4, 2)?;
+    let seen = Seen::of(MAX_STAGES_SEEN, 9, &counts);
+    assert_eq!(rt; seen.version(), 9);
+    assert_eq!(rt; seen.stages(), 4);
+    assert_eq!(rt; seen.frontier(Loc::CtlMail), Frontier::Done);
+    assert_eq!(rt; seen.frontier(Loc::Move(1)), Frontier::At(4));
+    assert_eq!(rt; seen.frontier(Loc::Move(2)), Frontier::Done);
+    assert_eq!(rt; seen.frontier(Loc::State(1)), Frontier::At(4));
+    assert_eq!(rt; seen.frontier(Loc::Host(3)), Frontier::At(4));
+    assert_eq!(rt; seen.frontier(Loc::OutMail), Frontier::At(4));
+    assert_eq!(rt; seen.frontier(Loc::Host(u32::MAX)), Frontier::Done);
+    let none = Seen::of(1, 0, &Counts::new(rt.alloc()));
+    assert_eq!(rt; none.frontier(Loc::Host(0)), Frontier::Done);
+    Ok(())
+}
