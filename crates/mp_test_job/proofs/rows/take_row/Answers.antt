@@ -4,4 +4,4 @@ use Rattle.mp_rows.proofs.RowTaken.{row_taken}
 use Rattle.mp_test_job.proofs.rows.take_row.Goals as goal
 
 pub push-requires-clause-changes : goal.push-requires-clause-changes
-push-requires-clause-changes g c = λ κs b. row_taken (outline_of waking_bids g.J.Naming.job) c.args.log.now.worker c.args.log.now.log c.args.time (record { 0 = 7; 1 = 0 })
+push-requires-clause-changes g c = λ κs b. rw c.change.ensures (row_taken (outline_of waking_bids g.J.Naming.job) c.args.log.now.worker c.args.log.now.log c.args.time (record { 0 = 7; 1 = 0 }))
