@@ -14,7 +14,7 @@ pub fn one_more(loc: Loc, time: Time) -> Change
     }
 }
 
-/// One less is.
+/// One less is outstanding at a location and time.
 pub fn one_less(loc: Loc, time: Time) -> Change
     ensures { result ≡ one_less loc time }
 {

@@ -25,7 +25,7 @@ same_loc _ _ = false
 abbrev pub is_stamp : Loc → ℕ → Pointstamp → Bool
 is_stamp a t p = same_loc p.loc a && p.time == t
 
--- the entry is
+-- the entry is of this location and time
 abbrev pub is_of : Loc → ℕ → Count → Bool
 is_of a t c = is_stamp a t c.at
 
