@@ -2,6 +2,7 @@
 // answers of the system are trusted, and each of its errors is counted.
 ghost use Rattle.std.specs.Prelude.{◌≡◌, ◌<◌, ◌≤◌, ⊤, None, length, IfOk};
 ghost use Rattle.mp_outside.specs.Fault.{Rose};
+ghost use Rattle.mp_outside.specs.declared.fault.Fault.TheVariants.{Failed};
 
 use crate::{Depot, Fault, Sink};
 use std::fs::{self, OpenOptions};
@@ -33,6 +34,7 @@ impl<'a, R: Files> HostDepot<'a, R> {
 
 // Counts a failure of the system, as far as the count goes.
 fn failed(faults: &mut u64) -> Fault
+    ensures fault { result ≡ Failed }
     ensures rises { Rose faults.old faults.new }
     ensures never_falls { faults.old ≤ faults.new }
 {
