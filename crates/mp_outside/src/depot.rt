@@ -20,6 +20,10 @@ pub trait Depot {
     /// How often a `begin` or an `append` has failed.
     ghost write_faults: { Self → ℕ };
 
+    /// What else is known of the depot, none of which a call changes: for one that is a sink too, the
+    /// bytes written to it.
+    ghost frame: { Self → Option (List ℕ) } = { λ _. None };
+
     /// A `find` of this name gave this answer, and took the depot from the first state to the last.
     ghost found: { Self → List ℕ → Bool → Self → Type 0 };
 
@@ -30,6 +34,7 @@ pub trait Depot {
         ensures found { IfOk result (λ there. found self.old name.now there self.new) }
 
         ensures reads_only { OnlyReads files read_faults write_faults self.old self.new }
+        ensures frame { frame self.new ≡ frame self.old }
         ensures cause { HasCause (read_faults self.old) (read_faults self.new) result };
 
     /// Reads from byte `at` on into the front of `into`, and answers how many bytes it read. 0 says
@@ -44,6 +49,7 @@ pub trait Depot {
             IfSome (file_at (files self.old) name.now) (λ bytes. length bytes ≤ at)) }
 
         ensures reads_only { OnlyReads files read_faults write_faults self.old self.new }
+        ensures frame { frame self.new ≡ frame self.old }
         ensures cause { HasCause (read_faults self.old) (read_faults self.new) result };
 
     /// Makes the name there with no bytes, whether it was there or not.
@@ -52,6 +58,7 @@ pub trait Depot {
         ensures unchanged { OnErr result (files self.new ≡ files self.old) }
 
         ensures writes_only { OnlyWrites read_faults write_faults self.old self.new }
+        ensures frame { frame self.new ≡ frame self.old }
         ensures cause { HasCause (write_faults self.old) (write_faults self.new) result };
 
     /// Puts a part of the piece, from its front, behind the name's bytes, and answers its length: at
@@ -66,5 +73,6 @@ pub trait Depot {
         ensures unchanged { OnErr result (files self.new ≡ files self.old) }
 
         ensures writes_only { OnlyWrites read_faults write_faults self.old self.new }
+        ensures frame { frame self.new ≡ frame self.old }
         ensures cause { HasCause (write_faults self.old) (write_faults self.new) result };
 }
