@@ -96,7 +96,7 @@ impl<T: Rows> SeatLock<T> {
         }
     }
 
-    /// Takes the value, if no other seat holds it.
+    /// Takes the value, if no other seat holds it. `None` says for sure only that there is another seat.
     pub fn try_take(&self, seat: &mut Seat<T>) -> Option<T>
         requires { IsIdle self.now seat.old }
 
@@ -151,7 +151,8 @@ impl<T: Rows> SeatLock<T> {
         self.table.shared.store::<Puts>(&mut seat.inner, 0, 0);
     }
 
-    /// Gives the value as it was put last, for all seats of the lock.
+    /// Gives the value as it was put last, for all seats of the lock in the order of their numbers. (A seat has no
+    /// bytes, so it couldn't be sorted here.)
     pub fn close(self, mut seats: Vec<Seat<T>>) -> T
         requires seats { AreIdle self seats.items }
         requires all { length seats.items ≡ self.seats }

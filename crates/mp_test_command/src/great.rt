@@ -1,13 +1,9 @@
 //! Files of more bytes than may be read.
 ghost use Rattle.std.specs.Prelude.{None, ⊤};
 
-use crate::fixture::cut;
-use mp_cli::run;
-use mp_gate::OpenGate;
-use mp_outside::{Depot, Fault, MemSink};
+use crate::fixture::ended;
+use mp_outside::{Depot, Fault};
 use std::test::Fail;
-
-const Q1: &str = "megaphone run --query q1 --events e --config c --out o";
 
 /// A depot in which one name has bytes without end, and each other name none. It holds no bytes, and no call
 /// fails.
@@ -50,11 +46,7 @@ impl Depot for EndlessFile {
 
 #[test]
 fn too_large(rt: HostRuntime) -> Result<(), Fail> {
-    let words = cut(rt.alloc(), Q1)?;
-    let mut depot = EndlessFile { name: "e" };
-    let mut said = MemSink::new(rt.alloc());
-    let ended = run(&rt, words.as_slice(), &mut depot, &mut said, &OpenGate);
-    assert_eq!(rt; ended.code, 9);
-    assert_eq!(rt; said.bytes(), b"too large: e\n".as_slice());
+    let (code, said) = ended(&rt, &mut EndlessFile { name: "e" })?;
+    assert_eq!(rt; (code, said.bytes()), (9, b"too large: e\n".as_slice()));
     Ok(())
 }

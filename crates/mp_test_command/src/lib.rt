@@ -1,15 +1,12 @@
 //! Layer: tests, a crate for each layer.
 //!
-//! Tests of the command: what comes of words, files and faults, and the answers to worked examples.
+//! Tests of the command where a file or an output fails, and of a file that is too large. What files of the system come to
+//! stands in examples/cases.toml.
 #![tactic(auto)]
 
+#[cfg(test)]
+mod faults;
 #[cfg(test)]
 mod fixture;
 #[cfg(test)]
 mod great;
-#[cfg(test)]
-mod moves;
-#[cfg(test)]
-mod tests;
-#[cfg(test)]
-mod worked;

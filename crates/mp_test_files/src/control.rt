@@ -1,4 +1,4 @@
-//! The worked values.
+//! Records in file order, and the greatest file.
 use mp_control::{Control, ControlReason, ControlRefused, Shape, read_control};
 use std::alloc::{AllocError, Global};
 use std::test::Fail;
@@ -45,86 +45,20 @@ fn records_come_in_file_order(rt: HostRuntime) -> Result<(), Fail> {
 }
 
 #[test]
-fn first_bad_line(rt: HostRuntime) -> Result<(), Fail> {
-    let rows: [(&[u8], Outcome); 9] = [
-        (b"", Ok(0)),
-        (b"\n\r\n\n", Ok(0)),
-        (b"M|10|0|0|1\nM|20|0|0|0\n", Ok(2)),
-        (b"M|5|0|0|3\n", Err((1, ControlReason::Range))),
-        (b"M|5|0|0|2", Ok(1)),
-        (b"M|5|0|0|", Err((1, ControlReason::Number))),
-        (b"M|5|0|0", Err((1, ControlReason::Fields))),
-        (
-            b"\n\r\nM|5|0|0|1\n\nM\nx\n",
-            Err((5, ControlReason::Fields)),
-        ),
-        (b"M|5|0|0|1\r\n\r\nx\nM", Err((3, ControlReason::Kind))),
-    ];
-    for (text, want) in rows {
-        assert_eq!(rt; outcome(rt.alloc(), text, &SHAPE)?, want);
-    }
-    Ok(())
-}
-
-#[test]
-fn checks_go_from_left_to_right(rt: HostRuntime) -> Result<(), Fail> {
-    let rows: [(&[u8], ControlReason); 13] = [
-        (b"m|1|0|0|0", ControlReason::Kind),
-        (b"|1|0|0|0", ControlReason::Kind),
-        (b"MM|1|0|0|0", ControlReason::Kind),
-        (b"all|1|0|0", ControlReason::Kind),
-        (b"fluid|1|1|0|0", ControlReason::Kind),
-        (b"batch|1|1|1|0|0", ControlReason::Kind),
-        (b"M|x|0|0|0|0", ControlReason::Fields),
-        (b"M|1|0|0|0|1|2|3|4|5", ControlReason::Fields),
-        (b"M|x|1|0|0", ControlReason::Number),
-        (b"M|140737488355329|x|0|0", ControlReason::Range),
-        (b"M|1|1|x|0", ControlReason::Range),
-        (b"M|1|0|-1|9", ControlReason::Number),
-        (b"M|1|0|4|", ControlReason::Range),
-    ];
-    for (text, why) in rows {
-        assert_eq!(rt; outcome(rt.alloc(), text, &SHAPE)?, Err((1, why)));
-    }
-    Ok(())
-}
-
-#[test]
-fn numbers_end_at_their_limits(rt: HostRuntime) -> Result<(), Fail> {
-    let range = Err((1, ControlReason::Range));
-    let rows: [(&[u8], Outcome); 6] = [
-        (b"M|140737488355328|0|3|2", Ok(1)),
-        (b"M|140737488355329|0|3|2", range),
-        (b"M|0|1|3|2", range),
-        (b"M|0|0|4|2", range),
-        (b"M|0|0|3|3", range),
-        (b"M|0|0|4294967296|0", range),
-    ];
-    for (text, want) in rows {
-        assert_eq!(rt; outcome(rt.alloc(), text, &SHAPE)?, want);
-    }
-    Ok(())
-}
-
-#[test]
 fn greatest_file(rt: HostRuntime) -> Result<(), Fail> {
     let mut text = b"M|1|0|0|0\n".repeat(rt.alloc(), 65_536)?;
     assert_eq!(rt; outcome(rt.alloc(), text.as_slice(), &SHAPE)?, Ok(65_536));
-    text.extend_from_slice(b"\nM|1|0|0|0\n")?;
-    assert_eq!(rt;
-        outcome(rt.alloc(), text.as_slice(), &SHAPE)?,
-        Err((65_538, ControlReason::Count))
-    );
-    Ok(())
-}
-
-#[test]
-fn count_comes_last(rt: HostRuntime) -> Result<(), Fail> {
-    let mut text = b"M|1|0|0|0\n".repeat(rt.alloc(), 65_536)?;
+    let full = text.len();
     text.extend_from_slice(b"M|1|0|0|3\n")?;
     assert_eq!(rt;
         outcome(rt.alloc(), text.as_slice(), &SHAPE)?,
         Err((65_537, ControlReason::Range))
+    );
+    text.truncate(full);
+    text.extend_from_slice(b"\nM|1|0|0|0\n")?;
+    assert_eq!(rt;
+        outcome(rt.alloc(), text.as_slice(), &SHAPE)?,
+        Err((65_538, ControlReason::Count))
     );
     Ok(())
 }

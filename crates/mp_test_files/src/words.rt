@@ -1,4 +1,4 @@
-//! Tables of words that are taken and of words that are refused.
+//! What words ask for. Words that are refused stand in examples/cases.toml.
 use mp_words::{QueryName, RunOptions, WordsRefused, parse};
 use std::alloc::{AllocError, Global};
 use std::process::Abort;
@@ -32,10 +32,10 @@ fn cut(alloc: Global, line: &str) -> Result<Vec<String>, AllocError> {
 fn parses_as<R: AllocGlobal + Abort>(
     rt: &R,
     line: &str,
-    want: Result<RunOptions<'_>, WordsRefused>,
+    want: RunOptions<'_>,
 ) -> Result<(), AllocError> {
     let words = cut(rt.alloc(), line)?;
-    assert_eq!(rt; parse(rt.alloc(), words.as_slice()), want, "{line}");
+    assert_eq!(rt; parse(rt.alloc(), words.as_slice()), Ok(want), "{line}");
     Ok(())
 }
 
@@ -44,15 +44,10 @@ fn goes_on_as<R: AllocGlobal + Abort>(
     rt: &R,
     command: &str,
     more: &str,
-    want: Result<RunOptions<'_>, WordsRefused>,
+    want: RunOptions<'_>,
 ) -> Result<(), AllocError> {
     let line = format!(in rt.alloc(); "{command}{more}")?;
     parses_as(rt, line.as_str(), want)
-}
-
-/// Parses the words of a line that are refused.
-fn refuses<R: AllocGlobal + Abort>(rt: &R, line: &str) -> Result<(), AllocError> {
-    parses_as(rt, line, Err(WordsRefused::Usage))
 }
 
 #[test]
@@ -91,31 +86,7 @@ fn options_come_in_any_order(rt: HostRuntime) -> Result<(), Fail> {
         ),
     ];
     for (line, want) in rows {
-        parses_as(&rt, line, Ok(want))?;
-    }
-    Ok(())
-}
-
-#[test]
-fn queries_are_q1_to_q8(rt: HostRuntime) -> Result<(), Fail> {
-    let rows = [
-        ("q1", QueryName::Q1),
-        ("q2", QueryName::Q2),
-        ("q3", QueryName::Q3),
-        ("q4", QueryName::Q4),
-        ("q5", QueryName::Q5),
-        ("q6", QueryName::Q6),
-        ("q7", QueryName::Q7),
-        ("q8", QueryName::Q8),
-    ];
-    for (name, query) in rows {
-        let line = format!(in rt.alloc(); "m run --query {name} --events e --config c --out o")?;
-        parses_as(&rt, line.as_str(), Ok(RunOptions { query, ..ASKED }))?;
-    }
-    let rows = ["q0", "q9", "q10", "q01", "q", "", "1", "Q1", "q1q2"];
-    for name in rows {
-        let line = format!(in rt.alloc(); "m run --query {name} --events e --config c --out o")?;
-        refuses(&rt, line.as_str())?;
+        parses_as(&rt, line, want)?;
     }
     Ok(())
 }
@@ -165,7 +136,7 @@ fn clap_decides_the_words(rt: HostRuntime) -> Result<(), Fail> {
         ),
     ];
     for (line, want) in rows {
-        parses_as(&rt, line, Ok(want))?;
+        parses_as(&rt, line, want)?;
     }
     Ok(())
 }
@@ -189,17 +160,7 @@ fn names_may_be_empty_or_coincide(rt: HostRuntime) -> Result<(), Fail> {
         ),
     ];
     for (line, want) in rows {
-        parses_as(&rt, line, Ok(want))?;
-    }
-    let rows = [
-        "m run --query q1 --events o --config c --out o",
-        "m run --query q1 --events e --config o --out o",
-        "m run --query q1 --events o --config o --out o",
-        "m run --query q1 --events  --config c --out ",
-        "m replay --query q1 --events o --config c --out o",
-    ];
-    for line in rows {
-        refuses(&rt, line)?;
+        parses_as(&rt, line, want)?;
     }
     Ok(())
 }
@@ -227,29 +188,7 @@ fn numbers_have_limits(rt: HostRuntime) -> Result<(), Fail> {
         ),
     ];
     for (more, want) in rows {
-        goes_on_as(&rt, RUN, more, Ok(want))?;
-    }
-    let rows = [
-        " --workers 0",
-        " --workers 17",
-        " --workers 017",
-        " --workers x",
-        " --workers ",
-        " --workers +1",
-        " --workers -1",
-        " --workers=-1",
-        " --workers 18446744073709551617",
-        " --bins 3",
-        " --bins 0",
-        " --bins 512",
-        " --bins 257",
-        " --bins 16.",
-        " --depth 0",
-        " --depth 1025",
-        " --depth 4294967297",
-    ];
-    for more in rows {
-        goes_on_as(&rt, RUN, more, Err(WordsRefused::Usage))?;
+        goes_on_as(&rt, RUN, more, want)?;
     }
     Ok(())
 }
@@ -264,95 +203,18 @@ fn replay_takes_a_seed(rt: HostRuntime) -> Result<(), Fail> {
         (" --seed 281474976710656", 1 << 48),
     ];
     for (more, seed) in rows {
-        goes_on_as(&rt, REPLAY, more, Ok(RunOptions { seed, ..ASKED }))?;
-    }
-    let rows = [
-        " --seed",
-        " --seed ",
-        " --seed x",
-        " --seed +1",
-        " --seed=-1",
-        " --seed 281474976710657",
-        " --seed 18446744073709551616",
-        " --seed 1 --seed 1",
-        " --seed 1 2",
-        " --seeds 1",
-    ];
-    for more in rows {
-        goes_on_as(&rt, REPLAY, more, Err(WordsRefused::Usage))?;
-    }
-    Ok(())
-}
-
-#[test]
-fn words_refused(rt: HostRuntime) -> Result<(), Fail> {
-    let rows = [
-        "m",
-        "",
-        "run",
-        "m run",
-        "m replay",
-        "m check",
-        "m make",
-        "m demo",
-        "m walk --query q1 --events e --config c --out o",
-        "m ru --query q1 --events e --config c --out o",
-        "m --query q1 --events e --config c --out o",
-        "m --query q1 run --events e --config c --out o",
-        "m -- run --query q1 --events e --config c --out o",
-        "m run run --query q1 --events e --config c --out o",
-        "m run replay --query q1 --events e --config c --out o",
-        "m run --query q1 --events e --config c --out o replay",
-        "m check --query q1 --events e --config c --out o",
-        "m re --query q1 --events e --config c --out o",
-        "m --seed 0 replay --query q1 --events e --config c --out o",
-        "m run --events e --config c --out o",
-        "m run --query q1 --config c --out o",
-        "m run --query q1 --events e --out o",
-        "m run --query q1 --events e --config c",
-        "m run --query q1 --query q1 --events e --config c --out o",
-        "m run --query q1 --events e --config c --out o --out=p",
-        "m run --query q1 --events e --config c --out o --bins 1 --bins 1",
-        "m run --query q1 --events e --config c --out",
-        "m run --query q1 --events e --out --config c",
-        "m run --query q1 --events e --config c --out --",
-        "m run --query q1 --events -e --config c --out o",
-        "m run --query q1 --events e --config c --out o p",
-        "m run --query q1 --events e --config c --out o -- p",
-        "m run --query q1 --events e --config c --out o ",
-        "m run --query q1 --events e --config c --out o -",
-        "m run --query q1 --events e --config c --out o --seed 0",
-        "m run --query q1 --events e --config c --outfile o",
-        "m run --query q1 --event e --config c --out o",
-        "m run -query q1 --events e --config c --out o",
-    ];
-    for line in rows {
-        refuses(&rt, line)?;
-    }
-    let none: Vec<String> = Vec::new(rt.alloc());
-    assert_eq!(rt;
-        parse(rt.alloc(), none.as_slice()),
-        Err(WordsRefused::Usage)
-    );
-    Ok(())
-}
-
-#[test]
-fn help_and_version_are_unknown_words(rt: HostRuntime) -> Result<(), Fail> {
-    let words = ["--help", "-h", "help", "--version", "-V", "version"];
-    for word in words {
-        let more = format!(in rt.alloc(); " {word}")?;
-        for command in ["m", "m help", RUN, REPLAY] {
-            goes_on_as(&rt, command, more.as_str(), Err(WordsRefused::Usage))?;
-        }
-        let line = format!(in rt.alloc(); "m {word} run --query q1 --events e --config c --out o")?;
-        refuses(&rt, line.as_str())?;
+        goes_on_as(&rt, REPLAY, more, RunOptions { seed, ..ASKED })?;
     }
     Ok(())
 }
 
 #[test]
 fn refusals_have_a_text(rt: HostRuntime) -> Result<(), Fail> {
+    let none: Vec<String> = Vec::new(rt.alloc());
+    assert_eq!(rt;
+        parse(rt.alloc(), none.as_slice()),
+        Err(WordsRefused::Usage)
+    );
     assert_eq!(rt;
         WordsRefused::Usage.to_string(rt.alloc())?.as_str(),
         "no command"

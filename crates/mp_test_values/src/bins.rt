@@ -1,7 +1,7 @@
 //! The worked values, each call that allocates once with ample memory.
 ghost use Rattle.std.specs.Prelude.{◌≡◌, Some};
 
-use mp_bins::{Control, Move, Owners, Shape, bin_of, first_owner};
+use mp_bins::{Control, Move, Owners, Shape, bin_of};
 use mp_names::{Time, TimedBin};
 use std::test::Fail;
 
@@ -72,12 +72,6 @@ fn bins_of_small_keys(rt: HostRuntime) {
 }
 
 #[test]
-fn first_owners_of_four_bins(rt: HostRuntime) {
-    assert_eq!(rt; first_owner(FOUR_BINS, 2), 2);
-    assert_eq!(rt; first_owner(FOUR_BINS, 3), 0);
-}
-
-#[test]
 fn notes_in_any_order(rt: HostRuntime) -> Result<(), Fail> {
     let mut owners = Owners::new(rt.alloc(), ONE_BIN)?;
     owners.note(1, to_worker(0, 10))?;
@@ -115,34 +109,6 @@ fn last_record_of_a_time_wins(rt: HostRuntime) -> Result<(), Fail> {
         assert_eq!(rt; owners.owner(0, 0, time), 0);
     }
     assert!(rt; owners.moves()?.is_empty());
-    Ok(())
-}
-
-#[test]
-fn bin_leaves_there_and_back(rt: HostRuntime) -> Result<(), Fail> {
-    let mut owners = Owners::new(rt.alloc(), ONE_BIN)?;
-    owners.note(0, to_worker(1, 10))?;
-    owners.note(1, to_worker(0, 20))?;
-    assert_eq!(rt; owners.next_leaving(0, 0, None), Some(moved(10, 0, 1)));
-    assert_eq!(rt;
-        owners.next_leaving(0, 0, after(9, 5)),
-        Some(moved(10, 0, 1))
-    );
-    assert_eq!(rt; owners.next_leaving(0, 0, after(10, 0)), None);
-    assert_eq!(rt; owners.next_leaving(0, 1, None), Some(moved(20, 1, 0)));
-    assert_eq!(rt; owners.next_leaving(0, 1, after(20, 0)), None);
-    assert_eq!(rt; owners.next_leaving(0, 1, after(u64::MAX, 0)), None);
-    Ok(())
-}
-
-#[test]
-fn bin_leaves_by_the_last_record_of_a_time(rt: HostRuntime) -> Result<(), Fail> {
-    let mut owners = Owners::new(rt.alloc(), ONE_BIN)?;
-    owners.note(0, to_worker(1, 10))?;
-    owners.note(1, to_worker(0, 10))?;
-    owners.note(2, to_worker(1, 30))?;
-    assert_eq!(rt; owners.next_leaving(0, 0, None), Some(moved(30, 0, 1)));
-    assert_eq!(rt; owners.next_leaving(0, 1, None), None);
     Ok(())
 }
 

@@ -10,10 +10,6 @@ mod bins;
 #[cfg(test)]
 mod gate;
 #[cfg(test)]
-mod lines;
-#[cfg(test)]
-mod model;
-#[cfg(test)]
 mod ordered;
 #[cfg(test)]
 mod outside;

@@ -4,7 +4,7 @@ ghost use Rattle.mp_outside.specs.Files.{with_file};
 
 use mp_outside::{
     Depot, DepotSink, Fault, HostDepot, HostOut, MemDepot, MemSink, NeverFails, NoSink, Op,
-    ReadRefused, Sink, append_piece, read_all, write_piece,
+    ReadRefused, append_piece, read_all, write_piece,
 };
 use std::alloc::Global;
 use std::test::Fail;
@@ -23,31 +23,6 @@ fn make<D: Depot>(depot: &mut D, name: &str, bytes: &[u8]) -> Result<(), Fault>
 fn made_and_read<D: Depot>(alloc: Global, depot: &mut D) -> Result<Vec<u8>, ReadRefused> {
     make(depot, "made", b"xyz")?;
     read_all(alloc, depot, "made", 3)
-}
-
-/// How much of a piece one call puts behind a name, or `None` where the name isn't there.
-fn appended<D: Depot>(depot: &mut D, name: &str, piece: &[u8]) -> Result<Option<usize>, Fault> {
-    if !depot.find(name)? {
-        return Ok(None);
-    }
-    Ok(Some(depot.append(name, piece)?))
-}
-
-/// Which calls answer `Failed`, of a `find` of a name that is there, and then of a `read`, an `append` and a `begin`.
-fn failed_calls<D: Depot>(depot: &mut D, name: &str) -> [bool; 4] {
-    match depot.find(name) {
-        Ok(true) => {}
-        found => return [found == Err(Fault::Failed), false, false, false],
-    }
-    let read = depot.read(name, 0, &mut [0]);
-    let appended = depot.append(name, b"d");
-    let begun = depot.begin(name);
-    [
-        false,
-        read == Err(Fault::Failed),
-        appended == Err(Fault::Failed),
-        begun == Err(Fault::Failed),
-    ]
 }
 
 /// A depot with one file.
@@ -122,41 +97,6 @@ fn append_fails(rt: HostRuntime) -> Result<(), Fail> {
 }
 
 #[test]
-fn each_call_fails_by_its_own_plan(rt: HostRuntime) -> Result<(), Fail> {
-    let none = [false; 4];
-    let rows = [
-        (Op::Find, [true, false, false, false]),
-        (Op::Read, [false, true, false, false]),
-        (Op::Append, [false, false, true, false]),
-        (Op::Begin, [false, false, false, true]),
-        (Op::Write, none),
-    ];
-    for (op, second) in rows {
-        let mut depot = abc(rt.alloc())?;
-        depot.fail(op, 2)?;
-        for want in [none, second, none] {
-            assert_eq!(rt; failed_calls(&mut depot, "abc"), want, "where {op:?} fails");
-        }
-    }
-    Ok(())
-}
-
-#[test]
-fn pieces_are_taken_whole(rt: HostRuntime) -> Result<(), Fail> {
-    let mut depot = abc(rt.alloc())?;
-    assert_eq!(rt; appended(&mut depot, "abc", b"defg"), Ok(Some(4)));
-    assert_eq!(rt; appended(&mut depot, "abc", b""), Ok(Some(0)));
-    assert_eq!(rt; appended(&mut depot, "abd", b"efg"), Ok(None));
-    assert_eq!(rt; MemSink::new(rt.alloc()).write(b"abcd"), Ok(4));
-
-    let mut never = NeverFails::new(rt.alloc());
-    assert_eq!(rt; never.put("abc", b"abc"), Ok(()));
-    assert_eq!(rt; appended(&mut never, "abc", b"defg"), Ok(Some(4)));
-    assert_eq!(rt; never.write(b"abcd"), Ok(4));
-    Ok(())
-}
-
-#[test]
 fn sinks_in_memory(rt: HostRuntime) -> Result<(), Fail> {
     let mut sink = MemSink::new(rt.alloc());
     sink.fail(Op::Write, 2)?;
@@ -176,19 +116,6 @@ fn sinks_in_memory(rt: HostRuntime) -> Result<(), Fail> {
 }
 
 #[test]
-fn files_and_written_bytes_stay_apart(rt: HostRuntime) -> Result<(), Fail> {
-    let mut never = NeverFails::new(rt.alloc());
-    assert_eq!(rt; never.write(b"said"), Ok(4));
-    let read = made_and_read(rt.alloc(), &mut never)?;
-    assert_eq!(rt; read.as_slice(), b"xyz".as_slice());
-    assert_eq!(rt; never.bytes(), b"said".as_slice());
-    assert_eq!(rt; never.write(b" more"), Ok(5));
-    assert_eq!(rt; never.get("made").ok_or("absent")?, b"xyz".as_slice());
-    assert_eq!(rt; never.bytes(), b"said more".as_slice());
-    Ok(())
-}
-
-#[test]
 fn host_depot(rt: HostRuntime) -> Result<(), Fail> {
     let mut path = env::temp_dir(&rt)?;
     let id = process::id(rt.process());
@@ -201,7 +128,8 @@ fn host_depot(rt: HostRuntime) -> Result<(), Fail> {
     assert_eq!(rt; read.as_slice(), b"longer".as_slice());
     let long = read_all(rt.alloc(), &mut depot, name, 5).err();
     assert_eq!(rt; long, Some(ReadRefused::TooLarge));
-    assert_eq!(rt; append_piece(&mut depot, name, b" than"), Ok(()));
+    assert_eq!(rt; append_piece(&mut depot, name, b" th"), Ok(()));
+    assert_eq!(rt; append_piece(&mut depot, name, b"an"), Ok(()));
     let more = read_all(rt.alloc(), &mut depot, name, 11)?;
     assert_eq!(rt; more.as_slice(), b"longer than".as_slice());
     let inside = format!(in rt.alloc(); "{name}/inside")?;

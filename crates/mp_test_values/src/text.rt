@@ -1,62 +1,7 @@
-//! What the contracts don't say: the worked values, and a reader that proves a fact about a whole
-//! file from the contracts alone.
-ghost use Rattle.std.specs.Prelude.{◌≡◌, ◌==◌, ◌&&◌, [], length, count_by, find, is_ok, slice_index_or, not};
-ghost use Rattle.std.specs.Option.{option_map};
-ghost use Rattle.mp_text.specs.Fields.{fields_of};
-ghost use Rattle.mp_text.specs.Lines.{is_blank, lines_of, numbered_lines_of};
-ghost use Rattle.mp_text.specs.Numbers.{number_of};
-
+//! The worked values.
 use mp_text::{BadNumber, Lines, fields, number, put_number};
 use std::alloc::{AllocError, Global};
 use std::test::Fail;
-
-/// Whether the line is bad: it isn't blank, and isn't two fields of which the second says a number
-/// of at most `max`.
-fn is_bad(line: &[u8], max: u64) -> bool
-    ensures { result ≡ (not (is_blank line.now) && not (length (fields_of line.now) == 2
-        && is_ok (number_of (slice_index_or (fields_of line.now) 1 []) max))) }
-{
-    if line.is_empty() {
-        return false;
-    }
-    let fields = fields(line);
-    if fields.count() != 2 {
-        return true;
-    }
-    match fields.get(1) {
-        Some(second) => number(second, max).is_err(),
-        None => unreachable!(),
-    }
-}
-
-/// How many lines of the text aren't blank.
-fn count_filled(text: &[u8]) -> u64
-    ensures { result ≡ count_by (λ line. not (is_blank line)) (lines_of text.now) }
-{
-    let mut filled = 0u64;
-    for line in Lines::over(text) {
-        if !line.bytes.is_empty() {
-            filled += 1;
-        }
-    }
-    filled
-}
-
-/// The number of the first bad line.
-fn first_bad(text: &[u8], max: u64) -> Option<u64>
-    ensures { result ≡ option_map (λ line. line.0) (find (λ line. not (is_blank line.1)
-        && not (length (fields_of line.1) == 2
-        && is_ok (number_of (slice_index_or (fields_of line.1) 1 []) max)))
-        (numbered_lines_of text.now)) }
-{
-    let mut lines = Lines::over(text);
-    while let Some(line) = lines.next() {
-        if is_bad(line.bytes, max) {
-            return Some(line.number);
-        }
-    }
-    None
-}
 
 /// The text's lines, each as its number, `:`, its bytes and `;`.
 fn shown(alloc: Global, text: &[u8]) -> Result<Vec<u8>, AllocError> {
@@ -163,15 +108,6 @@ fn numbers_are_written(rt: HostRuntime) -> Result<(), Fail> {
         assert_eq!(rt; out.as_slice(), want);
     }
     Ok(())
-}
-
-#[test]
-fn a_reader_goes_over_a_file(rt: HostRuntime) {
-    let text = b"a|1\r\n\nb|12\nc|3|4\n\r";
-    assert_eq!(rt; count_filled(text), 3);
-    assert_eq!(rt; first_bad(text, 12), Some(4));
-    assert_eq!(rt; first_bad(text, 11), Some(3));
-    assert_eq!(rt; first_bad(b"a|005\n\nb|0", 5), None);
 }
 
 #[test]
