@@ -5,6 +5,8 @@
 
 mod order;
 mod ordered;
+mod queue;
 
 pub use order::Order;
 pub use ordered::Ordered;
+pub use queue::OrderedQueue;
