@@ -3,6 +3,7 @@
 //! Items kept in the order of their ranks.
 #![tactic(auto)]
 
+mod gone;
 mod order;
 mod ordered;
 mod queue;
