@@ -1,5 +1,5 @@
 // One name of a depot, seen as a sink.
-ghost use Rattle.std.specs.Prelude.{◌≡◌, ◌≤◌, ℕ, length, take, OnErr, OnOk};
+ghost use Rattle.std.specs.Prelude.{◌≡◌, ◌<◌, ℕ, length, take, OnErr, OnOk};
 ghost use Rattle.mp_outside.specs.Depot.{OnlyWrites};
 ghost use Rattle.mp_outside.specs.Fault.{HasCause};
 ghost use Rattle.mp_outside.specs.Files.{file_at, IsThere, with_more, without};
@@ -47,11 +47,11 @@ impl<'a, D: Depot> Sink for DepotSink<'a, D> {
 
 /// Puts the whole piece behind the bytes of a name that is there, by as many calls of `append` as it
 /// takes. At `Err`, which is that of the call that failed, a part of the piece from its front may
-/// stand there.
+/// stand there, and not all of it.
 pub fn append_piece<D: Depot>(depot: &mut D, name: &str, piece: &[u8]) -> Result<(), Fault>
     requires { IsThere (D.files depot.old) name.now }
     ensures whole { OnOk result (D.files depot.new ≡ with_more (D.files depot.old) name.now piece.now) }
-    ensures part { OnErr result ((k : ℕ) × (k ≤ length piece.now)
+    ensures part { OnErr result ((k : ℕ) × (k < length piece.now)
         × (D.files depot.new ≡ with_more (D.files depot.old) name.now (take k piece.now))) }
 
     ensures writes_only { OnlyWrites D.read_faults D.write_faults depot.old depot.new }
