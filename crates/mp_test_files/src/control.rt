@@ -1,4 +1,6 @@
 //! The worked values.
+ghost use Rattle.std.specs.Prelude.{◌<◌};
+
 use mp_control::{Control, ControlReason, ControlRefused, Shape, read_control};
 use std::alloc::{AllocError, Global};
 use std::test::Fail;
@@ -6,7 +8,10 @@ use std::test::Fail;
 /// How many control records a text says, or the line and the reason for which it is refused.
 type Outcome = Result<usize, (u64, ControlReason)>;
 
-fn outcome(alloc: Global, text: &[u8], shape: &Shape) -> Result<Outcome, AllocError> {
+fn outcome(alloc: Global, text: &[u8], shape: &Shape) -> Result<Outcome, AllocError>
+    requires workers { 0 < shape.now.workers }
+    requires bins { 0 < shape.now.bins }
+{
     match read_control(alloc, text, shape) {
         Ok(controls) => Ok(Ok(controls.len())),
         Err(ControlRefused::BadLine { line, why }) => Ok(Err((line, why))),
@@ -68,13 +73,20 @@ fn first_bad_line(rt: HostRuntime) -> Result<(), Fail> {
 
 #[test]
 fn checks_go_from_left_to_right(rt: HostRuntime) -> Result<(), Fail> {
-    let rows: [(&[u8], ControlReason); 13] = [
+    let rows: [(&[u8], ControlReason); 20] = [
         (b"m|1|0|0|0", ControlReason::Kind),
         (b"|1|0|0|0", ControlReason::Kind),
         (b"MM|1|0|0|0", ControlReason::Kind),
-        (b"all|1|0|0", ControlReason::Kind),
-        (b"fluid|1|1|0|0", ControlReason::Kind),
-        (b"batch|1|1|1|0|0", ControlReason::Kind),
+        (b"All|1|0|0", ControlReason::Kind),
+        (b"all|1|0|0|0", ControlReason::Fields),
+        (b"fluid|1|1|0", ControlReason::Fields),
+        (b"batch|1|1|1|0", ControlReason::Fields),
+        (b"all|1|1|x", ControlReason::Range),
+        (b"fluid|1|x|1|256", ControlReason::Number),
+        (b"batch|1|1|0|0|0", ControlReason::Range),
+        (b"batch|1|1|257|0|0", ControlReason::Range),
+        (b"all|1|0|256", ControlReason::Range),
+        (b"fluid|140737488355328|1|0|0", ControlReason::Range),
         (b"M|x|0|0|0|0", ControlReason::Fields),
         (b"M|1|0|0|0|1|2|3|4|5", ControlReason::Fields),
         (b"M|x|1|0|0", ControlReason::Number),
