@@ -133,4 +133,4 @@ module _ {Cell : Type 0} (q : QueryFacts Cell) (job : JobFacts) where
       → AtEach hosts (IsHostAt q job w empty_log)
       → length movers ≡ job.shape.stages
       → AtEach movers (AreMoversAt q job w empty_log)
-      → ArePartsOf q job (record { number = w; log = empty_log; seen = seen; notes = notes; next = cursor 0 0; routers = routers; hosts = hosts; movers = movers; unsent = []; unwritten = [] })
+      → ArePartsOf q job (record { number = w; log = empty_log; posted = empty_log; seen = seen; notes = notes; next = cursor 0 0; routers = routers; hosts = hosts; movers = movers; unsent = []; unwritten = [] })
