@@ -7,7 +7,13 @@ use std::test::Fail;
 #[test]
 fn first_draws(rt: HostRuntime) -> Result<(), Fail> {
     let want = [
-        48_271, 182_605_794, 1_291_394_886, 1_914_720_637, 2_078_669_041, 407_355_683, 1_105_902_161,
+        48_271,
+        182_605_794,
+        1_291_394_886,
+        1_914_720_637,
+        2_078_669_041,
+        407_355_683,
+        1_105_902_161,
         854_716_505,
     ];
     let mut draws = Draws::of(0);
@@ -23,7 +29,10 @@ fn made_events(rt: HostRuntime) -> Result<(), Fail> {
     for event in &make_events(rt.alloc(), 2, 0)? {
         write_event(&mut text, event)?;
     }
-    assert_eq!(rt; text.as_slice(), b"P|11|0|p0|c6|OR\nA|22|0|0|11|61|528\n".as_slice());
+    assert_eq!(rt;
+        text.as_slice(),
+        b"P|11|0|p0|c6|OR\nA|22|0|0|11|61|528\n".as_slice()
+    );
     Ok(())
 }
 

@@ -56,12 +56,14 @@ fn control_list_full(rt: HostRuntime) -> Result<(), Fail> {
     );
     assert_eq!(rt; controls.len(), 65_536);
     text.extend_from_slice(b"all|5|0|1\n")?;
-    assert!(rt; matches!(
-        read_control(rt.alloc(), text.as_slice(), &shape),
-        Err(ControlRefused::BadLine {
-            line: 257,
-            why: ControlReason::Count
-        })
-    ));
+    assert!(rt;
+        matches!(
+            read_control(rt.alloc(), text.as_slice(), &shape),
+            Err(ControlRefused::BadLine {
+                line: 257,
+                why: ControlReason::Count
+            })
+        )
+    );
     Ok(())
 }
