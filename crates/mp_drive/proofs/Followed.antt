@@ -13,7 +13,7 @@ use Rattle.mp_machine.proofs.Bounds.{steps_bounded}
 use Rattle.mp_machine.proofs.Worlds.{turns_more}
 use Rattle.mp_refinement.specs.SystemState.{KnowsTheEnd, Refines, SystemState}
 use Rattle.mp_drive.specs.declared.stop.DriveStop.{DriveStop}
-use Rattle.mp_drive.specs.Draws.{draw_of}
+use Rattle.mp_draws.specs.Draws.{draw_of}
 use Rattle.mp_drive.specs.Driven.{AllKnowTheEnd, AreAfter, AreReached, LeadsOn}
 use Rattle.mp_drive.specs.Schedule.{AreFinished, AreScheduled, EndsAfter, FollowsSchedule, MakesPick, pick}
 use Rattle.mp_drive.proofs.Counted.{some_at}

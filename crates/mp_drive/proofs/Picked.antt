@@ -11,7 +11,7 @@ use Rattle.mp_machine.specs.Places.{places}
 use Rattle.mp_machine.specs.Runs.{Turn, is_made, run_of_machine, turn_of_machine, world_after}
 use Rattle.mp_machine.specs.Worlds.{World}
 use Rattle.mp_refinement.specs.SystemState.{SystemState}
-use Rattle.mp_drive.specs.Draws.{draw_of}
+use Rattle.mp_draws.specs.Draws.{draw_of}
 use Rattle.mp_drive.specs.Driven.{AreAfter}
 use Rattle.mp_drive.specs.Schedule.{AreFinished, AreScheduled, IsTried, can_make, pick, places_from}
 use Rattle.mp_drive.proofs.Numbered.{behind, in_front}

@@ -1,5 +1,4 @@
 -- What the contracts of this crate cite.
-pub mod Draws
 pub mod Driven
 pub mod Kept
 pub mod Ownership

@@ -9,7 +9,7 @@ use Rattle.mp_machine.specs.Runs.{Turn, run_of_machine}
 use Rattle.mp_refinement.specs.SystemState.{SystemState}
 use Rattle.mp_drive.specs.declared.stop.DriveStop.{DriveStop}
 use Rattle.mp_drive.specs.declared.stop.DriveStop.TheVariants as stop
-use Rattle.mp_drive.specs.Draws.{draw_of}
+use Rattle.mp_draws.specs.Draws.{draw_of}
 use Rattle.mp_drive.specs.Driven.{AreAfter, HasBegun, HasWritten, LeadsOn, Steps}
 use Rattle.mp_drive.specs.Schedule.{FollowsSchedule, IsTried}
 

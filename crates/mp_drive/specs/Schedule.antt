@@ -6,7 +6,7 @@ use Rattle.mp_machine.specs.Places.{places}
 use Rattle.mp_machine.specs.Runs.{Turn, WorkerIsFinished, is_made, made_count, run_of_machine, turn_of_machine, world_after}
 use Rattle.mp_machine.specs.Worlds.{World, start_of_machine}
 use Rattle.mp_refinement.specs.SystemState.{SystemState}
-use Rattle.mp_drive.specs.Draws.{draw_of}
+use Rattle.mp_draws.specs.Draws.{draw_of}
 use Rattle.mp_drive.specs.Driven.{AreAfter, LeadsOn, Steps}
 
 -- the places in their order, from the one that has the draw's number, modulo their count, wrapping round

@@ -1,7 +1,7 @@
 use Rattle.std.proofs.Common.{◌≡◌, ◌≤◌, ◌-◌, ◌^◌, ℕ, List, Option}
 use Rattle.mp_outline.specs.JobOutline.{outline_of}
 use Rattle.mp_drive.specs.Driven.{HasWritten}
-use Rattle.mp_drive.specs.Draws.{state_after}
+use Rattle.mp_draws.specs.Draws.{state_after}
 use Rattle.mp_drive.proofs.Followed.{LeadsBy}
 use Rattle.mp_drive.proofs.plain.Plain.drive_seed.Given as goal
 
