@@ -8,8 +8,8 @@ ghost use Rattle.std.specs.Process.{exit_status};
 ghost use Rattle.mp_outside.specs.Fault.{Rose};
 ghost use Rattle.mp_outside.specs.Files.{SameFiles};
 ghost use Rattle.mp_words.specs.Words.{command_in};
-ghost use Rattle.mp_cli.specs.Ends.{ComesWhere, IsCommandAnswered, IsRefusal, MaySay, Says};
-ghost use Rattle.mp_cli.specs.Outcome.{MayCome, Outcome, status_of};
+ghost use Rattle.mp_cli.specs.Ends.{CameTo, ComesWhere, IsCommandAnswered, IsRefusal, SaysLine};
+ghost use Rattle.mp_cli.specs.Outcome.{MayCome, Outcome, line_said, status_of};
 
 use mp_cli::{lack_memory, run};
 use mp_gate::OpenGate;
@@ -52,9 +52,11 @@ fn answer<D: Depot, S: Sink, R: AllocGlobal>(
     ensures answer { exit_status result ≡ 0
         → IsCommandAnswered (command_in words.now) (D.files depot.old) (D.files depot.new) }
     ensures untouched { IsRefusal (exit_status result) → SameFiles (D.files depot.old) (D.files depot.new) }
-    ensures said { Says (S.written said.old) (S.written said.new)
-        (MaySay (command_in words.now) (D.files depot.old) (exit_status result))
-        (Rose (S.faults said.old) (S.faults said.new) ⊎ (exit_status result ≡ 8)) }
+    ensures said { (outcome : Outcome)
+        × CameTo D.files D.found D.read_faults D.write_faults
+            (command_in words.now) outcome depot.old depot.new
+        × SaysLine S.written S.faults
+            (line_said outcome) (status_of outcome) (exit_status result) said.old said.new }
 {
     let status = run(rt, words, depot, said, &OpenGate);
     ExitCode::from(status.code)

@@ -1,9 +1,7 @@
 -- What the status of a refusal tells.
-use Rattle.std.proofs.Common.{ℕ, ◌≡◌, ◌≤◌, ◌⊎◌, inl, inr, Bool, true, false, Option, Some, None, IsSome, Result, Ok, Err, List, [], length, take, cond, refl, sym, ap, ◌∙◌, arith}
+use Rattle.std.proofs.Common.{ℕ, ◌≡◌, ◌⊎◌, inl, inr, Bool, true, false, Option, Some, None, IsSome, Result, Ok, Err, List, length, cond, refl, sym, ap, ◌∙◌, arith}
 use Rattle.std.specs.Prelude.{nat_le}
 use Rattle.mp_outside.specs.Files.{Files, file_at}
-use Rattle.mp_outside.specs.Sink.{grown}
-use Rattle.mp_outside.proofs.SinkLemmas.{grown-nothing}
 use Rattle.mp_names.specs.Limits.{most_bytes}
 use Rattle.mp_events.specs.declared.refused.EventsReason.{EventsReason}
 use Rattle.mp_events.specs.Events.{events_of}
@@ -12,8 +10,8 @@ use Rattle.mp_control.specs.declared.refused.ControlReason.{ControlReason}
 use Rattle.mp_control.specs.Controls.{controls_of}
 use Rattle.mp_names.specs.declared.controls.Control.{Control}
 use Rattle.mp_model.specs.declared.record.Event.{Event}
-use Rattle.mp_cli.specs.Ends.{ComesWhere, MaySay, Says}
-use Rattle.mp_cli.specs.Outcome.{Outcome, Answered, Usage, EventsRefused, ConfigRefused, NoFile, ReadFault, WriteFault, NoMemory, TooLarge, status_of, line_said, with_text, unless_refused, config_refusal, events_refusal, refusal_of_config, refusal_of_events, after_config, after_events, called_for, MayCome, MayFail, IsOfCommand}
+use Rattle.mp_cli.specs.Ends.{ComesWhere}
+use Rattle.mp_cli.specs.Outcome.{Outcome, Answered, Usage, EventsRefused, ConfigRefused, NoFile, ReadFault, WriteFault, NoMemory, TooLarge, status_of, with_text, unless_refused, config_refusal, events_refusal, after_config, after_events, called_for, MayCome, MayFail, IsOfCommand}
 use Rattle.mp_words.specs.Values.{Options}
 
 -- want of memory may always come
@@ -122,28 +120,3 @@ complete_at (Some given) (Some files) (EventsRefused line why) code reads writes
 complete_at (Some given) (Some files) (ConfigRefused line why) code reads writes (inr fault) (inl e) read write asked is some answered no_reads no_writes = absurd fault
 complete_at (Some given) (Some files) (NoFile name) code reads writes (inr fault) (inl e) read write asked is some answered no_reads no_writes = absurd fault
 complete_at (Some given) (Some files) (TooLarge name) code reads writes (inr fault) (inl e) read write asked is some answered no_reads no_writes = absurd fault
-
--- nothing is said where there is an answer
-pub says_nothing_at : (command : Option Options) (told : Option Files) (written : Option (List ℕ)) (else_so : Type 0) → MayCome command told Answered → Says written written (MaySay command told 0) else_so
-says_nothing_at command told written else_so may = record {
-  line = [];
-  is = (0, inl refl, record { outcome = Answered; may = may; status = refl; said = refl });
-  count = 0;
-  grew = sym (grown-nothing written);
-  whole = inl (omega arith);
-}
-
--- the line of a refusal is said, or a part of it
-pub says_line_at : (command : Option Options) (told : Option Files) (o : Outcome) (code : ℕ) (old new : Option (List ℕ)) (faults : Type 0) → MayCome command told o → (code ≡ status_of o) ⊎ (code ≡ 8)
-    → ((k : ℕ) × (new ≡ grown old (take k (line_said o))) × ((length (line_said o) ≤ k) ⊎ (faults ⊎ (code ≡ 8)))) → Says old new (MaySay command told code) (faults ⊎ (code ≡ 8))
-says_line_at command told o code old new faults may is said = record {
-  line = line_said o;
-  is = (status_of o, pick is, record { outcome = o; may = may; status = refl; said = refl });
-  count = said.0;
-  grew = said.1;
-  whole = said.2;
-}
-  where
-    pick : (code ≡ status_of o) ⊎ (code ≡ 8) → (status_of o ≡ code) ⊎ (code ≡ 8)
-    pick (inl e) = inl (sym e)
-    pick (inr e) = inr e

@@ -1,19 +1,17 @@
 -- The last stage of q1, q2, q3 and q5 gives rows alone.
-use Rattle.std.specs.Prelude.{ℕ, ◌==◌, ◌%◌, map, Bool, true, false, Option, Some, None, List, [], ◌∷◌, All, IfSome, if◌then◌else◌, length}
-use Rattle.std.specs.List.{filter_map}
+use Rattle.std.specs.Prelude.{ℕ, ◌==◌, ◌%◌, map, Bool, true, false, Option, Some, None, List, [], ◌∷◌, All, IfSome, if◌then◌else◌}
 use Rattle.std.specs.Option.{is_some, option_map, option_to_list}
 use Rattle.std.proofs.lemmas.List.Elements.{All-append, All-cons, All-map, All-nil}
 use Rattle.mp_model.proofs.Lists.{All-filter_map}
 use Rattle.mp_model.specs.declared.record.Rec.{Rec}
 use Rattle.mp_model.specs.declared.value.Value.{Value}
 use Rattle.mp_model.specs.declared.value.Value.TheVariants.{Person, Auction, Bid, Sale, Count, Row}
-use Rattle.mp_model.specs.Entry.{Entry}
 use Rattle.mp_output.specs.Rows.{GivesRows, IsRow}
 use Rattle.mp_q_simple.specs.Q1.{q1_facts, row as row_of_q1}
 use Rattle.mp_q_simple.specs.Q2.{q2_facts, row as row_of_q2}
 use Rattle.mp_q_join.specs.Q3.{q3_facts}
 use Rattle.mp_q_join.specs.declared.home.Home.{Home}
-use Rattle.mp_q_join.specs.Joining.{PersonCell, after_value, row_of, rows_along, rows_of_home, rows_of_value}
+use Rattle.mp_q_join.specs.Joining.{PersonCell, after_value, row_of, rows_along, rows_of_value}
 use Rattle.mp_q_window.specs.Counts.{greatest_of, row_at}
 use Rattle.mp_q_window.specs.Q5.{q5_facts}
 

@@ -1,5 +1,5 @@
 -- Parts of what is written piece by piece.
-use Rattle.std.proofs.Common.{Result, Ok, Err, OnErr, ℕ, ◌≡◌, ◌+◌, ◌≤◌, ◌++◌, List, Option, length, take, ap, ◌∙◌}
+use Rattle.std.proofs.Common.{Result, Ok, Err, OnErr, ℕ, ◌≡◌, ◌+◌, ◌<◌, ◌≤◌, ◌++◌, List, Option, length, take, ap, ◌∙◌}
 use Rattle.std.proofs.Math.Seq.{take-append-add}
 use Rattle.std.proofs.lemmas.List.{take-append-le}
 use Rattle.mp_outside.specs.Sink.{grown}
@@ -19,6 +19,6 @@ pub all_of_next : (w before now : Option (List ℕ)) (a b : List ℕ) → before
 all_of_next w before now a b first next = next ∙ ap (λ (x : Option (List ℕ)). grown x b) first ∙ grown-grown w a b
 
 -- a part of a line, at the exit of a call that failed
-pub part_at_exit : {T E : Type 0} (r : Result T E) (w now : Option (List ℕ)) (line : List ℕ) (k : ℕ) → now ≡ grown w (take k line) → OnErr r ((n : ℕ) × (now ≡ grown w (take n line)))
-part_at_exit (Ok x) w now line k e = tt
-part_at_exit (Err x) w now line k e = (k, e)
+pub part_at_exit : {T E : Type 0} (r : Result T E) (w now : Option (List ℕ)) (line : List ℕ) (k : ℕ) → k < length line → now ≡ grown w (take k line) → OnErr r ((n : ℕ) × (n < length line) × (now ≡ grown w (take n line)))
+part_at_exit (Ok x) w now line k less e = tt
+part_at_exit (Err x) w now line k less e = (k, less, e)

@@ -1,13 +1,14 @@
 -- What is promised of the end of a call.
-use Rattle.std.specs.Prelude.{ℕ, ◌≡◌, ◌≢◌, ◌⊎◌, ◌≤◌, Bool, false, Option, Some, None, Ok, List, take, length}
+use Rattle.std.specs.Prelude.{ℕ, ◌≡◌, ◌≢◌, ◌⊎◌, ◌<◌, ◌≤◌, Bool, false, Option, Some, None, Ok, List, take, length}
 use Rattle.std.specs.Prelude.{IfSome, OnSome}
 use Rattle.mp_model.specs.declared.record.Event.{Event}
+use Rattle.mp_outside.specs.Fault.{Rose}
 use Rattle.mp_outside.specs.Files.{Files, file_at}
 use Rattle.mp_outside.specs.Sink.{grown}
 use Rattle.mp_events.specs.Events.{events_of}
 use Rattle.mp_words.specs.Values.{Options}
 use Rattle.mp_cli.specs.Queries.{answer_of}
-use Rattle.mp_cli.specs.Outcome.{Outcome, MayCome, status_of, line_said}
+use Rattle.mp_cli.specs.Outcome.{Outcome, MayCome, status_of}
 
 -- the event file holds these events
 pub record HasEvents (told : Option Files) (name : List ℕ) (events : List Event) : Type 0 where
@@ -37,26 +38,6 @@ IsRefusal code =
 abbrev pub IsOther : Option Options → List ℕ → Type 0
 IsOther command name = IfSome command (λ asked. name ≢ asked.out)
 
--- the line of an outcome that may come, which has this status
-pub record IsLineAt (command : Option Options) (told : Option Files) (code : ℕ) (line : List ℕ) : Type 0 where
-  pub outcome : Outcome
-  pub may : MayCome command told outcome
-  pub status : status_of outcome ≡ code
-  pub said : line_said outcome ≡ line
-
--- a line that may be said at this status: its own line, or with status 8 that of any outcome that may come
-abbrev pub MaySay : Option Options → Option Files → ℕ → List ℕ → Type 0
-MaySay command told status line =
-    (code : ℕ) × ((code ≡ status) ⊎ (status ≡ 8)) × IsLineAt command told code line
-
--- the bytes grew by the first bytes of a line: by all of it, or something else is so
-pub record Says (old new : Option (List ℕ)) (IsLine : List ℕ → Type 0) (else_so : Type 0) : Type 0 where
-  pub line : List ℕ
-  pub is : IsLine line
-  pub count : ℕ
-  pub grew : new ≡ grown old (take count line)
-  pub whole : (length line ≤ count) ⊎ else_so
-
 -- the status comes where its cause is, and nowhere else; want of memory may come in its place
 abbrev pub ComesWhere : ℕ → ℕ → Type 0 → Type 0
 ComesWhere status code cause = (code ≡ status → cause) × (cause → (code ≡ status) ⊎ (code ≡ 8))
@@ -82,3 +63,21 @@ IsCommandAnsweredInPart command old new = OnSome old (IfSome command (IsAnswered
 -- each name but that after `--out` holds what it held
 abbrev pub OthersStay : Option Options → Option Files → Option Files → Type 0
 OthersStay command old new = (name : List ℕ) → IsOther command name → file_at new name ≡ file_at old name
+
+module _ {D : Type 0} (files : D → Option Files) (found : D → List ℕ → Bool → D → Type 0) (read_faults write_faults : D → ℕ) where
+  -- The command came to this: it may, by what the files hold, and a file that it misses wasn't found, a fault that it
+  -- speaks of was counted in this call
+  pub record CameTo (command : Option Options) (outcome : Outcome) (old new : D) : Type 0 where
+    pub may : MayCome command (files old) outcome
+    pub not_found : status_of outcome ≡ 5 → LacksInput found command new
+    pub read_fault : status_of outcome ≡ 6 → Rose (read_faults old) (read_faults new)
+    pub write_fault : status_of outcome ≡ 7 → Rose (write_faults old) (write_faults new)
+
+module _ {S : Type 0} (written : S → Option (List ℕ)) (faults : S → ℕ) where
+  -- A line was said with its own status, whole or up to a fault of the sink. Or the status is 8: the sink counted no
+  -- fault, but found no memory for the rest of the line
+  pub record SaysLine (line : List ℕ) (own code : ℕ) (old new : S) : Type 0 where
+    pub count : ℕ
+    pub grew : written new ≡ grown (written old) (take count line)
+    pub ends : ((code ≡ own) × ((length line ≤ count) ⊎ Rose (faults old) (faults new)))
+        ⊎ ((code ≡ 8) × (count < length line) × (faults new ≡ faults old))

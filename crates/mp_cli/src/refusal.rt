@@ -1,8 +1,8 @@
 //! Why a command gives no answer, and the line that says so.
-ghost use Rattle.std.specs.Prelude.{◌≡◌, ◌++◌, ℕ, codes, take, OnOk, OnErr};
+ghost use Rattle.std.specs.Prelude.{◌≡◌, ◌++◌, ◌<◌, ℕ, codes, length, take, OnOk, OnErr};
 ghost use Rattle.std.specs.Fmt.{decimal};
 ghost use Rattle.std.specs.List.{flat_map};
-ghost use Rattle.mp_outside.specs.Fault.{Rose};
+ghost use Rattle.mp_outside.specs.Fault.{HasCause};
 ghost use Rattle.mp_outside.specs.Sink.{grown};
 ghost use Rattle.mp_cli.specs.Outcome.{number_in, status_of};
 ghost use Rattle.mp_cli.specs.Refused.{line_of, outcome_of};
@@ -79,12 +79,12 @@ impl<'a> Refusal<'a> {
     }
 
     /// Writes its line, without taking memory. `Failed` and `NoMemory`: those of the sink; a part of the line
-    /// may be written.
+    /// may be written, and not all of it.
     pub fn say<S: Sink>(&self, said: &mut S) -> Result<(), Fault>
         ensures whole { OnOk result (S.written said.new ≡ grown (S.written said.old) (line_of self.now)) }
-        ensures part { OnErr result
-            ((k : ℕ) × (S.written said.new ≡ grown (S.written said.old) (take k (line_of self.now)))) }
-        ensures failed { result ≡ Err Fault.Failed → Rose (S.faults said.old) (S.faults said.new) }
+        ensures part { OnErr result ((k : ℕ) × (k < length (line_of self.now))
+            × (S.written said.new ≡ grown (S.written said.old) (take k (line_of self.now)))) }
+        ensures cause { HasCause (S.faults said.old) (S.faults said.new) result }
     {
         let mut digits = itoa::Buffer::new();
         let (before, subject, between, reason) = self.words(digits.format(self.line_number()));
@@ -97,9 +97,9 @@ impl<'a> Refusal<'a> {
 fn say_parts<S: Sink>(said: &mut S, parts: &[&str]) -> Result<(), Fault>
     ensures whole { OnOk result
         (S.written said.new ≡ grown (S.written said.old) (flat_map (λ part. part.now) parts.now)) }
-    ensures part { OnErr result ((k : ℕ) ×
-        (S.written said.new ≡ grown (S.written said.old) (take k (flat_map (λ part. part.now) parts.now)))) }
-    ensures failed { result ≡ Err Fault.Failed → Rose (S.faults said.old) (S.faults said.new) }
+    ensures part { let line = flat_map (λ part. part.now) parts.now in OnErr result ((k : ℕ)
+        × (k < length line) × (S.written said.new ≡ grown (S.written said.old) (take k line))) }
+    ensures cause { HasCause (S.faults said.old) (S.faults said.new) result }
 {
     for part in parts {
         write_piece(said, part.as_bytes())?;

@@ -1,7 +1,7 @@
 //! The status that a call ends with.
-ghost use Rattle.std.specs.Prelude.{◌≡◌, ◌⊎◌, ◌≤◌, ℕ, take, length, codes};
-ghost use Rattle.mp_outside.specs.Fault.{Rose};
+ghost use Rattle.std.specs.Prelude.{◌≡◌, ◌⊎◌, ℕ, take, codes};
 ghost use Rattle.mp_outside.specs.Sink.{grown};
+ghost use Rattle.mp_cli.specs.Ends.{SaysLine};
 ghost use Rattle.mp_cli.specs.Outcome.{status_of};
 ghost use Rattle.mp_cli.specs.Refused.{line_of, outcome_of};
 
@@ -15,13 +15,12 @@ pub struct Status {
     pub code: u8,
 }
 
-/// Says why there is no answer. Its status is that of the refusal, but where `said` finds no memory: then it
-/// is that of an allocation failure.
+/// Says why there is no answer. Its status is that of the refusal, but where `said` finds no memory for the
+/// line: then it is that of an allocation failure.
 pub fn refuse<S: Sink>(refusal: &Refusal, said: &mut S) -> Status
     ensures code { (result.code ≡ status_of (outcome_of refusal.now)) ⊎ (result.code ≡ 8) }
-    ensures said { let line = line_of refusal.now in
-        (k : ℕ) × (S.written said.new ≡ grown (S.written said.old) (take k line))
-        × ((length line ≤ k) ⊎ (Rose (S.faults said.old) (S.faults said.new) ⊎ (result.code ≡ 8))) }
+    ensures said { let own = status_of (outcome_of refusal.now) in
+        SaysLine S.written S.faults (line_of refusal.now) own result.code said.old said.new }
 {
     match refusal.say(said) {
         Ok(()) => Status {

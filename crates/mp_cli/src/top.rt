@@ -4,9 +4,9 @@ ghost use Rattle.mp_outside.specs.Fault.{Rose};
 ghost use Rattle.mp_outside.specs.Files.{SameFiles};
 ghost use Rattle.mp_words.specs.Values.{Options};
 ghost use Rattle.mp_words.specs.Words.{command_in};
-ghost use Rattle.mp_cli.specs.Ends.{ComesWhere, IsCommandAnswered, IsCommandAnsweredInPart, IsRefusal};
-ghost use Rattle.mp_cli.specs.Ends.{LacksInput, MaySay, OthersStay, Says};
-ghost use Rattle.mp_cli.specs.Outcome.{Answered, Outcome, MayCome, called_for, status_of};
+ghost use Rattle.mp_cli.specs.Ends.{CameTo, ComesWhere, IsCommandAnswered, IsCommandAnsweredInPart};
+ghost use Rattle.mp_cli.specs.Ends.{IsRefusal, LacksInput, OthersStay, SaysLine};
+ghost use Rattle.mp_cli.specs.Outcome.{Answered, Outcome, MayCome, called_for, line_said, status_of};
 
 use crate::serve::serve;
 use crate::status::{Status, refuse};
@@ -55,11 +55,13 @@ pub fn run<D: Depot, S: Sink, G: Gate + Sync, R: AllocGlobal>(
         → IsCommandAnsweredInPart (command_in words.now) (D.files depot.old) (D.files depot.new) }
     ensures others { OthersStay (command_in words.now) (D.files depot.old) (D.files depot.new) }
 
-    // What is said is the line of the status. With status 8 it may be a part of another line, in which `said`
-    // found no memory.
-    ensures said { Says (S.written said.old) (S.written said.new)
-        (MaySay (command_in words.now) (D.files depot.old) result.code)
-        (Rose (S.faults said.old) (S.faults said.new) ⊎ (result.code ≡ 8)) }
+    // What is said is the line of what the command came to, with its status. With status 8 it may be a part of
+    // another line, for the rest of which `said` found no memory.
+    ensures said { (outcome : Outcome)
+        × CameTo D.files D.found D.read_faults D.write_faults
+        (command_in words.now) outcome depot.old depot.new
+        × SaysLine S.written S.faults
+        (line_said outcome) (status_of outcome) result.code said.old said.new }
 {
     match serve(rt.alloc(), words, depot, gate) {
         Ok(()) => Status { code: 0 },

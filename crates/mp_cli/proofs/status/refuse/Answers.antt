@@ -1,4 +1,4 @@
--- The whole line was said.
+-- The whole line was said; or a part of it, up to a fault or for want of memory.
 use Rattle.std.proofs.Common.{length, inl, sym, ap, ◌∙◌, List, ℕ, arith}
 use Rattle.std.proofs.Math.Seq.{take-length}
 use Rattle.mp_outside.specs.Sink.{grown}
@@ -9,4 +9,8 @@ use Rattle.mp_cli.proofs.status.refuse.Goals as goal
 pub returns-in-Ok-clause-said : goal.returns-in-Ok-clause-said
 returns-in-Ok-clause-said g c =
     let line = line_said (outcome_of c.args.refusal.now) in
-    (length line, c.in-Ok.ensures.whole ∙ ap (λ (xs : List ℕ). grown (g.S.Sink.written c.args.said.now) xs) (sym (take-length line)), inl (omega arith))
+    record {
+      count = length line;
+      grew = c.in-Ok.ensures.whole ∙ ap (λ (xs : List ℕ). grown (g.S.Sink.written c.args.said.now) xs) (sym (take-length line));
+      ends = inl (c.status.ensures, inl (omega arith));
+    }
