@@ -1,5 +1,5 @@
 //! Where a worker posts its log: a board, or a way to one.
-ghost use Rattle.std.specs.Prelude.{◌≡◌, ◌<◌, ℕ, Some, None, slice_set};
+ghost use Rattle.std.specs.Prelude.{◌≡◌, ◌⊎◌, ◌<◌, ◌≤◌, ℕ, Some, None, slice_set};
 ghost use Rattle.mp_names.specs.Frontiers.{log_at};
 ghost use Rattle.mp_stamps.specs.declared.seen.Seen.{Seen};
 ghost use Rattle.mp_board.specs.declared.causes.Cause.{Cause};
@@ -24,6 +24,9 @@ pub trait Hub<O: Outlined> {
 
     /// What the worker posted last.
     ghost posted: { Self → ℕ → Log };
+
+    /// How often a posted log had changed, as far as this hub knows.
+    ghost version: { Self → ℕ };
 
     /// The second is the first after the worker posted this log.
     ghost after: { Self → ℕ → Log → Self → Type 0 };
@@ -57,6 +60,9 @@ pub trait Hub<O: Outlined> {
         ensures posted { IfGot result (λ _. posted self.new worker ≡ posted_log log) }
         ensures shows { IfGot result (λ seen. shows self.new seen) }
         ensures told { IfGot result (λ seen. SeenIsDone O.outline worker (posted_log log) seen) }
+        ensures version { IfGot result (λ seen. seen.version ≡ version self.new) }
+        ensures rises { IfGot result (λ _. (posted self.old worker ≡ posted_log log) ⊎ (version self.old < version self.new)) }
+        ensures never_falls { version self.old ≤ version self.new }
 
         ensures busy { IfBusy result (was_busy self.old) }
         ensures stopped { IfStopped result (λ cause. was_stopped self.old cause) }
@@ -72,6 +78,8 @@ impl<O: Outlined> Hub<O> for Board<O> {
     ghost serves = { λ _ w. w < O.outline.workers };
 
     ghost posted = { λ b w. log_at b.logs w };
+
+    ghost version = { λ b. b.version };
 
     ghost after = { λ b w log c. c ≡ exchanged b w log };
 

@@ -1,5 +1,5 @@
 //! The rows that wait, and how those of a time are written.
-ghost use Rattle.std.specs.Prelude.{◌≡◌, ◌↔◌, ◌≤◌, ◌<◌, ◌+◌, ℕ, [], false, drop, length, take, All};
+ghost use Rattle.std.specs.Prelude.{◌≡◌, ◌≢◌, ◌↔◌, ◌≤◌, ◌<◌, ◌+◌, ℕ, [], false, drop, length, take, All};
 ghost use Rattle.std.specs.Prelude.{IfSome, IfNone, IsOk, IsTrue, OnErr, OnOk};
 ghost use Rattle.mp_names.specs.declared.locations.Loc.TheVariants.{OutMail};
 ghost use Rattle.mp_names.specs.declared.names.Name.TheVariants.{Row as RowName, Written};
@@ -10,7 +10,7 @@ ghost use Rattle.mp_names.specs.Names.{IsLeast, has};
 ghost use Rattle.mp_stamps.specs.Seen.{seen_at};
 ghost use Rattle.mp_model.specs.declared.value.Value.TheVariants.{Row};
 ghost use Rattle.mp_outside.specs.Fault.{Rose};
-ghost use Rattle.mp_outside.specs.Sink.{grown};
+ghost use Rattle.mp_outside.specs.Sink.{OnlyAppends, grown};
 ghost use Rattle.mp_outline.specs.JobOutline.{outline_of};
 ghost use Rattle.mp_ordered.specs.InOrder.{IsInOrder, put_in_order};
 ghost use Rattle.mp_msg.specs.Contents.{IsRowOf};
@@ -116,6 +116,7 @@ impl<Q: Query, J: Naming> Rows<Q, J> {
     /// `Time(t)`: the rows of time t are written and gone. `Nothing`: exactly where none is due, and nothing changes.
     /// `WriteFault`: only where the sink's count of faults rose in this call or stands at its last value, 2^64 - 1.
     /// `NoMemory`: an allocation failed. With either the rows stay, and a part of the piece from its front may be written.
+    /// Any answer but `WriteFault` leaves that count as it was.
     pub fn write_due<S: Sink>(&mut self, seen: &Seen, sink: &mut S) -> Result<Wrote, OutRefused>
         ensures due { IfTime result (λ t. IsDue (seen_at seen.now OutMail) self.old.rows t) }
         ensures rest { IfTime result (λ t. self.new.rows ≡ rows_beside t self.old.rows) }
@@ -135,8 +136,8 @@ impl<Q: Query, J: Naming> Rows<Q, J> {
             → IsLeast (IsUnwritten log) (Written t) × (IsClosedForOne (outline_of q J.job) 0 log OutMail t
             → lines_of (rows_at t self.old.rows) ≡ answer_at q J.job.events t)) }
         ensures failed { result ≡ Err WriteFault → Rose (S.faults sink.old) (S.faults sink.new) }
-        ensures frame { S.frame sink.new ≡ S.frame sink.old }
-        ensures writes { S.faults sink.old ≤ S.faults sink.new }
+        ensures no_fault { result ≢ Err WriteFault → S.faults sink.new ≡ S.faults sink.old }
+        ensures appends_only { OnlyAppends S.frame S.faults sink.old sink.new }
 
         ensures next { IfTime result (λ t. (log : Log) → HoldsUnwritten log self.old.rows
             → WritesNext log t self.new.rows) }

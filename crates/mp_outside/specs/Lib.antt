@@ -1,4 +1,5 @@
 pub mod Calls
+pub mod Depot
 pub mod Failures
 pub mod Fault
 pub mod Files

@@ -1,6 +1,6 @@
 //! The calls of one method of a fake, counted, and the numbers of those that fail.
 ghost use Rattle.std.specs.Prelude.{◌≡◌, ◌+◌, ◌-◌, ◌^◌, ◌<◌, true, false, OnErr, OnOk};
-ghost use Rattle.mp_outside.specs.Calls.{fails_at, faults_of, no_calls, with_failure};
+ghost use Rattle.mp_outside.specs.Calls.{faults_of, next_fails, no_calls, with_call, with_failure};
 
 use std::alloc::{AllocError, Global};
 use std::marker::Model;
@@ -48,10 +48,8 @@ impl Calls {
     pub fn count(&mut self) -> bool
         ensures fails { result ≡ true → faults_of self.new ≡ faults_of self.old + 1 }
         ensures serves { result ≡ false → faults_of self.new ≡ faults_of self.old }
-        ensures planned { self.old.made < 2 ^ 64 - 1 →
-            result ≡ fails_at self.old.failing (self.old.made + 1) }
-        ensures made { self.old.made < 2 ^ 64 - 1 → self.new.made ≡ self.old.made + 1 }
-        ensures failing { self.new.failing ≡ self.old.failing }
+        ensures planned { result ≡ next_fails self.old }
+        ensures counted { self.new ≡ with_call self.old }
     {
         if self.made == u64::MAX {
             return false;

@@ -1,8 +1,8 @@
 // One name of a depot, seen as a sink.
 ghost use Rattle.std.specs.Prelude.{◌≡◌, ◌≤◌, ℕ, length, take, OnErr, OnOk};
-ghost use Rattle.mp_outside.specs.Fault.{Rose};
+ghost use Rattle.mp_outside.specs.Depot.{OnlyWrites};
+ghost use Rattle.mp_outside.specs.Fault.{HasCause};
 ghost use Rattle.mp_outside.specs.Files.{file_at, IsThere, with_more, without};
-ghost use Rattle.mp_outside.specs.declared.fault.Fault.TheVariants.{Failed};
 
 use crate::{Depot, Fault, Sink, write_piece};
 
@@ -54,9 +54,8 @@ pub fn append_piece<D: Depot>(depot: &mut D, name: &str, piece: &[u8]) -> Result
     ensures part { OnErr result ((k : ℕ) × (k ≤ length piece.now)
         × (D.files depot.new ≡ with_more (D.files depot.old) name.now (take k piece.now))) }
 
-    ensures failed { result ≡ Err Failed → Rose (D.write_faults depot.old) (D.write_faults depot.new) }
-    ensures writes { D.write_faults depot.old ≤ D.write_faults depot.new }
-    ensures reads { D.read_faults depot.new ≡ D.read_faults depot.old }
+    ensures writes_only { OnlyWrites D.read_faults D.write_faults depot.old depot.new }
+    ensures cause { HasCause (D.write_faults depot.old) (D.write_faults depot.new) result }
 {
     let mut sink = DepotSink::new(depot, name);
     write_piece(&mut sink, piece)?;

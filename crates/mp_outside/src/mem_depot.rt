@@ -1,7 +1,11 @@
 // A depot in memory, whose calls can be told to fail.
-ghost use Rattle.std.specs.Prelude.{◌≡◌, ◌≢◌, ◌+◌, Some, None, is_some, option_copied, OnErr, OnOk};
+ghost use Rattle.std.specs.Prelude.{◌≡◌, ◌≢◌, ◌+◌, ◌<◌, ◌≤◌, [], Some, None, is_some, option_copied, length, take, drop, IfOk, IfSome, OnErr, OnOk};
 ghost use Rattle.mp_outside.specs.Calls.{faults_of, no_calls, with_failure};
-ghost use Rattle.mp_outside.specs.Files.{file_at, with_file};
+ghost use Rattle.mp_outside.specs.Depot.{OnlyReads, OnlyWrites};
+ghost use Rattle.mp_outside.specs.Failures.{MakesCall};
+ghost use Rattle.mp_outside.specs.Fault.{HasCause};
+ghost use Rattle.mp_outside.specs.declared.op.Op.TheVariants.{Find, Read, Begin, Append};
+ghost use Rattle.mp_outside.specs.Files.{IsThere, file_at, with_file, with_more};
 ghost use Rattle.mp_outside.specs.Memory.{depot_files, depot_calls, depot_read_faults, depot_write_faults};
 ghost use Rattle.mp_outside.specs.declared.op.Op.{Op as Method};
 
@@ -76,21 +80,42 @@ impl Depot for MemDepot {
     ghost found = { λ before name there after.
         there ≡ is_some (file_at (depot_files before) name) };
 
-    fn find(&mut self, name: &str) -> Result<bool, Fault> {
+    fn find(&mut self, name: &str) -> Result<bool, Fault>
+        ensures planned { MakesCall (depot_calls self.old) (depot_calls self.new) Find result }
+        ensures found { IfOk result (λ there. there ≡ is_some (file_at (depot_files self.old) name.now)) }
+        ensures reads_only { OnlyReads depot_files depot_read_faults depot_write_faults self.old self.new }
+        ensures cause { HasCause (depot_read_faults self.old) (depot_read_faults self.new) result }
+    {
         if self.failures.find.count() {
             return Err(Fault::Failed);
         }
         Ok(self.shelf.get(name).is_some())
     }
 
-    fn read(&mut self, name: &str, at: u64, into: &mut [u8]) -> Result<usize, Fault> {
+    fn read(&mut self, name: &str, at: u64, into: &mut [u8]) -> Result<usize, Fault>
+        requires { IsThere (depot_files self.old) name.now }
+        ensures planned { MakesCall (depot_calls self.old) (depot_calls self.new) Read result }
+        ensures within { IfOk result (λ n. n ≤ length into.old) }
+        ensures next { IfOk result (λ n. IfSome (file_at (depot_files self.old) name.now)
+            (λ bytes. take n into.new ≡ take n (drop at bytes))) }
+        ensures end { IfOk result (λ n. n ≡ 0 → 0 < length into.old →
+            IfSome (file_at (depot_files self.old) name.now) (λ bytes. length bytes ≤ at)) }
+        ensures reads_only { OnlyReads depot_files depot_read_faults depot_write_faults self.old self.new }
+        ensures cause { HasCause (depot_read_faults self.old) (depot_read_faults self.new) result }
+    {
         if self.failures.read.count() {
             return Err(Fault::Failed);
         }
         Ok(self.shelf.read(name, at, into))
     }
 
-    fn begin(&mut self, name: &str) -> Result<(), Fault> {
+    fn begin(&mut self, name: &str) -> Result<(), Fault>
+        ensures planned { MakesCall (depot_calls self.old) (depot_calls self.new) Begin result }
+        ensures begun { OnOk result (depot_files self.new ≡ with_file (depot_files self.old) name.now []) }
+        ensures unchanged { OnErr result (depot_files self.new ≡ depot_files self.old) }
+        ensures writes_only { OnlyWrites depot_read_faults depot_write_faults self.old self.new }
+        ensures cause { HasCause (depot_write_faults self.old) (depot_write_faults self.new) result }
+    {
         if self.failures.begin.count() {
             return Err(Fault::Failed);
         }
@@ -98,7 +123,16 @@ impl Depot for MemDepot {
         Ok(())
     }
 
-    fn append(&mut self, name: &str, piece: &[u8]) -> Result<usize, Fault> {
+    fn append(&mut self, name: &str, piece: &[u8]) -> Result<usize, Fault>
+        requires { IsThere (depot_files self.old) name.now }
+        ensures planned { MakesCall (depot_calls self.old) (depot_calls self.new) Append result }
+        ensures whole { IfOk result (λ n. n ≡ length piece.now) }
+        ensures appended { OnOk result
+            (depot_files self.new ≡ with_more (depot_files self.old) name.now piece.now) }
+        ensures unchanged { OnErr result (depot_files self.new ≡ depot_files self.old) }
+        ensures writes_only { OnlyWrites depot_read_faults depot_write_faults self.old self.new }
+        ensures cause { HasCause (depot_write_faults self.old) (depot_write_faults self.new) result }
+    {
         if self.failures.append.count() {
             return Err(Fault::Failed);
         }

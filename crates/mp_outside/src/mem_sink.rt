@@ -1,8 +1,12 @@
 // A sink in memory, whose writes can be told to fail.
-ghost use Rattle.std.specs.Prelude.{◌≡◌, ◌≢◌, [], Some, OnErr, OnOk};
+ghost use Rattle.std.specs.Prelude.{◌≡◌, ◌≢◌, ◌≤◌, [], Some, length, take, IfOk, OnErr, OnOk};
 ghost use Rattle.mp_outside.specs.Calls.{no_calls, with_failure};
+ghost use Rattle.mp_outside.specs.Failures.{MakesCall};
+ghost use Rattle.mp_outside.specs.Fault.{HasCause};
 ghost use Rattle.mp_outside.specs.Memory.{sink_bytes, sink_calls, sink_faults};
+ghost use Rattle.mp_outside.specs.Sink.{grown};
 ghost use Rattle.mp_outside.specs.declared.op.Op.{Op as Method};
+ghost use Rattle.mp_outside.specs.declared.op.Op.TheVariants.{Write};
 
 use crate::failures::Failures;
 use crate::{Fault, Op, Sink};
@@ -59,7 +63,15 @@ impl Sink for MemSink {
     ghost faults = { sink_faults };
 
     #[tactic(auto, unfolding(crate::specs::Sink::grown))]
-    fn write(&mut self, piece: &[u8]) -> Result<usize, Fault> {
+    fn write(&mut self, piece: &[u8]) -> Result<usize, Fault>
+        ensures planned { MakesCall (sink_calls self.old) (sink_calls self.new) Write result }
+        ensures whole { IfOk result (λ n. n ≡ length piece.now) }
+        ensures grew { IfOk result (λ n.
+            Some (sink_bytes self.new) ≡ grown (Some (sink_bytes self.old)) (take n piece.now)) }
+        ensures unchanged { OnErr result (sink_bytes self.new ≡ sink_bytes self.old) }
+        ensures faults_grow { sink_faults self.old ≤ sink_faults self.new }
+        ensures cause { HasCause (sink_faults self.old) (sink_faults self.new) result }
+    {
         if self.failures.write.count() {
             return Err(Fault::Failed);
         }

@@ -2,6 +2,7 @@
 ghost use Rattle.std.specs.Prelude.{◌≡◌, [], Some, None, is_some, option_copied, OnErr, OnOk};
 ghost use Rattle.mp_outside.specs.Files.{file_at, with_file};
 ghost use Rattle.mp_outside.specs.Memory.{unfailing_files, unfailing_bytes};
+ghost use Rattle.mp_outside.specs.Sink.{nothing_beside};
 
 use crate::shelf::Shelf;
 use crate::{Depot, Fault, Sink};
@@ -60,6 +61,8 @@ impl Depot for NeverFails {
 
     ghost write_faults = { λ _. 0 };
 
+    ghost frame = { λ outside. Some (unfailing_bytes outside) };
+
     ghost found = { λ before name there after.
         there ≡ is_some (file_at (unfailing_files before) name) };
 
@@ -86,6 +89,8 @@ impl Sink for NeverFails {
     ghost written = { λ outside. Some (unfailing_bytes outside) };
 
     ghost faults = { λ _. 0 };
+
+    ghost frame = { λ outside. record nothing_beside { others = unfailing_files outside } };
 
     #[tactic(auto, unfolding(crate::specs::Sink::grown))]
     fn write(&mut self, piece: &[u8]) -> Result<usize, Fault> {

@@ -1,5 +1,6 @@
 // A sink for those who write nothing.
-ghost use Rattle.std.specs.Prelude.{◌-◌, ◌^◌, [], Some};
+ghost use Rattle.std.specs.Prelude.{◌≡◌, ◌-◌, ◌^◌, [], Some};
+ghost use Rattle.mp_outside.specs.declared.fault.Fault.TheVariants.{Failed};
 
 use crate::{Fault, Sink};
 
@@ -13,7 +14,10 @@ impl Sink for NoSink {
 
     ghost faults = { λ _. 2 ^ 64 - 1 };
 
-    fn write(&mut self, _piece: &[u8]) -> Result<usize, Fault> {
+    fn write(&mut self, _piece: &[u8]) -> Result<usize, Fault>
+        ensures refused { result ≡ Err Failed }
+        ensures same { self.new ≡ self.old }
+    {
         Err(Fault::Failed)
     }
 }

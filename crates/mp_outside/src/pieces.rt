@@ -1,8 +1,7 @@
 // Writes whole pieces.
 ghost use Rattle.std.specs.Prelude.{◌≡◌, ◌≤◌, ℕ, take, length, OnErr, OnOk};
-ghost use Rattle.mp_outside.specs.Fault.{Rose};
-ghost use Rattle.mp_outside.specs.Sink.{grown};
-ghost use Rattle.mp_outside.specs.declared.fault.Fault.TheVariants.{Failed};
+ghost use Rattle.mp_outside.specs.Fault.{HasCause};
+ghost use Rattle.mp_outside.specs.Sink.{OnlyAppends, grown};
 
 use crate::{Fault, Sink};
 
@@ -12,10 +11,9 @@ pub fn write_piece<S: Sink>(sink: &mut S, piece: &[u8]) -> Result<(), Fault>
     ensures whole { OnOk result (S.written sink.new ≡ grown (S.written sink.old) piece.now) }
     ensures part { OnErr result ((k : ℕ) × (k ≤ length piece.now)
         × (S.written sink.new ≡ grown (S.written sink.old) (take k piece.now))) }
-    ensures frame { S.frame sink.new ≡ S.frame sink.old }
 
-    ensures failed { result ≡ Err Failed → Rose (S.faults sink.old) (S.faults sink.new) }
-    ensures writes { S.faults sink.old ≤ S.faults sink.new }
+    ensures appends_only { OnlyAppends S.frame S.faults sink.old sink.new }
+    ensures cause { HasCause (S.faults sink.old) (S.faults sink.new) result }
 {
     let mut at = 0;
     while at < piece.len() {

@@ -1,5 +1,6 @@
 // Reads a whole name of a depot.
-ghost use Rattle.std.specs.Prelude.{◌≡◌, ◌≤◌, ◌<◌, ◌+◌, ◌^◌, true, false, None, length, take, vec_len, IfOk, OnOk};
+ghost use Rattle.std.specs.Prelude.{◌≡◌, ◌≢◌, ◌≤◌, ◌<◌, ◌+◌, ◌^◌, true, false, None, length, take, vec_len, IfOk, OnOk};
+ghost use Rattle.mp_outside.specs.Depot.{OnlyReads};
 ghost use Rattle.mp_outside.specs.Fault.{Rose};
 ghost use Rattle.mp_outside.specs.Files.{file_at, IsThere, IsThereWith};
 ghost use Rattle.mp_outside.specs.declared.fault.ReadRefused.TheVariants.{NotThere, Failed, TooLarge};
@@ -13,8 +14,8 @@ const PART: usize = 65_536;
 /// The bytes of a name, of which there may be `most` at most, 2^48 or fewer.
 ///
 /// `NotThere` comes just where `find` answered false, `Failed` only where the depot's read faults rose
-/// in this call, `TooLarge` just where the name gave more than `most` bytes, `NoMemory` for want of
-/// memory. Each turn takes a byte at least, so there are at most `most + 2` of them.
+/// in this call, `TooLarge` just where the name gave more than `most` bytes, `NoMemory` where an
+/// allocation failed; any answer but `Failed` counts no fault. Each turn takes a byte at least, so there are at most `most + 2` of them.
 pub fn read_all<D: Depot>(
     alloc: Global,
     depot: &mut D,
@@ -35,10 +36,8 @@ pub fn read_all<D: Depot>(
     ensures too_large_found { result ≡ Err TooLarge →
         (reading : D) × D.found depot.old name.now true reading }
     ensures failed { result ≡ Err Failed → Rose (D.read_faults depot.old) (D.read_faults depot.new) }
-
-    ensures files { D.files depot.new ≡ D.files depot.old }
-    ensures reads { D.read_faults depot.old ≤ D.read_faults depot.new }
-    ensures writes { D.write_faults depot.new ≡ D.write_faults depot.old }
+    ensures no_fault { result ≢ Err Failed → D.read_faults depot.new ≡ D.read_faults depot.old }
+    ensures reads_only { OnlyReads D.files D.read_faults D.write_faults depot.old depot.new }
 {
     if !depot.find(name)? {
         return Err(ReadRefused::NotThere);
@@ -84,10 +83,8 @@ fn read_part<D: Depot>(
     ensures not_there { result ≡ Err NotThere → ⊥ }
     ensures too_large { result ≡ Err TooLarge → ⊥ }
     ensures failed { result ≡ Err Failed → Rose (D.read_faults depot.old) (D.read_faults depot.new) }
-
-    ensures files { D.files depot.new ≡ D.files depot.old }
-    ensures reads { D.read_faults depot.old ≤ D.read_faults depot.new }
-    ensures writes { D.write_faults depot.new ≡ D.write_faults depot.old }
+    ensures no_fault { result ≢ Err Failed → D.read_faults depot.new ≡ D.read_faults depot.old }
+    ensures reads_only { OnlyReads D.files D.read_faults D.write_faults depot.old depot.new }
 {
     let taken = depot.read(name, bytes.len() as u64, room)?;
     bytes.extend_from_slice(&room[..taken])?;

@@ -9,7 +9,7 @@ loop-at-init g c = record {
   in_piece = omega arith;
   grew = sym (grown-nothing _);
   frame = refl;
-  writes = omega arith;
+  no_fault = refl;
 }
 
 pub loop-at-preserved : goal.loop-at-preserved
@@ -18,6 +18,6 @@ loop-at-preserved g c = record {
   grew =
       let h = rw take_rest at c.in_ok-at.ensures.grew in
       rw take-add (h ∙ (rw c.loop-at.invariant.grew (grown-grown _ _ _)));
-  frame = c.in_ok-at.ensures.frame ∙ c.loop-at.invariant.frame;
-  writes = omega (arith, c.in_ok-at.ensures.writes);
+  frame = c.in_ok-at.ensures.appends_only.same_frame ∙ c.loop-at.invariant.frame;
+  no_fault = c.in_ok-at.ensures.cause.served ∙ c.loop-at.invariant.no_fault;
 }

@@ -7,7 +7,7 @@ invariant-loop-at g l = record {
   in_piece : l.at ≤ length l.piece;
   grew : g.S.Sink.written l.sink ≡ grown (g.S.Sink.written l.initial.sink) (take l.at l.piece);
   frame : g.S.Sink.frame l.sink ≡ g.S.Sink.frame l.initial.sink;
-  writes : g.S.Sink.faults l.initial.sink ≤ g.S.Sink.faults l.sink;
+  no_fault : g.S.Sink.faults l.sink ≡ g.S.Sink.faults l.initial.sink;
 }
 
 abbrev pub decreases-loop-at : goal.decreases-loop-at

@@ -8,7 +8,7 @@ invariant-loop-room g l = record {
   there : IsThere (g.D.Depot.files l.depot) l.name;
   within : vec_len l.bytes ≤ l.most + 1;
   files : g.D.Depot.files l.depot ≡ g.D.Depot.files l.fn.depot;
-  reads : g.D.Depot.read_faults l.fn.depot ≤ g.D.Depot.read_faults l.depot;
+  no_fault : g.D.Depot.read_faults l.depot ≡ g.D.Depot.read_faults l.fn.depot;
   writes : g.D.Depot.write_faults l.depot ≡ g.D.Depot.write_faults l.fn.depot;
 }
 

@@ -10,5 +10,8 @@ invariant_of-self g c = record {
 pub returns-clause-grew : goal.returns-clause-grew
 returns-clause-grew g c = rw c.in_ok-taken.ensures.appended (file_at-with_more _ _ _)
 
-pub returns-clause-frame : goal.returns-clause-frame
-returns-clause-frame g c = rw (c.in_ok-taken.ensures.appended, without-with_more, c.in_ok-taken.ensures.reads) refl
+pub returns-clause-appends_only : goal.returns-clause-appends_only
+returns-clause-appends_only g c = record {
+  same_frame = rw (c.in_ok-taken.ensures.appended, without-with_more, c.in_ok-taken.ensures.writes_only.same_reads) refl;
+  faults_grow = c.in_ok-taken.ensures.writes_only.writes_grow;
+}
