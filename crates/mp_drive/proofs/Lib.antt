@@ -1,3 +1,4 @@
+pub mod Appended
 pub mod Ended
 pub mod Followed
 pub mod Leading
@@ -7,6 +8,7 @@ pub mod Opened
 pub mod Owned
 pub mod Picked
 pub mod Refusing
+pub mod Told
 pub mod Tallied
 pub mod Tried
 pub mod Turned

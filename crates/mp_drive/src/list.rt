@@ -1,6 +1,7 @@
 //! Driving by a list of steps.
 ghost use Rattle.std.specs.Prelude.{◌≡◌, ◌≢◌, ◌≤◌, ℕ, All, Err, IfErr, IfOk, List, OnErr, OnOk, Option, map};
 ghost use Rattle.mp_outside.specs.Fault.{Rose};
+ghost use Rattle.mp_outside.specs.Sink.{OnlyAppends};
 ghost use Rattle.mp_outline.specs.JobOutline.{outline_of};
 ghost use Rattle.mp_worker.specs.declared.turn.Turn.TheVariants.{Busy};
 ghost use Rattle.mp_drive.specs.declared.stop.DriveStop.TheVariants.{Write};
@@ -37,8 +38,7 @@ impl<'a, Q: Query, J: Naming> Plain<'a, Q, J> {
             (before : Option (List ℕ)) → HasWritten q J.job.events before self.old (S.written sink.old)
             → OnErr result (HasBegun q J.job.events before (S.written sink.new)) }
         ensures failed { result ≡ Err Write → Rose (S.faults sink.old) (S.faults sink.new) }
-        ensures frame { S.frame sink.new ≡ S.frame sink.old }
-        ensures writes { S.faults sink.old ≤ S.faults sink.new }
+        ensures appends_only { OnlyAppends S.frame S.faults sink.old sink.new }
     {
         // From here on the invariant is known: what is written so far is a beginning of the answer.
         let _ = &self.job;

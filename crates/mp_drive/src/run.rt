@@ -1,7 +1,7 @@
 //! A whole run on one thread.
 ghost use Rattle.std.specs.Prelude.{◌≡◌, ◌<◌, ◌≤◌, ◌^◌, [], Err, IfOk, OnErr, OnOk};
 ghost use Rattle.mp_outside.specs.Fault.{Rose};
-ghost use Rattle.mp_outside.specs.Sink.{grown};
+ghost use Rattle.mp_outside.specs.Sink.{OnlyAppends, grown};
 ghost use Rattle.mp_model.specs.Answers.{one_thread_answer};
 ghost use Rattle.mp_outline.specs.JobOutline.{outline_of};
 ghost use Rattle.mp_output.specs.Rows.{GivesRows};
@@ -38,8 +38,7 @@ pub fn replay<Q: Query, J: Naming, S: Sink, G: Gate>(
     ensures part { let q = Q.facts J.job.rules in
         OnErr result (HasBegun q J.job.events (S.written sink.old) (S.written sink.new)) }
     ensures failed { result ≡ Err Write → Rose (S.faults sink.old) (S.faults sink.new) }
-    ensures frame { S.frame sink.new ≡ S.frame sink.old }
-    ensures writes { S.faults sink.old ≤ S.faults sink.new }
+    ensures appends_only { OnlyAppends S.frame S.faults sink.old sink.new }
 {
     let mut plain = Plain::<Q, J>::open(alloc, job, depth)?;
     plain.drive_seed(seed, gate, sink)

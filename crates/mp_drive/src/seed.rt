@@ -1,7 +1,7 @@
 //! Driving by the seeded schedule.
 ghost use Rattle.std.specs.Prelude.{◌≡◌, ◌<◌, ◌≤◌, ℕ, [], Err, IfErr, IfOk, List, OnErr, OnOk, Option};
 ghost use Rattle.mp_outside.specs.Fault.{Rose};
-ghost use Rattle.mp_outside.specs.Sink.{grown};
+ghost use Rattle.mp_outside.specs.Sink.{OnlyAppends, grown};
 ghost use Rattle.mp_model.specs.Answers.{one_thread_answer};
 ghost use Rattle.mp_outline.specs.JobOutline.{outline_of};
 ghost use Rattle.mp_drive.specs.declared.stop.DriveStop.TheVariants.{Write};
@@ -44,8 +44,7 @@ impl<'a, Q: Query, J: Naming> Plain<'a, Q, J> {
             (before : Option (List ℕ)) → HasWritten q J.job.events before self.old (S.written sink.old)
             → OnErr result (HasBegun q J.job.events before (S.written sink.new)) }
         ensures failed { result ≡ Err Write → Rose (S.faults sink.old) (S.faults sink.new) }
-        ensures frame { S.frame sink.new ≡ S.frame sink.old }
-        ensures writes { S.faults sink.old ≤ S.faults sink.new }
+        ensures appends_only { OnlyAppends S.frame S.faults sink.old sink.new }
     {
         // From here on the invariant is known: a run of the machine leads to where the workers are.
         let _ = &self.job;
@@ -83,8 +82,7 @@ impl<'a, Q: Query, J: Naming> Plain<'a, Q, J> {
             (before : Option (List ℕ)) → HasWritten q J.job.events before self.old (S.written sink.old)
             → OnErr result (HasBegun q J.job.events before (S.written sink.new)) }
         ensures failed { result ≡ Err Write → Rose (S.faults sink.old) (S.faults sink.new) }
-        ensures frame { S.frame sink.new ≡ S.frame sink.old }
-        ensures writes { S.faults sink.old ≤ S.faults sink.new }
+        ensures appends_only { OnlyAppends S.frame S.faults sink.old sink.new }
     {
         let shape = self.job.shape();
         let places = count_of_places(shape);

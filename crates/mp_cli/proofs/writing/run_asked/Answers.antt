@@ -14,7 +14,7 @@ replay-requires-clause-rows g c κs within = rw c.in_ok-job.ensures c.requires.r
 pub returns-in_err-replay-clause-part : goal.returns-in_err-replay-clause-part
 returns-in_err-replay-clause-part g c =
     let part = c.in_err-replay.ensures.part in
-    let frame = rw (c.new-sink.ensures.depot, c.new-sink.ensures.name) at c.replay.ensures.frame in
+    let frame = rw (c.new-sink.ensures.depot, c.new-sink.ensures.name) at c.replay.ensures.appends_only.same_frame in
     let here = rw (c.new-sink.ensures.depot, c.new-sink.ensures.name, c.in_ok-job.ensures) at part.1 in
     let made = written_from_begun _ _ _ _ _ _ c.in_ok-begin.ensures.begun (ap (λ b. b.name) frame) here (ap (λ b. b.others) frame) in
     let p = err_from_is_err_and c.from_residual-in_err-replay.result c.from_residual-in_err-replay.ensures.1 in
@@ -22,7 +22,7 @@ returns-in_err-replay-clause-part g c =
 
 pub returns-clause-whole : goal.returns-clause-whole
 returns-clause-whole g c =
-    let frame = rw (c.new-sink.ensures.depot, c.new-sink.ensures.name) at c.replay.ensures.frame in
+    let frame = rw (c.new-sink.ensures.depot, c.new-sink.ensures.name) at c.replay.ensures.appends_only.same_frame in
     let here = rw (c.new-sink.ensures.depot, c.new-sink.ensures.name, c.in_ok-job.ensures) at c.in_ok-replay.ensures.answer in
     let made = written_from_begun _ _ _ _ _ _ c.in_ok-begin.ensures.begun (ap (λ b. b.name) frame) here (ap (λ b. b.others) frame) in
     search rules

@@ -5,12 +5,14 @@ use Rattle.std.proofs.lemmas.Result.{err_from_is_err_and}
 use Rattle.std.specs.Prelude.{All}
 use Rattle.mp_names.specs.Outlines.{OutlineIsSound}
 use Rattle.mp_job.specs.Legal.{JobIsLegal}
+use Rattle.mp_outside.proofs.SinkLemmas.{rose_later}
 use Rattle.mp_outline.specs.JobOutline.{outline_of}
 use Rattle.mp_outline.proofs.Soundness.{outline_is_sound}
 use Rattle.mp_worker.specs.declared.turn.Turn.TheVariants.{Busy}
-use Rattle.mp_drive.specs.declared.stop.DriveStop.TheVariants.{Memory}
+use Rattle.mp_drive.specs.declared.stop.DriveStop.TheVariants.{Memory, Write}
 use Rattle.mp_drive.specs.Driven.{AreReached}
 use Rattle.mp_drive.specs.Refused.{KeepsSteps}
+use Rattle.mp_drive.proofs.Appended.{appends_further}
 use Rattle.mp_drive.proofs.Ended.{has_begun, kept_has_begun}
 use Rattle.mp_drive.proofs.Listed.{one_more, whole}
 use Rattle.mp_drive.proofs.Refusing.{handed_on, keeps_none, keeps_steps}
@@ -58,6 +60,18 @@ returns-in_err-turn-clause-part g c = λ before had.
     let here : AreReached (outline_of q job) c.step.new.self = ((reached.0 ++ take c.loop-worker.worker-index c.args.steps.now) ++ [], e.unchanged.state_is (reached.0 ++ take c.loop-worker.worker-index c.args.steps.now) (c.loop-worker.invariant.lead.state_is reached.0 reached.1)) in
     rw p.1 (kept_has_begun q job (sound g c.self.invariant.legal) c.step.new.self here _ before (g.S.Sink.written c.step.new.sink) (e.part before (c.loop-worker.invariant.written before had)))
 
+pub returns-in_err-turn-clause-failed : goal.returns-in_err-turn-clause-failed
+returns-in_err-turn-clause-failed g c = λ e.
+    let p = err_from_is_err_and c.from_residual.result c.from_residual.ensures.1 in
+    let here : c.in_err-turn.field-0.0 ≡ Write = cc in
+    rose_later _ _ _ c.loop-worker.invariant.appends.faults_grow (c.in_err-turn.ensures.failed (ap Err here)).1
+
+pub returns-in_err-turn-clause-appends_only : goal.returns-in_err-turn-clause-appends_only
+returns-in_err-turn-clause-appends_only g c = appends_further g.S.Sink.frame g.S.Sink.faults c.args.sink.now c.loop-worker.sink c.step.new.sink c.loop-worker.invariant.appends c.in_err-turn.ensures.appends_only
+
+pub returns-clause-appends_only : goal.returns-clause-appends_only
+returns-clause-appends_only g c = c.loop-worker.invariant.appends
+
 pub loop-worker-preserved : goal.loop-worker-preserved
 loop-worker-preserved g c =
     let o = outline_of (g.Q.Query.facts g.J.Naming.job.rules) g.J.Naming.job in
@@ -72,8 +86,7 @@ loop-worker-preserved g c =
       lead = one_more o c.args.self.now c.loop-worker.self c.step.new.self c.args.steps.now c.loop-worker.worker-index _ turns c.push_reserved.new.self.items turn c.loop-worker-test.true pushed.items i.lead next.turn;
       not_busy = subst (All (λ turn. turn ≡ Busy → ⊥)) (sym pushed.items) (All-push (λ turn. turn ≡ Busy → ⊥) turns turn i.not_busy next.not_busy);
       written = λ before has. next.written before (i.written before has);
-      frame = next.frame ∙ i.frame;
-      faults = omega (arith, i.faults, next.writes);
+      appends = appends_further g.S.Sink.frame g.S.Sink.faults c.args.sink.now c.loop-worker.sink c.step.new.sink i.appends next.appends_only;
     }
 
 pub returns-clause-turns : goal.returns-clause-turns

@@ -11,6 +11,7 @@ use Rattle.mp_draws.specs.Draws.{draw_of, next_state, state_after}
 use Rattle.mp_drive.specs.Driven.{AllKnowTheEnd, AreReached}
 use Rattle.mp_drive.specs.Refused.{KeepsSchedule, RefusesDraw}
 use Rattle.mp_drive.specs.Schedule.{MakesPick}
+use Rattle.mp_drive.proofs.Appended.{appends_further, appends_none}
 use Rattle.mp_drive.proofs.Counted.{full_where_all_know}
 use Rattle.mp_drive.proofs.Followed.{LeadsBy, begins_by_none, follows, leads_by_one_more, stays_by}
 use Rattle.mp_drive.proofs.Refusing.{handed_on, refuses_later}
@@ -30,20 +31,13 @@ loop-draws-init g c =
       by = begins_by_none o c.args.seed c.args.self.now;
       drawn = c.of-draws.ensures;
       written = λ before had. had;
-      frame = refl;
-      writes = omega arith;
+      appends = appends_none g.S.Sink.frame g.S.Sink.faults c.args.sink.now;
     }
 
 pub returns-in_default-clause-part : goal.returns-in_default-clause-part
 returns-in_default-clause-part g c = λ before had.
     let begun = c.is_finished.ensures.begun in
     (begun.0, c.loop-draws.invariant.written before had ∙ ap (grown before) begun.1)
-
-pub returns-in_default-clause-frame : goal.returns-in_default-clause-frame
-returns-in_default-clause-frame g c = c.loop-draws.invariant.frame
-
-pub returns-in_default-clause-writes : goal.returns-in_default-clause-writes
-returns-in_default-clause-writes g c = c.loop-draws.invariant.writes
 
 pub step_from-requires-clause-depth : goal.step_from-requires-clause-depth
 step_from-requires-clause-depth g c κs within =
@@ -61,16 +55,7 @@ pub returns-in_err-step_from-clause-failed : goal.returns-in_err-step_from-claus
 returns-in_err-step_from-clause-failed g c = λ e.
     let p = err_from_is_err_and c.from_residual.result c.from_residual.ensures.1 in
     let here : c.in_err-step_from.field-0.0 ≡ Write = cc in
-    rose_later _ _ _ c.loop-draws.invariant.writes (c.in_err-step_from.ensures.failed (ap Err here))
-
-pub returns-in_err-step_from-clause-frame : goal.returns-in_err-step_from-clause-frame
-returns-in_err-step_from-clause-frame g c = c.in_err-step_from.ensures.frame ∙ c.loop-draws.invariant.frame
-
-pub returns-in_err-step_from-clause-writes : goal.returns-in_err-step_from-clause-writes
-returns-in_err-step_from-clause-writes g c =
-    let before = c.loop-draws.invariant.writes in
-    let here = c.in_err-step_from.ensures.writes in
-    omega arith
+    rose_later _ _ _ c.loop-draws.invariant.appends.faults_grow (c.in_err-step_from.ensures.failed (ap Err here))
 
 pub returns-in_default-clause-kept : goal.returns-in_default-clause-kept
 returns-in_default-clause-kept g c =
@@ -103,6 +88,15 @@ returns-in_err-step_from-clause-kept g c =
           (subst (λ (d : ℕ). RefusesDraw q job d why [] c.loop-draws.self c.step_from.new.self (g.S.Sink.written c.loop-draws.sink) has) drawn e.refused);
     })
 
+pub returns-in_default-clause-appends_only : goal.returns-in_default-clause-appends_only
+returns-in_default-clause-appends_only g c = c.loop-draws.invariant.appends
+
+pub returns-in_err-step_from-clause-appends_only : goal.returns-in_err-step_from-clause-appends_only
+returns-in_err-step_from-clause-appends_only g c = appends_further g.S.Sink.frame g.S.Sink.faults c.args.sink.now c.loop-draws.sink c.step_from.new.sink c.loop-draws.invariant.appends c.in_err-step_from.ensures.appends_only
+
+pub returns-clause-appends_only : goal.returns-clause-appends_only
+returns-clause-appends_only g c = c.loop-draws.invariant.appends
+
 pub loop-draws-preserved : goal.loop-draws-preserved
 loop-draws-preserved g c =
     let o = outline_of (g.Q.Query.facts g.J.Naming.job.rules) g.J.Naming.job in
@@ -110,15 +104,12 @@ loop-draws-preserved g c =
     let unfinished : AllKnowTheEnd o c.loop-draws.self → ⊥ = λ all. let known = c.is_finished.ensures.known.1 all in absurd (cc) in
     let one_more : c.in-Some.counted ≡ suc c.loop-draws.made = omega (arith, counted) in
     let drawn : c.draw.result ≡ draw_of c.args.seed c.loop-draws.made = c.draw.ensures.draw ∙ ap next_state c.loop-draws.invariant.drawn in
-    let before = c.loop-draws.invariant.writes in
-    let here = c.in_ok-step_from.ensures.writes in
     record {
       by = subst (λ (n : ℕ). LeadsBy o c.args.seed n c.args.self.now c.step_from.new.self) (sym counted)
           (leads_by_one_more o c.args.seed c.loop-draws.made c.args.self.now c.loop-draws.self c.step_from.new.self c.loop-draws.invariant.by unfinished (subst (λ (d : ℕ). MakesPick o d c.loop-draws.self c.step_from.new.self) drawn c.in_ok-step_from.ensures.made));
       drawn = c.draw.ensures.state ∙ drawn ∙ ap (state_after c.args.seed) (sym one_more);
       written = λ before had. c.in_ok-step_from.ensures.written before (c.loop-draws.invariant.written before had);
-      frame = c.in_ok-step_from.ensures.frame ∙ c.loop-draws.invariant.frame;
-      writes = omega arith;
+      appends = appends_further g.S.Sink.frame g.S.Sink.faults c.args.sink.now c.loop-draws.sink c.step_from.new.sink c.loop-draws.invariant.appends c.in_ok-step_from.ensures.appends_only;
     }
 
 pub returns-clause-made : goal.returns-clause-made
@@ -138,8 +129,3 @@ returns-clause-answer g c = λ before had.
     let whole = c.loop-draws-test.ensures.answer refl in
     c.loop-draws.invariant.written before had ∙ ap (grown before) whole
 
-pub returns-clause-frame : goal.returns-clause-frame
-returns-clause-frame g c = c.loop-draws.invariant.frame
-
-pub returns-clause-writes : goal.returns-clause-writes
-returns-clause-writes g c = c.loop-draws.invariant.writes

@@ -1,4 +1,5 @@
 use Rattle.std.proofs.Common.{◌≡◌, ◌≤◌, ◌-◌, ◌^◌, ℕ, List, Option}
+use Rattle.mp_outside.specs.Sink.{OnlyAppends}
 use Rattle.mp_outline.specs.JobOutline.{outline_of}
 use Rattle.mp_drive.specs.Driven.{HasWritten}
 use Rattle.mp_draws.specs.Draws.{state_after}
@@ -12,8 +13,7 @@ invariant-loop-draws g l =
       by : LeadsBy (outline_of q g.J.Naming.job) l.seed l.made l.fn.self l.self;
       drawn : l.draws ≡ state_after l.seed l.made;
       written : (before : Option (List ℕ)) → HasWritten q g.J.Naming.job.events before l.fn.self (g.S.Sink.written l.fn.sink) → HasWritten q g.J.Naming.job.events before l.self (g.S.Sink.written l.sink);
-      frame : g.S.Sink.frame l.sink ≡ g.S.Sink.frame l.fn.sink;
-      writes : g.S.Sink.faults l.fn.sink ≤ g.S.Sink.faults l.sink;
+      appends : OnlyAppends g.S.Sink.frame g.S.Sink.faults l.fn.sink l.sink;
     }
 
 abbrev pub decreases-loop-draws : goal.decreases-loop-draws

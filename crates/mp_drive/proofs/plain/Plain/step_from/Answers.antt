@@ -14,6 +14,7 @@ use Rattle.mp_machine.specs.Runs.{Turn, is_made}
 use Rattle.mp_drive.specs.declared.stop.DriveStop.TheVariants.{Write}
 use Rattle.mp_drive.specs.Driven.{AreReached, LeadsOn, turn_in}
 use Rattle.mp_drive.specs.Refused.{RefusesDraw}
+use Rattle.mp_drive.proofs.Appended.{appends_further, appends_none}
 use Rattle.mp_drive.proofs.Ended.{kept_has_begun}
 use Rattle.mp_drive.proofs.Leading.{leads_further, leads_nowhere, still_there, turn_is}
 use Rattle.mp_drive.proofs.Numbered.{some_places}
@@ -45,8 +46,7 @@ loop-tried-init g c =
       still = still_there o c.args.self.now;
       none = λ k l. absurd (omega arith);
       written = λ before had. had;
-      frame = refl;
-      writes = omega arith;
+      appends = appends_none g.S.Sink.frame g.S.Sink.faults c.args.sink.now;
     }
 
 pub overflow_add-start : goal.overflow_add-start
@@ -106,16 +106,7 @@ pub returns-in_err-turn-clause-failed : goal.returns-in_err-turn-clause-failed
 returns-in_err-turn-clause-failed g c = λ e.
     let p = err_from_is_err_and c.from_residual.result c.from_residual.ensures.1 in
     let here : c.in_err-turn.field-0.0 ≡ Write = cc in
-    rose_later _ _ _ c.loop-tried.invariant.writes (c.in_err-turn.ensures.failed (ap Err here)).1
-
-pub returns-in_err-turn-clause-frame : goal.returns-in_err-turn-clause-frame
-returns-in_err-turn-clause-frame g c = c.in_err-turn.ensures.frame ∙ c.loop-tried.invariant.frame
-
-pub returns-in_err-turn-clause-writes : goal.returns-in_err-turn-clause-writes
-returns-in_err-turn-clause-writes g c =
-    let before = c.loop-tried.invariant.writes in
-    let here = c.in_err-turn.ensures.writes in
-    omega arith
+    rose_later _ _ _ c.loop-tried.invariant.appends.faults_grow (c.in_err-turn.ensures.failed (ap Err here)).1
 
 pub returns-then-matches-clause-made : goal.returns-then-matches-clause-made
 returns-then-matches-clause-made g c =
@@ -144,14 +135,11 @@ returns-then-matches-clause-made g c =
 pub returns-then-matches-clause-written : goal.returns-then-matches-clause-written
 returns-then-matches-clause-written g c = λ before had. c.in_ok-turn.ensures.written before (c.loop-tried.invariant.written before had)
 
-pub returns-then-matches-clause-frame : goal.returns-then-matches-clause-frame
-returns-then-matches-clause-frame g c = c.in_ok-turn.ensures.frame ∙ c.loop-tried.invariant.frame
+pub returns-in_err-turn-clause-appends_only : goal.returns-in_err-turn-clause-appends_only
+returns-in_err-turn-clause-appends_only g c = appends_further g.S.Sink.frame g.S.Sink.faults c.args.sink.now c.loop-tried.sink c.step.new.sink c.loop-tried.invariant.appends c.in_err-turn.ensures.appends_only
 
-pub returns-then-matches-clause-writes : goal.returns-then-matches-clause-writes
-returns-then-matches-clause-writes g c =
-    let before = c.loop-tried.invariant.writes in
-    let here = c.in_ok-turn.ensures.writes in
-    omega arith
+pub returns-then-matches-clause-appends_only : goal.returns-then-matches-clause-appends_only
+returns-then-matches-clause-appends_only g c = appends_further g.S.Sink.frame g.S.Sink.faults c.args.sink.now c.loop-tried.sink c.step.new.sink c.loop-tried.invariant.appends c.in_ok-turn.ensures.appends_only
 
 pub loop-tried-preserved : goal.loop-tried-preserved
 loop-tried-preserved g c =
@@ -168,14 +156,11 @@ loop-tried-preserved g c =
           let place = c.place_at-worker.result in
           let is = stands_at o c.args.draw c.loop-tried.tried c.count_of_places-places.result place count (c.place_at-worker.ensures o workers stages) in
           let lead = subst (λ (t : Turn). LeadsOn o (place ∷ []) (t ∷ []) c.loop-tried.self c.step.new.self) (idle_turn c.in_ok-turn.turn w.in_default.not-Did w.in_default.not-Seen) c.in_ok-turn.ensures.turn in
-          let before = c.loop-tried.invariant.writes in
-          let here = c.in_ok-turn.ensures.writes in
           record {
             still = leads_further o [] [] [] [] c.args.self.now c.loop-tried.self c.step.new.self c.loop-tried.invariant.still (leads_nowhere o place c.loop-tried.self c.step.new.self lead);
             none = none_more o c.args.self.now (c.args.draw % length (places o)) c.loop-tried.tried place c.loop-tried.self c.step.new.self c.loop-tried.invariant.none c.loop-tried.invariant.still is lead;
             written = λ before had. c.in_ok-turn.ensures.written before (c.loop-tried.invariant.written before had);
-            frame = c.in_ok-turn.ensures.frame ∙ c.loop-tried.invariant.frame;
-            writes = omega arith;
+            appends = appends_further g.S.Sink.frame g.S.Sink.faults c.args.sink.now c.loop-tried.sink c.step.new.sink c.loop-tried.invariant.appends c.in_ok-turn.ensures.appends_only;
           }
     ]
 

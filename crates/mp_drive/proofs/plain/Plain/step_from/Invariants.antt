@@ -1,4 +1,5 @@
 use Rattle.std.proofs.Common.{◌≡◌, ◌≤◌, ◌%◌, ℕ, List, [], Option, length}
+use Rattle.mp_outside.specs.Sink.{OnlyAppends}
 use Rattle.mp_outline.specs.JobOutline.{outline_of}
 use Rattle.mp_machine.specs.Places.{places}
 use Rattle.mp_drive.specs.Driven.{HasWritten, LeadsOn}
@@ -13,6 +14,5 @@ invariant-loop-tried g l =
       still : LeadsOn o [] [] l.fn.self l.self;
       none : NoneOf o l.fn.self (l.draw % length (places o)) l.tried;
       written : (before : Option (List ℕ)) → HasWritten q g.J.Naming.job.events before l.fn.self (g.S.Sink.written l.fn.sink) → HasWritten q g.J.Naming.job.events before l.self (g.S.Sink.written l.sink);
-      frame : g.S.Sink.frame l.sink ≡ g.S.Sink.frame l.fn.sink;
-      writes : g.S.Sink.faults l.fn.sink ≤ g.S.Sink.faults l.sink;
+      appends : OnlyAppends g.S.Sink.frame g.S.Sink.faults l.fn.sink l.sink;
     }
