@@ -97,8 +97,8 @@ fn run_query<'a, D: Depot, Q: Query, G: Gate>(
 }
 
 /// Runs a query on these events, with bins moved by these control records, and makes the file hold its
-/// answer: how many steps the workers made, which are those of the schedule of the command's seed, at its depth,
-/// for the job of its shape and these control records.
+/// answer: how many steps the workers made, which are those of the schedule of the command's seed, at its
+/// depth, for the job of its shape and these control records.
 fn run_asked<'a, D: Depot, Q: Query, G: Gate>(
     alloc: Global,
     depot: &mut D,
@@ -113,8 +113,9 @@ fn run_asked<'a, D: Depot, Q: Query, G: Gate>(
     requires controls { ControlsFit (shape_of (options_in options.now)) controls.items }
     requires stages { stages_of options.now.query ≡ Q.STAGES }
     requires rows { GivesRows (Q.facts (Q.rules query)) }
-    ensures made { let job = job_of (Q.rules query) events.items controls.items (shape_of (options_in options.now)) in
-        IfOk result (λ n. EndsAfter (outline_of (Q.facts (Q.rules query)) job) options.now.depth options.now.seed n) }
+    ensures made { let q = Q.facts (Q.rules query) in
+        let job = job_of (Q.rules query) events.items controls.items (shape_of (options_in options.now)) in
+        IfOk result (λ n. EndsAfter (outline_of q job) options.now.depth options.now.seed n) }
     ensures whole { let answer = one_thread_answer (Q.facts (Q.rules query)) events.items in
         OnOk result (D.files depot.new ≡ with_file (D.files depot.old) options.now.out.now answer) }
     ensures part { let answer = one_thread_answer (Q.facts (Q.rules query)) events.items in

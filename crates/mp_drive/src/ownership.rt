@@ -7,8 +7,8 @@ use mp_model::{Naming, Query};
 
 impl<'a, Q: Query, J: Naming> Plain<'a, Q, J> {
     /// Whatever steps were driven: each bin of each stage has exactly one holder or one packet on its way,
-    /// never both, and each group is applied at most once, by its owner alone (Megaphone's handoff). A law: it
-    /// does nothing.
+    /// never both, and each group is applied at most once, by its owner alone (Megaphone's handoff). A law:
+    /// it does nothing.
     pub fn running_workers_keep_ownership(&self)
         ensures { KeepOwnership (outline_of (Q.facts J.job.rules) J.job) self.now }
     {

@@ -70,8 +70,10 @@ impl<'a, Q: Query, J: Naming> Plain<'a, Q, J> {
     ) -> Result<(), DriveStop>
         requires depth { 0 < self.old.post.depth }
         requires unfinished { AllKnowTheEnd (outline_of (Q.facts J.job.rules) J.job) self.old → ⊥ }
-        ensures made { OnOk result (MakesPick (outline_of (Q.facts J.job.rules) J.job) draw self.old self.new) }
-        ensures still { OnErr result (LeadsOn (outline_of (Q.facts J.job.rules) J.job) [] [] self.old self.new) }
+        ensures made { let o = outline_of (Q.facts J.job.rules) J.job in
+            OnOk result (MakesPick o draw self.old self.new) }
+        ensures still { let o = outline_of (Q.facts J.job.rules) J.job in
+            OnErr result (LeadsOn o [] [] self.old self.new) }
         ensures refused { IfErr result (λ why. RefusesDraw (Q.facts J.job.rules) J.job draw why []
             self.old self.new (S.written sink.old) (S.written sink.new)) }
 
