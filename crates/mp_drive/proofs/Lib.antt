@@ -1,3 +1,5 @@
+pub mod Answered
+pub mod Counted
 pub mod Ended
 pub mod Leading
 pub mod Listed
@@ -7,4 +9,3 @@ pub mod Tallied
 pub mod Tried
 pub mod Turned
 pub mod Written
-pub mod Counted

@@ -1,5 +1,5 @@
 -- What a worker says of its step leads the workers on by one turn of the machine, or leaves them where they are.
-use Rattle.std.proofs.Common.{◌≡◌, ◌⊎◌, ℕ, ◌<◌, List, [], ◌∷◌, ◌++◌, Some, Ok, Err, get_or, length, refl, sym, ap, ◌∙◌, subst, inl, inr, ⊎_elim, append-nil, arith}
+use Rattle.std.proofs.Common.{◌≡◌, ◌⊎◌, ℕ, ◌<◌, List, [], ◌∷◌, ◌++◌, None, Some, Ok, Err, get_or, length, refl, sym, ap, ◌∙◌, subst, inl, inr, ⊎_elim, append-nil, arith}
 use Rattle.std.specs.Prelude.{IfOk, OnErr, slice_get, slice_set}
 use Rattle.std.specs.declared.result.Result.{Result}
 use Rattle.std.proofs.lemmas.Option.{slice_get_read}
@@ -17,6 +17,7 @@ use Rattle.mp_machine.proofs.Worlds.{after_more, run_right}
 use Rattle.mp_board.specs.Boards.{Posted, ShowsFrontiers, exchanged, version_with}
 use Rattle.mp_refinement.specs.Ends.{PostMatchesLog, FollowsLog}
 use Rattle.mp_refinement.specs.Laws.{MailFollows, StepsMayBeAsked}
+use Rattle.mp_refinement.specs.Served.{IsAtHub, IsAtPost, PostFollows}
 use Rattle.mp_refinement.specs.Mail.{MailboxBlocks, MailboxAllows}
 use Rattle.mp_refinement.specs.State.{CanMake, Makes, WorkerState}
 use Rattle.mp_refinement.specs.SystemState.{Refines, SystemState, queues_denote}
@@ -24,10 +25,13 @@ use Rattle.mp_refinement.proofs.Asked.{may_be_asked}
 use Rattle.mp_refinement.proofs.Exchanges as exchanges
 use Rattle.mp_refinement.proofs.Steps as steps
 use Rattle.mp_worker.specs.declared.turn.Stop.{Stop}
+use Rattle.mp_worker.specs.declared.turn.Stop.TheVariants as stop
 use Rattle.mp_worker.specs.declared.turn.Turn.{Turn as Answered}
 use Rattle.mp_worker.specs.declared.turn.Turn.TheVariants as worker
-use Rattle.mp_worker.specs.Turns.{IfBusy, IfDid, IfHeld, IfNotMade, IfNotNow, IfSaw}
+use Rattle.mp_worker.specs.Exchanging.{Exchanges}
+use Rattle.mp_worker.specs.Turns.{Answers}
 use Rattle.mp_drive.specs.declared.stop.DriveStop.{DriveStop}
+use Rattle.mp_drive.proofs.Answered.{IfBusy, IfDid, IfHeld, IfNotMade, IfNotNow, IfSaw}
 use Rattle.mp_drive.specs.Driven.{AreAfter, AreReached, LeadsOn, turn_in}
 
 -- What a worker may be asked for where a run leads to the workers' state
@@ -48,14 +52,22 @@ module _ (o : Outline) (ok : OutlineIsSound o) (t : SystemState) (reached : AreR
   pub ends_are : PostMatchesLog (queues_denote o t.post) o s.number s.log
   ends_are = subst (λ (n : ℕ). PostMatchesLog (queues_denote o t.post) o n s.log) (sym number_is) (asked.ends w s was)
 
-  pub posted_is : LogGrows (log_at t.board.logs s.number) s.log
-  posted_is = subst (λ (n : ℕ). LogGrows (log_at t.board.logs n) s.log) (sym number_is) (asked.posted w s was)
+  pub at_post : IsAtPost {P = Queues Name} (λ p. p.workers) (λ p. p.depth) (λ p v. Unit {0}) (queues_denote o) o s.number s.log t.post
+  at_post = record { all_workers = reached.1.all_queues; served = tt; ends = ends_are }
+
+  pub at_hub : IsAtHub {H = Posted} (λ b v. v < o.workers) (λ b v. log_at b.logs v) (λ b. b.version) s t.board
+  at_hub = record {
+    served = number_fits;
+    has_posted = subst (λ (n : ℕ). log_at t.board.logs n ≡ s.posted) (sym number_is) (asked.posted w s was);
+    grows = asked.grows w s was;
+    later = asked.version w s was;
+  }
 
 -- What a worker with this number says of its step, on a board and on plain queues
 pub record Says (o : Outline) (kind : Kind) (board after : Posted) (post left : Queues Name) (s new : WorkerState) (r : Result Answered Stop) (w : ℕ) : Type 0 where
   pub did : IfDid r (λ x. Makes o kind s x new)
   pub mail : IfDid r (MailboxAllows (HadRoom post) o w kind)
-  pub saw : IfSaw r (λ version. (kind ≡ Exchange) × (new ≡ record s { seen = new.seen }) × (new.seen.version ≡ version) × (version ≡ s.seen.version → ⊥))
+  pub saw : IfSaw r (λ version. (kind ≡ Exchange) × (new ≡ record s { posted = s.log; seen = new.seen }) × (new.seen.version ≡ version) × (version ≡ s.seen.version → ⊥))
   pub shown : IfSaw r (λ _. (after ≡ exchanged board w s.log) × ((new.seen.version ≡ after.version) × ShowsFrontiers o after.logs new.seen))
   pub not_now : IfNotNow r ((x : Name) → CanMake o kind s x → MailboxBlocks (WasFull post) (WasEmpty post) o w kind x)
   pub same : IfNotNow r (kind ≡ Exchange → (after ≡ exchanged board w s.log) × ((seen : Seen) × ((seen.version ≡ after.version) × ShowsFrontiers o after.logs seen) × (seen.version ≡ s.seen.version)))
@@ -67,14 +79,102 @@ pub record Says (o : Outline) (kind : Kind) (board after : Posted) (post left : 
   pub others : (kind ≡ Exchange → ⊥) → after ≡ board
   pub kept : IfHeld r ((after ≡ board) ⊎ (after ≡ board))
 
+is_exchange : (kind : Kind) → (kind ≡ Exchange) ⊎ (kind ≡ Exchange → ⊥)
+is_exchange Exchange = inl refl
+is_exchange kind = inr (λ e. cc)
+
+-- A step's contract, over a board and plain queues
+
+module _ (o : Outline) (kind : Kind) (board after : Posted) (post left : Queues Name) (s new : WorkerState) where
+  -- what an exchange came to on a board
+  abbrev pub ExchangesOnBoard : Result Answered Stop → Type 0
+  ExchangesOnBoard r =
+      Exchanges {H = Posted} (λ b w log c. c ≡ exchanged b w log) (λ b c. c ≡ b) (λ b seen. (seen.version ≡ b.version) × ShowsFrontiers o b.logs seen)
+      (λ b. b.stopped ≡ None) (λ b cause. b.stopped ≡ Some cause) (λ b. ⊥) s new board after r
+
+  kept_by_exchange : (stop : Stop) → ExchangesOnBoard (Err stop) → after ≡ board
+  kept_by_exchange stop.Write says = absurd says
+  kept_by_exchange stop.Memory says = ⊎_elim (λ (e : after ≡ board). e) (λ h. h.1) says.1
+  kept_by_exchange (stop.Other cause) says = says.2
+
+  same_worker : (stop : Stop) → Answers (HadRoom post) (WasFull post) (WasEmpty post) o kind s new (Err stop) → new ≡ s
+  same_worker stop.Write says = says.1
+  same_worker stop.Memory says = says
+  same_worker (stop.Other cause) says = says.1
+
+  module _ (mail : PostFollows {P = Queues Name} (λ p. p.workers) (λ p. p.depth) (λ p v. Unit {0}) (queues_denote o) o s.number s.log new.log post left) (others : (kind ≡ Exchange → ⊥) → after ≡ board) where
+    kept_on_stop : (stop : Stop) → (kind ≡ Exchange → ExchangesOnBoard (Err stop)) → after ≡ board
+    kept_on_stop stop exchanges = ⊎_elim (λ (e : kind ≡ Exchange). kept_by_exchange stop (exchanges e)) others (is_exchange kind)
+
+    pub says : (r : Result Answered Stop) → Answers (HadRoom post) (WasFull post) (WasEmpty post) o kind s new r → (kind ≡ Exchange → ExchangesOnBoard r) → Says o kind board after post left s new r s.number
+    says (Ok (worker.Did x)) a exchanges = record {
+      did = a.0;
+      mail = a.1;
+      saw = tt;
+      shown = tt;
+      not_now = tt;
+      same = tt;
+      busy = tt;
+      unchanged = tt;
+      follows = mail.follows;
+      workers = mail.keeps.same_workers;
+      depth = mail.keeps.same_depth;
+      others = others;
+      kept = tt;
+    }
+    says (Ok (worker.Seen version)) a exchanges =
+        let e = exchanges a.0 in
+        record {
+          did = tt;
+          mail = tt;
+          saw = (a.0, a.1.after, a.1.version_is, a.1.is_new);
+          shown = (e.1.1, e.2);
+          not_now = tt;
+          same = tt;
+          busy = tt;
+          unchanged = tt;
+          follows = mail.follows;
+          workers = mail.keeps.same_workers;
+          depth = mail.keeps.same_depth;
+          others = others;
+          kept = tt;
+        }
+    says (Ok worker.NotNow) a exchanges = record {
+      did = tt;
+      mail = tt;
+      saw = tt;
+      shown = tt;
+      not_now = a.0;
+      same = λ is. ((exchanges is).2.1, (exchanges is).3);
+      busy = tt;
+      unchanged = a.1;
+      follows = mail.follows;
+      workers = mail.keeps.same_workers;
+      depth = mail.keeps.same_depth;
+      others = others;
+      kept = tt;
+    }
+    says (Ok worker.Busy) a exchanges = absurd (exchanges a.0).1
+    says (Err stop) a exchanges = record {
+      did = tt;
+      mail = tt;
+      saw = tt;
+      shown = tt;
+      not_now = tt;
+      same = tt;
+      busy = tt;
+      unchanged = same_worker stop a;
+      follows = mail.follows;
+      workers = mail.keeps.same_workers;
+      depth = mail.keeps.same_depth;
+      others = others;
+      kept = inl (kept_on_stop stop exchanges);
+    }
+
 -- the turn is handed on, and so is why there is none, under another name
 abbrev pub Passes : Result Answered Stop → Result Answered DriveStop → Type 0
 Passes (Ok turn) r = r ≡ Ok turn
 Passes (Err stop) r = (reason : DriveStop) × (r ≡ Err reason)
-
-is_exchange : (kind : Kind) → (kind ≡ Exchange) ⊎ (kind ≡ Exchange → ⊥)
-is_exchange Exchange = inl refl
-is_exchange kind = inr (λ e. cc)
 
 -- an exchange puts no name into the log
 names_none : (o : Outline) (kind : Kind) (s : WorkerState) (x : Name) → CanMake o kind s x → kind ≡ Exchange → ⊥

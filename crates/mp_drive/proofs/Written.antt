@@ -30,10 +30,11 @@ use Rattle.mp_answer_laws.proofs.Written.{others_write_nothing, parts_of_lines_b
 use Rattle.mp_worker.specs.declared.turn.Stop.{Stop}
 use Rattle.mp_worker.specs.declared.turn.Turn.{Turn as Answered}
 use Rattle.mp_worker.specs.declared.turn.Turn.TheVariants as worker
-use Rattle.mp_worker.specs.Turns.{IfDid, IfNotNow}
-use Rattle.mp_worker.specs.Writing.{WritesPart}
+use Rattle.mp_worker.specs.declared.turn.Stop.TheVariants as stop
+use Rattle.mp_worker.specs.Writing.{WritesInTurn, WritesPart}
 use Rattle.mp_drive.specs.declared.stop.DriveStop.{DriveStop}
 use Rattle.mp_drive.specs.Driven.{HasBegun, HasWritten, first_log}
+use Rattle.mp_drive.proofs.Answered.{IfDid, IfNotNow}
 use Rattle.mp_drive.proofs.Turned.{Passes, Says, left_with}
 
 is_write : (kind : Kind) → (kind ≡ Write) ⊎ (kind ≡ Write → ⊥)
@@ -42,11 +43,6 @@ is_write kind = inr (λ e. cc)
 
 exchange_no_write : (kind : Kind) → kind ≡ Exchange → kind ≡ Write → ⊥
 exchange_no_write kind e f = cc
-
--- what follows where the step couldn't be made
-pub if_not_now : (P Q : Type 0) → (P → Q) → (r : Result Answered Stop) → IfNotNow r P → IfNotNow r Q
-if_not_now P Q f (Ok worker.NotNow) h = f h
-if_not_now P Q f r h = tt
 
 slice_get-set_same : {X : Type 0} (xs : List X) (i : ℕ) (x y : X) → slice_get xs i ≡ Some y → slice_get (set xs i x) i ≡ Some x
 slice_get-set_same [] i x y e = absurd (cc)
@@ -92,6 +88,30 @@ module _ {Cell : Type 0} (q : QueryFacts Cell) (job : JobFacts) where
     pub lines : IfDid r (λ x. kind ≡ Write → now ≡ grown written (lines_of_time q job.events x))
     pub nothing : IfNotNow r (now ≡ written)
     pub part : OnErr r ((now ≡ written) ⊎ WritesPart q job s written now)
+
+  -- what a step's contract says of a sink
+  module _ {S : Type 0} (bytes : S → Option (List ℕ)) (faults : S → ℕ) (kind : Kind) (s : WorkerState) (old new : S) (others : (kind ≡ Write → ⊥) → new ≡ old) where
+    some_part : (k : Stop) → WritesInTurn q job bytes faults s old new (Err k) → (bytes new ≡ bytes old) ⊎ WritesPart q job s (bytes old) (bytes new)
+    some_part stop.Write says = says.0
+    some_part stop.Memory says = says.0
+    some_part (stop.Other cause) says = absurd says
+
+    pub says_of_sink : (r : Result Answered Stop) → (kind ≡ Write → WritesInTurn q job bytes faults s old new r) → Writes kind s (bytes old) (bytes new) r
+    says_of_sink (Ok (worker.Did x)) says = record { others = λ n. ap bytes (others n); lines = says; nothing = tt; part = tt }
+    says_of_sink (Ok worker.NotNow) says = record {
+      others = λ n. ap bytes (others n);
+      lines = tt;
+      nothing = ⊎_elim (λ (e : kind ≡ Write). ap bytes (says e)) (λ (n : kind ≡ Write → ⊥). ap bytes (others n)) (is_write kind);
+      part = tt;
+    }
+    says_of_sink (Ok (worker.Seen version)) says = record { others = λ n. ap bytes (others n); lines = tt; nothing = tt; part = tt }
+    says_of_sink (Ok worker.Busy) says = record { others = λ n. ap bytes (others n); lines = tt; nothing = tt; part = tt }
+    says_of_sink (Err k) says = record {
+      others = λ n. ap bytes (others n);
+      lines = tt;
+      nothing = tt;
+      part = ⊎_elim (λ (e : kind ≡ Write). some_part k (says e)) (λ (n : kind ≡ Write → ⊥). inl (ap bytes (others n))) (is_write kind);
+    }
 
   -- a written time adds its lines
   adds : (log : Log) (x : Name) → IsUnwritten log x → written_lines q job.events (with_settled log x) ≡ written_lines q job.events log ++ lines_of_time q job.events x

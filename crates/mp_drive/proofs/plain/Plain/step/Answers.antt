@@ -7,8 +7,8 @@ use Rattle.mp_outline.proofs.Soundness.{outline_is_sound}
 use Rattle.mp_refinement.specs.SystemState.{SystemState}
 use Rattle.mp_drive.specs.Driven.{HasWritten}
 use Rattle.mp_drive.specs.Kept.{together}
-use Rattle.mp_drive.proofs.Turned.{Passes, Says, ends_are, leads_nowhere_on_err, leads_on_if_ok, number_fits, number_is, placed, posted_is, same_cause, still_reached}
-use Rattle.mp_drive.proofs.Written.{Writes, begun_on_err, if_not_now, written_on_ok}
+use Rattle.mp_drive.proofs.Turned.{Passes, Says, at_hub, at_post, leads_nowhere_on_err, leads_on_if_ok, number_is, placed, same_cause, says, still_reached}
+use Rattle.mp_drive.proofs.Written.{Writes, begun_on_err, says_of_sink, written_on_ok}
 use Rattle.mp_drive.proofs.plain.Plain.step.Given as given
 use Rattle.mp_drive.proofs.plain.Plain.step.Goals as goal
 use Rattle.mp_drive.proofs.plain.Plain.step.Goals.{in-Ok, in-Err-Write, in-Err-Memory}
@@ -19,29 +19,21 @@ sound g legal =
     let job = g.J.Naming.job in
     outline_is_sound (g.Q.Query.facts job.rules) (laws.has_stages job.rules) (laws.posts_are_later job.rules) (laws.later_stages_post_nothing job.rules) job legal
 
-pub step-requires-clause-ends : goal.step-requires-clause-ends
-step-requires-clause-ends g c κs within =
+pub step-requires-clause-at_post : goal.step-requires-clause-at_post
+step-requires-clause-at_post g c κs within =
     let o = outline_of (g.Q.Query.facts g.J.Naming.job.rules) g.J.Naming.job in
     let kept = c.self.invariant in
     let t = together c.self.inside.workers.items c.self.inside.board c.self.inside.post in
     let s = c.index_mut-worker.result.now in
-    ends_are o (sound g kept.legal) t kept.reached c.args.worker s (placed o t kept.reached c.args.worker s c.requires.worker c.index_mut-worker.ensures.value)
+    at_post o (sound g kept.legal) t kept.reached c.args.worker s (placed o t kept.reached c.args.worker s c.requires.worker c.index_mut-worker.ensures.value)
 
-pub step-requires-clause-hub : goal.step-requires-clause-hub
-step-requires-clause-hub g c κs within =
+pub step-requires-clause-at_hub : goal.step-requires-clause-at_hub
+step-requires-clause-at_hub g c κs within =
     let o = outline_of (g.Q.Query.facts g.J.Naming.job.rules) g.J.Naming.job in
     let kept = c.self.invariant in
     let t = together c.self.inside.workers.items c.self.inside.board c.self.inside.post in
     let s = c.index_mut-worker.result.now in
-    number_fits o (sound g kept.legal) t kept.reached c.args.worker s (placed o t kept.reached c.args.worker s c.requires.worker c.index_mut-worker.ensures.value)
-
-pub step-requires-clause-posted : goal.step-requires-clause-posted
-step-requires-clause-posted g c κs within =
-    let o = outline_of (g.Q.Query.facts g.J.Naming.job.rules) g.J.Naming.job in
-    let kept = c.self.invariant in
-    let t = together c.self.inside.workers.items c.self.inside.board c.self.inside.post in
-    let s = c.index_mut-worker.result.now in
-    posted_is o (sound g kept.legal) t kept.reached c.args.worker s (placed o t kept.reached c.args.worker s c.requires.worker c.index_mut-worker.ensures.value)
+    at_hub o (sound g kept.legal) t kept.reached c.args.worker s (placed o t kept.reached c.args.worker s c.requires.worker c.index_mut-worker.ensures.value)
 
 was : (g : given.Over) (c : goal.Joined-step g) → slice_get c.self.inside.workers.items c.args.worker ≡ Some c.index_mut-worker.result.now
 was g c =
@@ -53,32 +45,14 @@ told : (g : given.Over) (c : goal.Joined-step g) → let o = outline_of (g.Q.Que
     Says o c.args.kind c.self.inside.board c.step.new.hub c.self.inside.post c.step.new.post s c.step.new.self c.step.result s.number
 told g c =
     let e = c.step.ensures in
-    record {
-      did = e.did;
-      mail = e.mail;
-      saw = e.saw;
-      shown = e.shown;
-      not_now = e.not_now;
-      same = e.same;
-      busy = e.busy;
-      unchanged = e.unchanged;
-      follows = e.ends;
-      workers = e.same_workers;
-      depth = e.same_depth;
-      others = e.others_post_nothing;
-      kept = e.kept;
-    }
+    let o = outline_of (g.Q.Query.facts g.J.Naming.job.rules) g.J.Naming.job in
+    says o c.args.kind c.self.inside.board c.step.new.hub c.self.inside.post c.step.new.post c.index_mut-worker.result.now c.step.new.self e.mail e.others_post_nothing c.step.result e.answers e.exchanges
 
 writes : (g : given.Over) (c : goal.Joined-step g) → let job = g.J.Naming.job in
     Writes (g.Q.Query.facts job.rules) job c.args.kind c.index_mut-worker.result.now (g.S.Sink.written c.args.sink.now) (g.S.Sink.written c.step.new.sink) c.step.result
 writes g c =
     let e = c.step.ensures in
-    record {
-      others = λ n. ap g.S.Sink.written (e.others_write_nothing n);
-      lines = e.lines;
-      nothing = if_not_now (c.step.new.sink ≡ c.args.sink.now) (g.S.Sink.written c.step.new.sink ≡ g.S.Sink.written c.args.sink.now) (λ same. ap g.S.Sink.written same) c.step.result e.nothing_written;
-      part = e.part;
-    }
+    says_of_sink (g.Q.Query.facts g.J.Naming.job.rules) g.J.Naming.job g.S.Sink.written g.S.Sink.faults c.args.kind c.index_mut-worker.result.now c.args.sink.now c.step.new.sink e.others_write_nothing c.step.result e.writes
 
 passes : (g : given.Over) (c : goal.Joined-step g) → Passes c.step.result c.match-step.result
 passes g c =
