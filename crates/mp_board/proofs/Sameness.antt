@@ -1,10 +1,12 @@
--- Names that have grown from others are the same where there are no more of them.
-use Rattle.std.proofs.Common.{◌≡◌, ◌&&◌, nat_eq, Bool, true, false, List, [], ◌∷◌, ◌++◌, length, length-append, refl, sym, ap, ◌∙◌, arith, append-nil}
-use Rattle.std.proofs.lemmas.Bool.{false≢true, eqb-true, eq-eqb}
+-- Names that have grown from others are the same where there are no more of them, and a board's version rises where a log is another.
+use Rattle.std.proofs.Common.{◌≡◌, ◌&&◌, ◌⊎◌, ◌<◌, ℕ, suc, cond, inl, inr, ⊎_elim, nat_eq, Bool, true, false, List, [], ◌∷◌, ◌++◌, length, length-append, refl, sym, ap, ◌∙◌, arith, append-nil}
+use Rattle.std.proofs.lemmas.Bool.{cases_Bool, cond-false, false≢true, eqb-true, eq-eqb}
 use Rattle.mp_names.specs.declared.names.Name.{Name}
 use Rattle.mp_names.specs.Names.{IsPrefix, same_name}
 use Rattle.mp_names.proofs.Lists.{same_name-refl}
-use Rattle.mp_machine.specs.Steps.{same_names}
+use Rattle.mp_names.specs.Logs.{Log}
+use Rattle.mp_machine.specs.Steps.{same_log, same_names}
+use Rattle.mp_machine.proofs.Turns.{same_log_is}
 
 same_names-refl : (xs : List Name) → same_names xs xs ≡ true
 same_names-refl [] = refl
@@ -37,3 +39,11 @@ no_more xs ys p = pick (nat_eq (length ys) (length xs)) refl (same_names ys xs) 
         let h : same_names xs xs ≡ false = rw g at f in
         sym (sym h ∙ same_names-refl xs)
     pick false e true f = sym e ∙ eq-eqb (length ys) (length xs) (same_length ys xs f)
+
+-- the log that stood there is the same, or the version is later
+pub rises : (old log : Log) (version next : ℕ) → next ≡ cond (same_log log old) version (suc version) → (old ≡ log) ⊎ (version < next)
+rises old log version next is =
+    ⊎_elim
+    (λ (e : same_log log old ≡ true). inl (sym (same_log_is log old e)))
+    (λ (e : same_log log old ≡ false). let later : next ≡ suc version = is ∙ cond-false (same_log log old) version (suc version) e in inr (omega arith))
+    (cases_Bool (same_log log old))

@@ -1,5 +1,5 @@
 //! The files that a command reads.
-ghost use Rattle.std.specs.Prelude.{◌≡◌, ◌≤◌, false, List, ℕ, IfOk, IfErr};
+ghost use Rattle.std.specs.Prelude.{◌≡◌, ◌<◌, ◌≤◌, false, List, ℕ, IfOk, IfErr};
 ghost use Rattle.mp_job.specs.Legal.{ControlsFit};
 ghost use Rattle.mp_model.specs.Legal.{EventsAreLegal};
 ghost use Rattle.mp_outside.specs.Fault.{Rose};
@@ -42,7 +42,7 @@ pub fn events_in<'a, D: Depot>(
     }
 }
 
-/// The control records of the configuration of this name, for a job of this shape. `NoFile`, `ReadFault`,
+/// The control records of the configuration of this name, for a job of this shape, which has a worker and a bin. `NoFile`, `ReadFault`,
 /// `TooLarge` and `NoMemory`: the file can't be read; `ConfigRefused`: its first bad line.
 pub fn controls_in<'a, D: Depot>(
     alloc: Global,
@@ -50,6 +50,8 @@ pub fn controls_in<'a, D: Depot>(
     name: &'a str,
     shape: &Shape,
 ) -> Result<Vec<Control>, Refusal<'a>>
+    requires workers { 0 < shape.now.workers }
+    requires bins { 0 < shape.now.bins }
     ensures config { IfOk result (λ v. ReadsConfig (D.files depot.old) name.now shape.now v.items) }
     ensures legal { IfOk result (λ v. ControlsFit shape.now v.items) }
     ensures refused { IfErr result (λ r.

@@ -1,15 +1,13 @@
 -- The control records of a configuration.
-use Rattle.std.specs.Prelude.{ℕ, ◌+◌, ◌++◌, ◌==◌, Bool, Option, Some, None, Result, List, [], ◌∷◌, drop, length, map, nat_le}
+use Rattle.std.specs.Prelude.{ℕ, ◌+◌, ◌++◌, Bool, Option, Some, None, Result, List, [], ◌∷◌, drop, length, map, nat_le}
 use Rattle.std.specs.List.{list_all}
 use Rattle.mp_control.specs.declared.kinds.LineKind.{LineKind}
 use Rattle.mp_control.specs.declared.refused.ControlReason.{ControlReason}
-use Rattle.mp_control.specs.declared.refused.ControlReason.TheVariants.{Kind, Fields, Range, Count}
-use Rattle.mp_control.specs.Kinds.{kind_of, limits_of, records_by}
-use Rattle.mp_control.specs.Reasons.{reason_of}
+use Rattle.mp_control.specs.declared.refused.ControlReason.TheVariants.{Kind, Range, Count}
+use Rattle.mp_control.specs.Kinds.{failures_within, kind_of, limits_of, line_of, records_on_line}
 use Rattle.mp_names.specs.Limits.{greatest_time, most_controls}
-use Rattle.mp_lines.specs.Checks.{check, failures_of_fields, field_at}
+use Rattle.mp_lines.specs.Checks.{check, field_at}
 use Rattle.mp_lines.specs.Files.{file_of}
-use Rattle.mp_lines.specs.Limits.{failures_of_number}
 use Rattle.mp_lines.specs.Rules.{LineRules}
 use Rattle.mp_names.specs.declared.controls.Control.{Control}
 use Rattle.mp_names.specs.declared.controls.Shape.{Shape}
@@ -23,24 +21,28 @@ numbers_in fields = map value_of (drop 1 fields)
 abbrev pub is_in_time : Control → Bool
 is_in_time control = nat_le control.time greatest_time
 
--- the checks that a line of this kind fails, in their order, where so many control records stand before it
+-- the control records that a line of this kind says
+abbrev pub records_of_kind : Shape → Option LineKind → List (List ℕ) → List Control
+records_of_kind shape None fields = []
+records_of_kind shape (Some kind) fields = records_on_line shape (line_of kind (numbers_in fields))
+
+-- the checks that a line of this kind fails, in their order, but for that of how many records there are: its fields, and that
+-- none of its records is too late
+abbrev pub failures_but_count : Shape → Option LineKind → List (List ℕ) → List ControlReason
+failures_but_count shape None fields = Kind ∷ []
+failures_but_count shape (Some kind) fields =
+    failures_within (limits_of shape kind) fields
+    ++ check (list_all is_in_time (records_on_line shape (line_of kind (numbers_in fields)))) Range
+
+-- the checks that a line of this kind fails, where so many control records stand before it
 abbrev pub failures_of_kind : Shape → ℕ → Option LineKind → List (List ℕ) → List ControlReason
-failures_of_kind shape before None fields = Kind ∷ []
-failures_of_kind shape before (Some kind) fields =
-    let records = records_by shape kind (numbers_in fields) in
-    check (length fields == length (limits_of shape kind) + 1) Fields
-    ++ map reason_of (failures_of_fields failures_of_number (limits_of shape kind) (drop 1 fields))
-    ++ check (list_all is_in_time records) Range
-    ++ check (nat_le (before + length records) most_controls) Count
+failures_of_kind shape before kind fields =
+    failures_but_count shape kind fields
+    ++ check (nat_le (before + length (records_of_kind shape kind fields)) most_controls) Count
 
 -- the checks that a line's fields fail
 abbrev pub failures_of : Shape → ℕ → List (List ℕ) → List ControlReason
 failures_of shape before fields = failures_of_kind shape before (kind_of (field_at fields 0)) fields
-
--- the control records that a line of this kind says
-abbrev pub records_of_kind : Shape → Option LineKind → List (List ℕ) → List Control
-records_of_kind shape None fields = []
-records_of_kind shape (Some kind) fields = records_by shape kind (numbers_in fields)
 
 -- the control records that a line's fields say
 abbrev pub records_on : Shape → List (List ℕ) → List Control

@@ -1,5 +1,5 @@
 //! The control records of a whole file.
-ghost use Rattle.std.specs.Prelude.{◌≡◌, Ok, Err, IfOk, IfErr};
+ghost use Rattle.std.specs.Prelude.{◌≡◌, ◌<◌, Ok, Err, IfOk, IfErr};
 ghost use Rattle.mp_control.specs.Controls.{controls_of};
 ghost use Rattle.mp_job.specs.Legal.{ControlsFit};
 ghost use Rattle.mp_lines.specs.Refusals.{IfBadLine};
@@ -12,7 +12,8 @@ use mp_text::FieldList;
 use std::alloc::Global;
 
 /// The control records of a configuration file for a job of this shape, in file order: those of each line that isn't
-/// blank. A record's place in the list is its index. Times may come in any order.
+/// blank. A record's place in the list is its index. Times may come in any order. The shape has a worker and a
+/// bin at least.
 ///
 /// `BadLine` comes exactly where a line fails a check, with the number of the first such line and the first check that
 /// it fails. `NoMemory` is an allocation failure alone.
@@ -21,6 +22,8 @@ pub fn read_control(
     text: &[u8],
     shape: &Shape,
 ) -> Result<Vec<Control>, ControlRefused>
+    requires workers { 0 < shape.now.workers }
+    requires bins { 0 < shape.now.bins }
     ensures controls { IfOk result (λ controls. controls_of text.now shape.now ≡ Ok controls.items) }
     ensures legal { IfOk result (λ controls. ControlsFit shape.now controls.items) }
 
@@ -34,6 +37,8 @@ pub fn read_control(
 #[derive(Drop)]
 struct ControlReader {
     shape: Shape,
+    ghost some_worker: { 0 < shape.workers },
+    ghost some_bin: { 0 < shape.bins },
 }
 
 impl LineReader for ControlReader {
@@ -51,12 +56,7 @@ impl LineReader for ControlReader {
         fields: &FieldList,
         controls: &mut Vec<Control>,
     ) -> Result<(), LineRefused<ControlReason>> {
-        match read_line(self.shape, fields, controls.len()) {
-            Ok(line) => {
-                controls.push(line.control())?;
-                Ok(())
-            }
-            Err(why) => Err(LineRefused::Bad(why)),
-        }
+        let line = read_line(self.shape, fields).map_err(LineRefused::Bad)?;
+        line.append(self.shape, controls)
     }
 }

@@ -10,15 +10,15 @@ use std::fmt;
 /// its fields, which go from left to right. All of them are this project's profile.
 #[derive(Clone, Copy, PartialEq, Eq, Debug)]
 pub enum ControlReason {
-    /// The first field isn't `M`.
+    /// The first field isn't `M`, `all`, `fluid` or `batch`.
     Kind,
     /// The line has more or fewer fields than its kind.
     Fields,
     /// A field is empty or has a byte that is no digit.
     Number,
-    /// A number isn't within its limit.
+    /// A number isn't within its limit, or the last time of a plan is above 2^47.
     Range,
-    /// As many control records as a file may say stand before the line.
+    /// With the records of the line there would be more than a file may say.
     Count,
 }
 

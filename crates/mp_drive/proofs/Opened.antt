@@ -25,11 +25,12 @@ push_all P (z ∷ xs) x h here zero y e = h zero y e
 push_all P (z ∷ xs) x h here (suc i) y e = push_all (λ n. P (suc n)) xs x (λ j a f. h (suc j) a f) here i y e
 
 -- a worker that has done nothing, by its parts
-pub is_new : (o : Outline) (w : ℕ) (s : WorkerState) (seen : Seen) → s.number ≡ w → s.log ≡ empty_log → s.seen ≡ seen → seen.version ≡ 0 → ShowsFrontiers o (replicate o.workers empty_log) seen → IsNewWorker o w s
-is_new o w s seen number log saw version shows =
+pub is_new : (o : Outline) (w : ℕ) (s : WorkerState) (seen : Seen) → s.number ≡ w → s.log ≡ empty_log → s.posted ≡ empty_log → s.seen ≡ seen → seen.version ≡ 0 → ShowsFrontiers o (replicate o.workers empty_log) seen → IsNewWorker o w s
+is_new o w s seen number log posted saw version shows =
     record {
       number = number;
       log = log;
+      posted = posted;
       version = ap (λ (x : Seen). x.version) saw ∙ version;
       seen = subst (ShowsFrontiers o (replicate o.workers empty_log)) (sym saw) shows;
     }

@@ -1,5 +1,5 @@
 -- What a worker says of its step leads the workers on by one turn of the machine, or leaves them where they are.
-use Rattle.std.proofs.Common.{◌≡◌, ◌⊎◌, ℕ, ◌<◌, List, [], ◌∷◌, ◌++◌, Some, Ok, Err, get_or, length, refl, sym, ap, ◌∙◌, subst, inl, inr, ⊎_elim, append-nil, arith}
+use Rattle.std.proofs.Common.{◌≡◌, ◌⊎◌, ℕ, ◌<◌, ◌≤◌, List, [], ◌∷◌, ◌++◌, Some, Ok, Err, get_or, length, refl, sym, ap, ◌∙◌, subst, inl, inr, ⊎_elim, append-nil, arith}
 use Rattle.std.specs.Prelude.{IfOk, OnErr, slice_get, slice_set}
 use Rattle.std.specs.declared.result.Result.{Result}
 use Rattle.std.proofs.lemmas.Option.{slice_get_read}
@@ -8,14 +8,16 @@ use Rattle.mp_names.specs.declared.kinds.Kind.TheVariants.{Exchange}
 use Rattle.mp_names.specs.declared.names.Name.{Name}
 use Rattle.mp_names.specs.Outlines.{Outline, OutlineIsSound}
 use Rattle.mp_names.specs.Frontiers.{log_at}
-use Rattle.mp_names.specs.Logs.{Log, LogGrows}
+use Rattle.mp_names.specs.Logs.{Log}
 use Rattle.mp_stamps.specs.declared.seen.Seen.{Seen}
 use Rattle.mp_mailbox.specs.Queues.{HadRoom, Queues, WasEmpty, WasFull}
 use Rattle.mp_machine.specs.Worlds.{World, start_of_machine}
 use Rattle.mp_machine.specs.Runs.{Did, NotNow, Saw, Turn, after_turn, run_of_machine, step_of_machine, turn_of_machine}
-use Rattle.mp_machine.proofs.Worlds.{after_more, run_right}
+use Rattle.mp_machine.proofs.Turns.{not_now_from}
+use Rattle.mp_machine.proofs.Worlds.{after_more, exchange_place, run_right}
 use Rattle.mp_board.specs.Boards.{Posted, ShowsFrontiers, exchanged, version_with}
 use Rattle.mp_refinement.specs.Ends.{PostMatchesLog, FollowsLog}
+use Rattle.mp_refinement.specs.Served.{IsAtHub, IsAtPost}
 use Rattle.mp_refinement.specs.Laws.{MailFollows, StepsMayBeAsked}
 use Rattle.mp_refinement.specs.Mail.{MailboxBlocks, MailboxAllows}
 use Rattle.mp_refinement.specs.State.{CanMake, Makes, WorkerState}
@@ -26,14 +28,14 @@ use Rattle.mp_refinement.proofs.Steps as steps
 use Rattle.mp_worker.specs.declared.turn.Stop.{Stop}
 use Rattle.mp_worker.specs.declared.turn.Turn.{Turn as Answered}
 use Rattle.mp_worker.specs.declared.turn.Turn.TheVariants as worker
-use Rattle.mp_worker.specs.Turns.{IfBusy, IfDid, IfHeld, IfNotMade, IfNotNow, IfSaw}
 use Rattle.mp_drive.specs.declared.stop.DriveStop.{DriveStop}
 use Rattle.mp_drive.specs.Driven.{AreAfter, AreReached, LeadsOn, turn_in}
+use Rattle.mp_drive.proofs.Told.{Says, is_exchange}
 
 -- What a worker may be asked for where a run leads to the workers' state
 
-pub placed : (o : Outline) (t : SystemState) → AreReached o t → (w : ℕ) (s : WorkerState) → w < o.workers → s ≡ get_or t.workers w s → slice_get t.workers w ≡ Some s
-placed o t reached w s l e = let all = reached.1.all_workers in slice_get_read t.workers (length t.workers) w s refl (omega arith) e
+pub placed : (t : SystemState) (w : ℕ) (s : WorkerState) → w < length t.workers → s ≡ get_or t.workers w s → slice_get t.workers w ≡ Some s
+placed t w s l e = slice_get_read t.workers (length t.workers) w s refl l e
 
 module _ (o : Outline) (ok : OutlineIsSound o) (t : SystemState) (reached : AreReached o t) (w : ℕ) (s : WorkerState) (was : slice_get t.workers w ≡ Some s) where
   asked : StepsMayBeAsked o t
@@ -42,39 +44,27 @@ module _ (o : Outline) (ok : OutlineIsSound o) (t : SystemState) (reached : AreR
   pub number_is : s.number ≡ w
   number_is = (asked.fits w s was).1
 
-  pub number_fits : s.number < o.workers
+  number_fits : s.number < o.workers
   number_fits = let fits = asked.fits w s was in omega arith
 
-  pub ends_are : PostMatchesLog (queues_denote o t.post) o s.number s.log
+  ends_are : PostMatchesLog (queues_denote o t.post) o s.number s.log
   ends_are = subst (λ (n : ℕ). PostMatchesLog (queues_denote o t.post) o n s.log) (sym number_is) (asked.ends w s was)
 
-  pub posted_is : LogGrows (log_at t.board.logs s.number) s.log
-  posted_is = subst (λ (n : ℕ). LogGrows (log_at t.board.logs n) s.log) (sym number_is) (asked.posted w s was)
+  pub at_post : IsAtPost (λ q. q.workers) (λ q. q.depth) (λ _ w. Unit {0}) (queues_denote o) o s.number s.log t.post
+  at_post = record { all_workers = reached.1.all_queues; served = tt; ends = ends_are }
 
--- What a worker with this number says of its step, on a board and on plain queues
-pub record Says (o : Outline) (kind : Kind) (board after : Posted) (post left : Queues Name) (s new : WorkerState) (r : Result Answered Stop) (w : ℕ) : Type 0 where
-  pub did : IfDid r (λ x. Makes o kind s x new)
-  pub mail : IfDid r (MailboxAllows (HadRoom post) o w kind)
-  pub saw : IfSaw r (λ version. (kind ≡ Exchange) × (new ≡ record s { seen = new.seen }) × (new.seen.version ≡ version) × (version ≡ s.seen.version → ⊥))
-  pub shown : IfSaw r (λ _. (after ≡ exchanged board w s.log) × ((new.seen.version ≡ after.version) × ShowsFrontiers o after.logs new.seen))
-  pub not_now : IfNotNow r ((x : Name) → CanMake o kind s x → MailboxBlocks (WasFull post) (WasEmpty post) o w kind x)
-  pub same : IfNotNow r (kind ≡ Exchange → (after ≡ exchanged board w s.log) × ((seen : Seen) × ((seen.version ≡ after.version) × ShowsFrontiers o after.logs seen) × (seen.version ≡ s.seen.version)))
-  pub busy : IfBusy r ((kind ≡ Exchange) × ⊥)
-  pub unchanged : IfNotMade r (new ≡ s)
-  pub follows : FollowsLog (queues_denote o post) (queues_denote o left) o w s.log new.log
-  pub workers : left.workers ≡ post.workers
-  pub depth : left.depth ≡ post.depth
-  pub others : (kind ≡ Exchange → ⊥) → after ≡ board
-  pub kept : IfHeld r ((after ≡ board) ⊎ (after ≡ board))
+  pub at_hub : IsAtHub (λ _ v. v < o.workers) (λ b v. log_at b.logs v) (λ b. b.version) s t.board
+  at_hub = record {
+    served = number_fits;
+    has_posted = subst (λ (n : ℕ). log_at t.board.logs n ≡ s.posted) (sym number_is) (asked.posted w s was);
+    grows = asked.grows w s was;
+    later = asked.version w s was;
+  }
 
 -- the turn is handed on, and so is why there is none, under another name
 abbrev pub Passes : Result Answered Stop → Result Answered DriveStop → Type 0
 Passes (Ok turn) r = r ≡ Ok turn
 Passes (Err stop) r = (reason : DriveStop) × (r ≡ Err reason)
-
-is_exchange : (kind : Kind) → (kind ≡ Exchange) ⊎ (kind ≡ Exchange → ⊥)
-is_exchange Exchange = inl refl
-is_exchange kind = inr (λ e. cc)
 
 -- an exchange puts no name into the log
 names_none : (o : Outline) (kind : Kind) (s : WorkerState) (x : Name) → CanMake o kind s x → kind ≡ Exchange → ⊥
@@ -114,6 +104,22 @@ module _ (o : Outline) (t : SystemState) where
 still : (o : Outline) (depth : ℕ) (world : World) (w : ℕ) (kind : Kind) → turn_of_machine o depth world w kind ≡ NotNow → world ≡ step_of_machine o depth world w kind
 unfolding step_of_machine
 still o depth world w kind e = sym (ap (after_turn o world w kind) e)
+
+outside_not_now : (o : Outline) (depth : ℕ) (world : World) (w : ℕ) (kind : Kind) → OutlineIsSound o → o.workers ≤ w → turn_of_machine o depth world w kind ≡ NotNow
+unfolding turn_of_machine
+outside_not_now o depth world w kind ok past =
+    not_now_from o depth world w ok kind (λ x can. let l = can.0.0 in absurd (omega arith)) (λ can. let l = exchange_place o world w kind can in absurd (omega arith))
+
+-- of a worker that the outline hasn't, no step is made
+pub leads_on_outside : (o : Outline) (ok : OutlineIsSound o) (t : SystemState) (w : ℕ) (kind : Kind) → AreReached o t → length t.workers ≤ w → LeadsOn o ((w, kind) ∷ []) (NotNow ∷ []) t t
+leads_on_outside o ok t w kind reached l =
+    let all = reached.1.all_workers in
+    let past : o.workers ≤ w = omega arith in
+    goes_on o t w kind NotNow t refl
+    (λ before are.
+    let world = run_of_machine o t.post.depth before in
+    let turn = outside_not_now o t.post.depth world w kind ok past in
+    (turn, subst (Refines o t.post.depth t) (still o t.post.depth world w kind turn) are))
 
 module _ (o : Outline) (ok : OutlineIsSound o) (t : SystemState) (w : ℕ) (kind : Kind) (s new : WorkerState) (after : Posted) (left : Queues Name) (was : slice_get t.workers w ≡ Some s) where
   abbrev Told : Result Answered Stop → ℕ → Type 0
@@ -184,7 +190,7 @@ module _ (o : Outline) (ok : OutlineIsSound o) (t : SystemState) (w : ℕ) (kind
     turn (worker.Did x) says = did_turn x says
     turn (worker.Seen version) says = saw_turn version says
     turn worker.NotNow says = not_now_turn says
-    turn worker.Busy says = absurd says.busy.1
+    turn worker.Busy says = absurd says.busy
 
   -- its number is that of its place
   of_place : (r : Result Answered Stop) → Told r s.number → (depth : ℕ) (world : World) → Refines o depth t world → Told r w
@@ -197,10 +203,9 @@ module _ (o : Outline) (ok : OutlineIsSound o) (t : SystemState) (w : ℕ) (kind
 
   leads_nowhere : (stop : Stop) → Told (Err stop) s.number → LeadsOn o [] [] t next
   leads_nowhere stop says =
-      let board : after ≡ t.board = ⊎_elim (λ (e : after ≡ t.board). e) (λ (e : after ≡ t.board). e) says.kept in
       stays o t next says.depth
       (λ before are.
-      unmoved (Err stop) (of_place (Err stop) says t.post.depth (run_of_machine o t.post.depth before) are) says.unchanged board t.post.depth before are)
+      unmoved (Err stop) (of_place (Err stop) says t.post.depth (run_of_machine o t.post.depth before) are) says.unchanged says.kept t.post.depth before are)
 
   -- no worker is told to stop
   pub same_cause : (r : Result Answered Stop) → Told r s.number → after.stopped ≡ t.board.stopped
@@ -211,8 +216,8 @@ module _ (o : Outline) (ok : OutlineIsSound o) (t : SystemState) (w : ℕ) (kind
       (λ (e : kind ≡ Exchange). ap (λ (b : Posted). b.stopped) (says.same e).0)
       (λ (n : kind ≡ Exchange → ⊥). ap (λ (b : Posted). b.stopped) (says.others n))
       (is_exchange kind)
-  same_cause (Ok worker.Busy) says = absurd says.busy.1
-  same_cause (Err stop) says = ap (λ (b : Posted). b.stopped) (⊎_elim (λ (e : after ≡ t.board). e) (λ (e : after ≡ t.board). e) says.kept)
+  same_cause (Ok worker.Busy) says = absurd says.busy
+  same_cause (Err stop) says = ap (λ (b : Posted). b.stopped) says.kept
 
   -- the same of what is handed on
 
@@ -223,6 +228,16 @@ module _ (o : Outline) (ok : OutlineIsSound o) (t : SystemState) (w : ℕ) (kind
   pub leads_nowhere_on_err : (r : Result Answered Stop) (given : Result Answered DriveStop) → Passes r given → Told r s.number → OnErr given (LeadsOn o [] [] t next)
   leads_nowhere_on_err (Ok turn) given is says = subst (λ (g : Result Answered DriveStop). OnErr g (LeadsOn o [] [] t next)) (sym is) tt
   leads_nowhere_on_err (Err stop) given is says = subst (λ (g : Result Answered DriveStop). OnErr g (LeadsOn o [] [] t next)) (sym is.1) (leads_nowhere stop says)
+
+  pub not_busy_if_ok : (r : Result Answered Stop) (given : Result Answered DriveStop) → Passes r given → Told r s.number → IfOk given (λ turn. turn ≡ worker.Busy → ⊥)
+  not_busy_if_ok (Ok turn) given is says = subst (λ (g : Result Answered DriveStop). IfOk g (λ turn. turn ≡ worker.Busy → ⊥)) (sym is) (not_busy turn says)
+    where
+      not_busy : (turn : Answered) → Told (Ok turn) s.number → turn ≡ worker.Busy → ⊥
+      not_busy worker.Busy says e = absurd says.busy
+      not_busy (worker.Did x) says e = cc
+      not_busy (worker.Seen version) says e = cc
+      not_busy worker.NotNow says e = cc
+  not_busy_if_ok (Err stop) given is says = subst (λ (g : Result Answered DriveStop). IfOk g (λ turn. turn ≡ worker.Busy → ⊥)) (sym is.1) tt
 
   -- a run leads to where the workers are then
   pub still_reached : (r : Result Answered Stop) → Told r s.number → AreReached o t → AreReached o next

@@ -26,27 +26,15 @@ use Rattle.mp_refinement.specs.SystemState.{Refines, SystemState, with_worker}
 use Rattle.mp_refinement.proofs.Asked.{may_be_asked}
 use Rattle.mp_refinement.proofs.Steps as steps
 use Rattle.mp_answer_laws.specs.Lines.{lines_of_time, written_lines}
-use Rattle.mp_answer_laws.proofs.Written.{others_write_nothing, parts_of_lines_begin, writing_adds_lines, written_lines_begin}
+use Rattle.mp_answer_laws.proofs.Written.{others_write_nothing, parts_of_lines_begin, writing_adds_lines}
 use Rattle.mp_worker.specs.declared.turn.Stop.{Stop}
 use Rattle.mp_worker.specs.declared.turn.Turn.{Turn as Answered}
 use Rattle.mp_worker.specs.declared.turn.Turn.TheVariants as worker
-use Rattle.mp_worker.specs.Turns.{IfDid, IfNotNow}
 use Rattle.mp_worker.specs.Writing.{WritesPart}
 use Rattle.mp_drive.specs.declared.stop.DriveStop.{DriveStop}
-use Rattle.mp_drive.specs.Driven.{HasBegun, HasWritten, first_log}
-use Rattle.mp_drive.proofs.Turned.{Passes, Says, left_with}
-
-is_write : (kind : Kind) → (kind ≡ Write) ⊎ (kind ≡ Write → ⊥)
-is_write Write = inl refl
-is_write kind = inr (λ e. cc)
-
-exchange_no_write : (kind : Kind) → kind ≡ Exchange → kind ≡ Write → ⊥
-exchange_no_write kind e f = cc
-
--- what follows where the step couldn't be made
-pub if_not_now : (P Q : Type 0) → (P → Q) → (r : Result Answered Stop) → IfNotNow r P → IfNotNow r Q
-if_not_now P Q f (Ok worker.NotNow) h = f h
-if_not_now P Q f r h = tt
+use Rattle.mp_drive.specs.Driven.{HasKept, HasWritten, first_log}
+use Rattle.mp_drive.proofs.Told.{IfNotMade, Says, Writes, exchange_no_write, is_write}
+use Rattle.mp_drive.proofs.Turned.{Passes, left_with}
 
 slice_get-set_same : {X : Type 0} (xs : List X) (i : ℕ) (x y : X) → slice_get xs i ≡ Some y → slice_get (set xs i x) i ≡ Some x
 slice_get-set_same [] i x y e = absurd (cc)
@@ -86,13 +74,6 @@ module _ (o : Outline) (ok : OutlineIsSound o) (t : SystemState) (depth : ℕ) (
       asked.legal 0 new (slice_get-set_same t.workers 0 new s was)
 
 module _ {Cell : Type 0} (q : QueryFacts Cell) (job : JobFacts) where
-  -- What a worker's step says of the bytes of a sink
-  pub record Writes (kind : Kind) (s : WorkerState) (written now : Option (List ℕ)) (r : Result Answered Stop) : Type 0 where
-    pub others : (kind ≡ Write → ⊥) → now ≡ written
-    pub lines : IfDid r (λ x. kind ≡ Write → now ≡ grown written (lines_of_time q job.events x))
-    pub nothing : IfNotNow r (now ≡ written)
-    pub part : OnErr r ((now ≡ written) ⊎ WritesPart q job s written now)
-
   -- a written time adds its lines
   adds : (log : Log) (x : Name) → IsUnwritten log x → written_lines q job.events (with_settled log x) ≡ written_lines q job.events log ++ lines_of_time q job.events x
   adds log (Written t) h = writing_adds_lines q job log t
@@ -128,7 +109,7 @@ module _ {Cell : Type 0} (q : QueryFacts Cell) (job : JobFacts) where
         ap (λ (r : Option WorkerState). lines (log_of r) ++ lines_of_time q job.events x) first ∙ sym (adds s.log x unwritten) ∙ ap lines (sym log) ∙ ap lines (sym here) in
         grew ∙ ap (λ (b : Option (List ℕ)). grown b (lines_of_time q job.events x)) has ∙ grown-grown before (lines (first_log t)) (lines_of_time q job.events x) ∙ ap (grown before) more
 
-    did : (x : Name) → Makes o kind s x new → Writes kind s written now (Ok (worker.Did x)) → HasWritten q job.events before next now
+    did : (x : Name) → Makes o kind s x new → Writes q job kind s written now (Ok (worker.Did x)) → HasWritten q job.events before next now
     did x makes says =
         let log : new.log ≡ logged kind s.log x = ap (λ (n : WorkerState). n.log) makes.after in
         ⊎_elim
@@ -139,24 +120,25 @@ module _ {Cell : Type 0} (q : QueryFacts Cell) (job : JobFacts) where
         (is_write kind)
 
     module _ (board : Posted) (post : Queues Name) where
-      written_on : (turn : Answered) → Says o kind board after post left s new (Ok turn) s.number → Writes kind s written now (Ok turn) → HasWritten q job.events before next now
+      written_on : (turn : Answered) → Says o kind board after post left s new (Ok turn) s.number → Writes q job kind s written now (Ok turn) → HasWritten q job.events before next now
       written_on (worker.Did x) told says = did x told.did says
       written_on (worker.Seen version) told says =
           silent (says.others (exchange_no_write kind told.saw.0)) (ap (λ (n : WorkerState). lines n.log) told.saw.1)
       written_on worker.NotNow told says = silent says.nothing (ap (λ (n : WorkerState). lines n.log) told.unchanged)
-      written_on worker.Busy told says = absurd told.busy.1
+      written_on worker.Busy told says = absurd told.busy
 
-      pub written_on_ok : (r : Result Answered Stop) (given : Result Answered DriveStop) → Passes r given → Says o kind board after post left s new r s.number → Writes kind s written now r → OnOk given (HasWritten q job.events before next now)
+      pub written_on_ok : (r : Result Answered Stop) (given : Result Answered DriveStop) → Passes r given → Says o kind board after post left s new r s.number → Writes q job kind s written now r → OnOk given (HasWritten q job.events before next now)
       written_on_ok (Ok turn) given is told says = subst (λ (g : Result Answered DriveStop). OnOk g (HasWritten q job.events before next now)) (sym is) (written_on turn told says)
       written_on_ok (Err stop) given is told says = subst (λ (g : Result Answered DriveStop). OnOk g (HasWritten q job.events before next now)) (sym is.1) tt
 
     module _ (depth : ℕ) (made : List (ℕ × Kind)) (are : Refines o depth t (run_of_machine o depth made)) where
-      begun_on : (stop : Stop) → Writes kind s written now (Err stop) → HasBegun q job.events before now
-      begun_on stop says =
+      kept_on : (stop : Stop) → new ≡ s → Writes q job kind s written now (Err stop) → HasKept q job.events kind before next now
+      kept_on stop unchanged says =
+          let same : lines new.log ≡ lines s.log = ap (λ (n : WorkerState). lines n.log) unchanged in
           ⊎_elim
-          (λ (same : now ≡ written).
-          let b = written_lines_begin q job (first_log t) (first_legal o ok t depth made are) in
-          (b.0, same ∙ has ∙ ap (grown before) b.1))
+          (λ (e : kind ≡ Write).
+          ⊎_elim
+          (λ (quiet : now ≡ written). inl (silent quiet same))
           (λ (p : WritesPart q job s written now).
           let zeroth : w ≡ 0 = sym number ∙ p.2.next.0 in
           let first : slice_get t.workers 0 ≡ Some s = subst (λ (n : ℕ). slice_get t.workers n ≡ Some s) zeroth was in
@@ -164,9 +146,11 @@ module _ {Cell : Type 0} (q : QueryFacts Cell) (job : JobFacts) where
           let b = parts_of_lines_begin q job s.log p.0 p.1 legal in
           let part = take p.1 (answer_at q job.events p.0) in
           let all : lines (first_log t) ++ part ≡ take b.0 (one_thread_answer q job.events) = ap (λ (r : Option WorkerState). lines (log_of r) ++ part) first ∙ b.1 in
-          (b.0, p.3 ∙ ap (λ (b : Option (List ℕ)). grown b part) has ∙ grown-grown before (lines (first_log t)) part ∙ ap (grown before) all))
-          says.part
+          inr (e, (b.0, p.3 ∙ ap (λ (b : Option (List ℕ)). grown b part) has ∙ grown-grown before (lines (first_log t)) part ∙ ap (grown before) all)))
+          says.part)
+          (λ (n : kind ≡ Write → ⊥). inl (silent (says.others n) same))
+          (is_write kind)
 
-      pub begun_on_err : (r : Result Answered Stop) (given : Result Answered DriveStop) → Passes r given → Writes kind s written now r → OnErr given (HasBegun q job.events before now)
-      begun_on_err (Ok turn) given is says = subst (λ (g : Result Answered DriveStop). OnErr g (HasBegun q job.events before now)) (sym is) tt
-      begun_on_err (Err stop) given is says = subst (λ (g : Result Answered DriveStop). OnErr g (HasBegun q job.events before now)) (sym is.1) (begun_on stop says)
+      pub kept_on_err : (r : Result Answered Stop) (given : Result Answered DriveStop) → Passes r given → IfNotMade r (new ≡ s) → Writes q job kind s written now r → OnErr given (HasKept q job.events kind before next now)
+      kept_on_err (Ok turn) given is unchanged says = subst (λ (g : Result Answered DriveStop). OnErr g (HasKept q job.events kind before next now)) (sym is) tt
+      kept_on_err (Err stop) given is unchanged says = subst (λ (g : Result Answered DriveStop). OnErr g (HasKept q job.events kind before next now)) (sym is.1) (kept_on stop unchanged says)

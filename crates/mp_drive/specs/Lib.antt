@@ -1,5 +1,7 @@
 -- What the contracts of this crate cite.
-pub mod Draws
 pub mod Driven
 pub mod Kept
+pub mod Ownership
+pub mod Refused
+pub mod Schedule
 pub mod Tallies

@@ -4,8 +4,8 @@
 //! machine, and what a finished run wrote is the one-thread answer.
 #![tactic(auto)]
 
-mod draws;
 mod list;
+mod ownership;
 mod places;
 mod plain;
 mod run;
@@ -13,7 +13,8 @@ mod seed;
 mod stop;
 mod tallies;
 
-pub use draws::Draws;
 pub use plain::Plain;
 pub use run::replay;
 pub use stop::DriveStop;
+
+pub use mp_draws::Draws;

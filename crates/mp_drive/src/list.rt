@@ -1,9 +1,12 @@
 //! Driving by a list of steps.
-ghost use Rattle.std.specs.Prelude.{◌≡◌, ◌<◌, ◌≤◌, ℕ, All, Err, IfOk, List, OnErr, OnOk, Option, map};
+ghost use Rattle.std.specs.Prelude.{◌≡◌, ◌≢◌, ◌≤◌, ℕ, All, Err, IfErr, IfOk, List, OnErr, OnOk, Option, map};
 ghost use Rattle.mp_outside.specs.Fault.{Rose};
+ghost use Rattle.mp_outside.specs.Sink.{OnlyAppends};
 ghost use Rattle.mp_outline.specs.JobOutline.{outline_of};
+ghost use Rattle.mp_worker.specs.declared.turn.Turn.TheVariants.{Busy};
 ghost use Rattle.mp_drive.specs.declared.stop.DriveStop.TheVariants.{Write};
 ghost use Rattle.mp_drive.specs.Driven.{HasBegun, HasWritten, LeadsOn, turn_in};
+ghost use Rattle.mp_drive.specs.Refused.{KeepsSteps};
 
 use crate::{DriveStop, Plain};
 use mp_model::{Naming, Query};
@@ -13,18 +16,20 @@ use mp_worker::Turn;
 use std::alloc::Global;
 
 impl<'a, Q: Query, J: Naming> Plain<'a, Q, J> {
-    /// Makes the steps of a list, each a worker and a kind, in order: what each answered. The room for the
-    /// answers is taken before the first step. `Memory` and `Write` are those of the step that answered them;
-    /// the steps before it stay.
+    /// Makes the steps of a list, each a worker and a kind, in order: what each answered, which is never
+    /// `Busy`. The room for the answers is taken before the first step; `Memory` where there is none. Else
+    /// `Memory` and `Write` are those of the step that answered them, and the steps before it stay.
     pub fn drive_list<S: Sink>(
         &mut self,
         alloc: Global,
         steps: &[(u32, Kind)],
         sink: &mut S,
     ) -> Result<Vec<Turn>, DriveStop>
-        requires workers { All (λ step. step.0 < J.job.shape.workers) steps.now }
         ensures turns { let o = outline_of (Q.facts J.job.rules) J.job in
             IfOk result (λ turns. LeadsOn o steps.now (map turn_in turns.items) self.old self.new) }
+        ensures not_busy { IfOk result (λ turns. All (λ turn. turn ≢ Busy) turns.items) }
+        ensures kept { IfErr result (λ why. KeepsSteps (Q.facts J.job.rules) J.job steps.now why
+            self.old self.new (S.written sink.old) (S.written sink.new)) }
 
         ensures written { let q = Q.facts J.job.rules in
             (before : Option (List ℕ)) → HasWritten q J.job.events before self.old (S.written sink.old)
@@ -33,8 +38,7 @@ impl<'a, Q: Query, J: Naming> Plain<'a, Q, J> {
             (before : Option (List ℕ)) → HasWritten q J.job.events before self.old (S.written sink.old)
             → OnErr result (HasBegun q J.job.events before (S.written sink.new)) }
         ensures failed { result ≡ Err Write → Rose (S.faults sink.old) (S.faults sink.new) }
-        ensures frame { S.frame sink.new ≡ S.frame sink.old }
-        ensures writes { S.faults sink.old ≤ S.faults sink.new }
+        ensures appends_only { OnlyAppends S.frame S.faults sink.old sink.new }
     {
         // From here on the invariant is known: what is written so far is a beginning of the answer.
         let _ = &self.job;

@@ -1,11 +1,13 @@
 //! A whole run on one thread.
 ghost use Rattle.std.specs.Prelude.{◌≡◌, ◌<◌, ◌≤◌, ◌^◌, [], Err, IfOk, OnErr, OnOk};
 ghost use Rattle.mp_outside.specs.Fault.{Rose};
-ghost use Rattle.mp_outside.specs.Sink.{grown};
+ghost use Rattle.mp_outside.specs.Sink.{OnlyAppends, grown};
 ghost use Rattle.mp_model.specs.Answers.{one_thread_answer};
+ghost use Rattle.mp_outline.specs.JobOutline.{outline_of};
 ghost use Rattle.mp_output.specs.Rows.{GivesRows};
 ghost use Rattle.mp_drive.specs.declared.stop.DriveStop.TheVariants.{Write};
 ghost use Rattle.mp_drive.specs.Driven.{HasBegun};
+ghost use Rattle.mp_drive.specs.Schedule.{EndsAfter};
 
 use crate::{DriveStop, Plain};
 use mp_gate::Gate;
@@ -30,13 +32,13 @@ pub fn replay<Q: Query, J: Naming, S: Sink, G: Gate>(
     requires job { job.now ≡ J.job }
     requires rows { GivesRows (Q.facts J.job.rules) }
     requires depth { 0 < depth }
+    ensures made { IfOk result (λ n. EndsAfter (outline_of (Q.facts J.job.rules) J.job) depth seed n) }
     ensures answer { let q = Q.facts J.job.rules in
         OnOk result (S.written sink.new ≡ grown (S.written sink.old) (one_thread_answer q J.job.events)) }
     ensures part { let q = Q.facts J.job.rules in
         OnErr result (HasBegun q J.job.events (S.written sink.old) (S.written sink.new)) }
     ensures failed { result ≡ Err Write → Rose (S.faults sink.old) (S.faults sink.new) }
-    ensures frame { S.frame sink.new ≡ S.frame sink.old }
-    ensures writes { S.faults sink.old ≤ S.faults sink.new }
+    ensures appends_only { OnlyAppends S.frame S.faults sink.old sink.new }
 {
     let mut plain = Plain::<Q, J>::open(alloc, job, depth)?;
     plain.drive_seed(seed, gate, sink)

@@ -1,4 +1,5 @@
 -- The lemmas of this crate.
 pub mod LegalEvents
 mod LineSteps
+mod WrittenLines
 mod Numbers

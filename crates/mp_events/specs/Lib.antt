@@ -4,3 +4,4 @@ pub mod Kinds
 pub mod Lines
 pub mod Read
 pub mod Reasons
+pub mod Written

@@ -1,6 +1,6 @@
 //! Layer: values, files and text.
 //!
-//! Events from the lines of an event file.
+//! Events from the lines of an event file, and lines from events.
 //!
 //! A line says a person (`P`), an auction (`A`) or a bid (`B`). Its fields are checked by one table, from left to
 //! right, and the first check that fails is the reason why a file is refused. The lines, their limits and the order of
@@ -8,9 +8,13 @@
 #![tactic(auto)]
 
 mod kinds;
+mod laws;
 mod line;
 mod reading;
 mod refused;
+mod writing;
 
+pub use laws::written_events_are_read;
 pub use reading::read_events;
 pub use refused::{EventsReason, EventsRefused};
+pub use writing::write_event;

@@ -9,6 +9,7 @@ pub mod Enough
 pub mod Unwoken
 pub mod Woken
 pub mod Places
+mod Present
 pub mod Tallied
 pub mod Grouped
 pub mod Moved

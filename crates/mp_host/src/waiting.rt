@@ -10,6 +10,7 @@ ghost use Rattle.mp_host.specs.Hosts.{IsHosted};
 ghost use Rattle.mp_host.specs.Waiting.{is_woken_beside};
 
 use crate::Host;
+use crate::groups::has_group;
 use crate::states::has_wake;
 use mp_bins::bin_of;
 use mp_model::{Naming, Query, Time};
@@ -30,10 +31,7 @@ impl<'a, Q: Query, J: Naming> Host<'a, Q, J> {
         ensures here { result ≡ list_any (is_of time key) self.now.records }
         ensures hosted { IsHosted (Q.facts J.job.rules) J.job J.job self.now }
     {
-        self.records
-            .as_slice()
-            .iter()
-            .any(|rec| rec.time == time && rec.key == key)
+        has_group(&self.records, time, key)
     }
 
     pub(crate) fn is_woken(&self, time: Time, key: u64) -> bool

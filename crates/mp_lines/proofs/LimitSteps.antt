@@ -1,11 +1,11 @@
 -- A field that should be a number within a limit, or a name.
 use Rattle.std.proofs.Common.{◌≡◌, ◌<◌, ◌≤◌, ℕ, Bool, true, false, List, [], ◌++◌, Some, Ok, Err, cond, length, refl, sym, ◌∙◌, ap, arith}
-use Rattle.std.specs.Prelude.{nat_le}
+use Rattle.std.specs.Prelude.{nat_le, ◌&&◌}
 use Rattle.std.specs.List.{slice_get}
 use Rattle.std.proofs.lemmas.Bool.{and_parts, le-ltb, leb-false, leb-true, ltb-true}
 use Rattle.mp_lines.specs.declared.fields.FieldLimit.TheVariants.{NumberWithin, NameUpTo}
 use Rattle.mp_lines.specs.declared.limits.NumberLimit.{NumberLimit}
-use Rattle.mp_lines.specs.declared.limits.NumberLimit.TheVariants.{UpTo, Below}
+use Rattle.mp_lines.specs.declared.limits.NumberLimit.TheVariants.{UpTo, Below, Between}
 use Rattle.mp_lines.specs.Checks.{AnswersChecks, check}
 use Rattle.mp_lines.specs.Limits.{bound_of, failures_of_field, failures_of_number, is_within}
 use Rattle.mp_lines.proofs.Starts.{empty_map, empty_parts, passes}
@@ -13,10 +13,15 @@ use Rattle.mp_text.specs.declared.numbers.BadNumber.{BadNumber}
 use Rattle.mp_text.specs.declared.numbers.BadNumber.TheVariants.{Digits, Range}
 use Rattle.mp_text.specs.Numbers.{is_number, number_of, value_of}
 
+and_false : (b : Bool) → (b && false) ≡ false
+and_false true = refl
+and_false false = refl
+
 -- a number above the limit's own is outside
 outside : (limit : NumberLimit) (n : ℕ) → nat_le n (bound_of limit) ≡ false → is_within limit n ≡ false
 outside (UpTo max) n above = above
 outside (Below bound) n above = let high : bound < n = leb-false _ _ above in le-ltb _ _ (omega (arith, high))
+outside (Between least most) n above = rw above (and_false (nat_le least n))
 
 -- what was read as a number that isn't above the limit's own
 pub is_read : (limit : NumberLimit) (field : List ℕ) (n : ℕ) → Ok n ≡ number_of field (bound_of limit) → (is_number field ≡ true) × (n ≡ value_of field)

@@ -5,7 +5,7 @@ use Rattle.mp_lines.specs.declared.fields.BadField.TheVariants.{Number, Name}
 use Rattle.mp_lines.specs.declared.fields.FieldLimit.{FieldLimit}
 use Rattle.mp_lines.specs.declared.fields.FieldLimit.TheVariants.{NumberWithin, NameUpTo}
 use Rattle.mp_lines.specs.declared.limits.NumberLimit.{NumberLimit}
-use Rattle.mp_lines.specs.declared.limits.NumberLimit.TheVariants.{UpTo, Below}
+use Rattle.mp_lines.specs.declared.limits.NumberLimit.TheVariants.{UpTo, Below, Between}
 use Rattle.mp_lines.specs.Checks.{check}
 use Rattle.mp_text.specs.declared.numbers.BadNumber.{BadNumber}
 use Rattle.mp_text.specs.declared.numbers.BadNumber.TheVariants.{Digits, Range}
@@ -15,11 +15,13 @@ use Rattle.mp_text.specs.Numbers.{is_number, value_of}
 abbrev pub bound_of : NumberLimit → ℕ
 bound_of (UpTo max) = max
 bound_of (Below bound) = bound
+bound_of (Between least most) = most
 
 -- a number is within a limit
 abbrev pub is_within : NumberLimit → ℕ → Bool
 is_within (UpTo max) number = nat_le number max
 is_within (Below bound) number = nat_lt number bound
+is_within (Between least most) number = nat_le least number && nat_le number most
 
 -- the checks that a number's field fails, in order: it is one or more digits, and their number is within the limit
 abbrev pub failures_of_number : NumberLimit → List ℕ → List BadNumber

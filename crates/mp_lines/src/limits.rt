@@ -12,6 +12,8 @@ pub enum NumberLimit {
     UpTo(u64),
     /// Less than this.
     Below(u64),
+    /// At least the first, and at most the second.
+    Between(u64, u64),
 }
 
 impl NumberLimit {
@@ -22,6 +24,7 @@ impl NumberLimit {
         match self {
             NumberLimit::UpTo(max) => max,
             NumberLimit::Below(bound) => bound,
+            NumberLimit::Between(_, most) => most,
         }
     }
 
@@ -32,6 +35,7 @@ impl NumberLimit {
         match self {
             NumberLimit::UpTo(max) => number <= max,
             NumberLimit::Below(bound) => number < bound,
+            NumberLimit::Between(least, most) => least <= number && number <= most,
         }
     }
 }

@@ -1,6 +1,6 @@
 -- What a post stands for before and after a call, on the edge of the call and on the others.
 -- `stands from to pushed popped`: from a worker to a worker these names were pushed with Ok, and these were popped.
-use Rattle.std.specs.Prelude.{◌≢◌, ◌⊎◌, ℕ, List, ◌++◌}
+use Rattle.std.specs.Prelude.{◌≡◌, ◌≢◌, ◌⊎◌, ℕ, List, ◌++◌}
 use Rattle.mp_mailbox.specs.Names.{Distinct}
 
 module _ {N : Type 0} (denotes : ℕ → ℕ → List N → List N → Type 0) where
@@ -32,3 +32,10 @@ module _ {N : Type 0} (old new : ℕ → ℕ → List N → List N → Type 0) w
   -- nothing was pushed or popped on any edge but this one
   abbrev pub KeepsOthers : ℕ → ℕ → Type 0
   KeepsOthers from to = (other_from other_to : ℕ) → (other_from ≢ from) ⊎ (other_to ≢ to) → KeepsEdge other_from other_to
+
+-- What a post is to its workers, which no call changes: between how many it is, how deep each queue is, and whose ends are here
+module _ {P : Type 0} (workers depth : P → ℕ) (serves : P → ℕ → Type 0) where
+  pub record KeepsEnds (old new : P) : Type 0 where
+    pub same_workers : workers new ≡ workers old
+    pub same_depth : depth new ≡ depth old
+    pub same_ends : (worker : ℕ) → serves old worker → serves new worker

@@ -1,6 +1,6 @@
 //! What a message and a post are.
 ghost use Rattle.std.specs.Prelude.{◌≡◌, ℕ, ◌<◌, List, OnOk, OnErr, IfErr, IfSome, IfNone};
-ghost use Rattle.mp_mailbox.specs.Standing.{IsFresh, Denotes, AddsPushed, AddsPopped, PopsNew, KeepsEdge, KeepsOthers};
+ghost use Rattle.mp_mailbox.specs.Standing.{IsFresh, Denotes, AddsPushed, AddsPopped, PopsNew, KeepsEdge, KeepsEnds, KeepsOthers};
 
 /// A message has names, and goes along one edge, from one worker to another. Which job it belongs to is
 /// a matter of its type (this project's profile).
@@ -68,9 +68,7 @@ pub trait Post<M: Named> {
         ensures unchanged { OnErr result (KeepsEdge (denotes self.old) (denotes self.new) from to) }
 
         ensures others { KeepsOthers (denotes self.old) (denotes self.new) from to }
-        ensures same_workers { workers self.new ≡ workers self.old }
-        ensures same_depth { depth self.new ≡ depth self.old }
-        ensures same_ends { (worker : ℕ) → serves self.old worker → serves self.new worker };
+        ensures keeps { KeepsEnds workers depth serves self.old self.new };
 
     /// Pops the message that was pushed first of those that wait on the edge, or answers `None` where
     /// none waited. Takes no memory.
@@ -87,7 +85,5 @@ pub trait Post<M: Named> {
         ensures none { IfNone result (KeepsEdge (denotes self.old) (denotes self.new) from to) }
 
         ensures others { KeepsOthers (denotes self.old) (denotes self.new) from to }
-        ensures same_workers { workers self.new ≡ workers self.old }
-        ensures same_depth { depth self.new ≡ depth self.old }
-        ensures same_ends { (worker : ℕ) → serves self.old worker → serves self.new worker };
+        ensures keeps { KeepsEnds workers depth serves self.old self.new };
 }

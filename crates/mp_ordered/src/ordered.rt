@@ -1,30 +1,38 @@
 //! A sequence of items in order.
 ghost use Rattle.std.specs.Prelude.{◌≡◌, ◌≤◌, ◌<◌, ◌+◌, ◌-◌, ◌∷◌, [], ℕ, drop, length, slice_get, IfOk, IfSome, IfNone, IsOk, OnErr, OnOk, Some};
 ghost use Rattle.std.specs.List.{insert};
+ghost use Rattle.mp_names.specs.Names.{is_before};
 ghost use Rattle.mp_ordered.specs.InOrder.{GoesBack, IsInOrder, put_in_order};
 
+use crate::gone::{drop_behind, put_behind};
 use crate::order::Order;
 use std::alloc::{AllocError, Global};
 use std::marker::{Model, PhantomData};
 
 /// Items in the order `O`, the first one first. Contracts see an `InOrder`: the items, and how many more there is
-/// room for. Adding an item takes time linear in the items that follow it, taking out the first in all that are there.
+/// room for. The place of an item is found by halving, and the items that follow it move. Items that are dropped from the
+/// front stay in memory until they are as many as the others, so that dropping moves each item once or twice in all.
 #[derive(Drop)]
 pub struct Ordered<T, O: Order<T>> {
     items: Vec<T>,
+    // How many items stand in front that are dropped.
+    gone: usize,
     of: PhantomData<O>,
 }
 
 impl<T, O: Order<T>> Model for Ordered<T, O> {
-    ghost use Rattle.std.specs.Prelude.{◌-◌, length};
+    ghost use Rattle.std.specs.Prelude.{◌-◌, ◌≤◌, drop, length};
     ghost use Rattle.std.specs.Vec.{vec_capacity};
     ghost use Rattle.mp_ordered.specs.InOrder.{InOrder, IsInOrder};
 
     ghost Value = { InOrder T };
 
-    ghost view = { λ o. record { items = o.items.items; room = vec_capacity o.items - length o.items.items } };
+    ghost view = { λ o. record {
+      items = drop o.gone o.items.items;
+      room = vec_capacity o.items - (length o.items.items - o.gone);
+    } };
 
-    ghost invariant = { λ o. IsInOrder O.rank o.items.items };
+    ghost invariant = { λ o. (o.gone ≤ length o.items.items) × IsInOrder O.rank (drop o.gone o.items.items) };
 }
 
 impl<T: Drop, O: Order<T>> Ordered<T, O> {
@@ -34,6 +42,7 @@ impl<T: Drop, O: Order<T>> Ordered<T, O> {
     {
         Ordered {
             items: Vec::new(alloc),
+            gone: 0,
             of: PhantomData,
         }
     }
@@ -57,10 +66,8 @@ impl<T: Drop, O: Order<T>> Ordered<T, O> {
         ensures unchanged { OnErr result (self.new ≡ self.old) }
         ensures never_refused_with_room { 0 < self.old.room → IsOk result }
     {
-        self.items.reserve(1)?;
         let at = self.place_of(&item);
-        self.items.insert(at, item)?;
-        Ok(())
+        put_behind(&mut self.items, &mut self.gone, at, item)
     }
 
     /// The items, in order.
@@ -69,7 +76,7 @@ impl<T: Drop, O: Order<T>> Ordered<T, O> {
         ensures in_order { IsInOrder O.rank self.now.items }
         ensures goes_back { GoesBack O.rank }
     {
-        self.items.as_slice()
+        &self.items[self.gone..]
     }
 
     /// The first item; `None` exactly where there is none.
@@ -77,30 +84,30 @@ impl<T: Drop, O: Order<T>> Ordered<T, O> {
         ensures some { IfSome result (λ x. slice_get self.now.items 0 ≡ Some x.now) }
         ensures none { IfNone result (self.now.items ≡ []) }
     {
-        self.items.first()
+        self.as_slice().first()
     }
 
     /// Takes out the first item; `None` exactly where there is none. It leaves its room, so `insert` takes it back
-    /// to its place.
+    /// to its place. Moves all others: where many are taken out one by one, an `OrderedQueue` serves.
     pub fn pop_first(&mut self) -> Option<T>
         ensures some { IfSome result (λ x. self.old.items ≡ x ∷ self.new.items) }
         ensures none { IfNone result (self.old.items ≡ []) }
         ensures unchanged { IfNone result (self.new ≡ self.old) }
         ensures room { IfSome result (λ x. self.new.room ≡ self.old.room + 1) }
     {
-        if self.items.is_empty() {
+        if self.items.len() == self.gone {
             return None;
         }
-        Some(self.items.remove(0))
+        Some(self.items.remove(self.gone))
     }
 
-    /// Takes out the first `count` items, at most all of them. They leave their room.
+    /// Drops the first `count` items, at most all of them. They leave their room.
     pub fn drop_first(&mut self, count: usize)
         requires { count ≤ length self.old.items }
         ensures items { self.new.items ≡ drop count self.old.items }
         ensures room { self.new.room ≡ self.old.room + count }
     {
-        self.items.drain(..count);
+        drop_behind(&mut self.items, &mut self.gone, count);
     }
 
     // How many items come before this one.
@@ -108,10 +115,10 @@ impl<T: Drop, O: Order<T>> Ordered<T, O> {
         ensures inside { result ≤ length self.now.items }
         ensures place { insert self.now.items result item.now ≡ put_in_order O.rank item.now self.now.items }
     {
-        let mut at = self.items.len();
-        while at > 0 && !O::is_before(&self.items[at - 1], item) {
-            at -= 1;
-        }
-        at
+        self.as_slice().partition_point(
+            |other: &T| -> bool
+                ensures { result ≡ is_before (O.rank other.now) (O.rank item.entry.now) }
+            { O::is_before(other, item) },
+        )
     }
 }

@@ -19,12 +19,12 @@ ghost use Rattle.mp_output.specs.Holding.{AllAreWritten, HoldsUnwritten, WritesN
 ghost use Rattle.mp_output.specs.Unwritten.{IsDue, lines_of, place_rank, rows_at, rows_beside};
 ghost use Rattle.mp_output.specs.Wrote.{IfNothing, IfTime};
 
-use crate::lines::{count_of_time, lines_of};
+use crate::lines::{count_of_time, lines_of_first};
 use crate::place::ByPlace;
 use crate::refused::OutRefused;
 use mp_model::{Fields, Naming, Output, Query, Time, Value};
 use mp_names::{Loc, Tag};
-use mp_ordered::Ordered;
+use mp_ordered::OrderedQueue;
 use mp_outside::{Sink, write_piece};
 use mp_stamps::{Seen, passed};
 use std::alloc::{AllocError, Global};
@@ -44,7 +44,7 @@ pub enum Wrote {
 #[derive(Drop)]
 pub struct Rows<Q: Query, J: Naming> {
     alloc: Global,
-    rows: Ordered<Output, ByPlace>,
+    rows: OrderedQueue<Output, ByPlace>,
     of: PhantomData<(Q, J)>,
 }
 
@@ -68,7 +68,7 @@ impl<Q: Query, J: Naming> Rows<Q, J> {
     {
         Rows {
             alloc,
-            rows: Ordered::new(alloc),
+            rows: OrderedQueue::new(alloc),
             of: PhantomData,
         }
     }
@@ -88,7 +88,7 @@ impl<Q: Query, J: Naming> Rows<Q, J> {
         ensures rows { IsTrue result ↔ (self.now.rows ≡ []) }
         ensures written { (log : Log) → HoldsUnwritten log self.now.rows → (IsTrue result ↔ AllAreWritten log) }
     {
-        self.rows.as_slice().is_empty()
+        self.rows.is_empty()
     }
 
     /// Takes an answer row of the job to its place. `AllocError`: no memory, never where there is room, and nothing
@@ -150,9 +150,8 @@ impl<Q: Query, J: Naming> Rows<Q, J> {
         let Some(time) = self.due(seen) else {
             return Ok(Wrote::Nothing);
         };
-        let rows = self.rows_of(time);
-        let count = rows.len();
-        let piece = lines_of(self.alloc, rows)?;
+        let count = self.count_at(time);
+        let piece = lines_of_first(self.alloc, &self.rows, count)?;
         write_piece(sink, piece.as_slice())?;
         self.rows.drop_first(count);
         Ok(Wrote::Time(time))
@@ -165,18 +164,18 @@ impl<Q: Query, J: Naming> Rows<Q, J> {
         ensures least { IfSome result (λ t. All (λ row. t ≤ row.time) self.now.rows) }
         ensures in_order { IsInOrder place_rank self.now.rows }
     {
-        let first = self.rows.as_slice().first()?;
+        let first = self.rows.first()?;
         passed(seen.frontier(Loc::OutMail), first.time).then_some(first.time)
     }
 
-    // The rows of the least time, which stand in front of all others.
-    fn rows_of(&self, time: Time) -> &[Output]
+    // How many rows have the least time: they stand in front of all others.
+    fn count_at(&self, time: Time) -> usize
         requires { All (λ row. time ≤ row.time) self.now.rows }
-        ensures rows { result.now ≡ rows_at time self.now.rows }
-        ensures count { length result.now ≤ length self.now.rows }
-        ensures rest { drop (length result.now) self.now.rows ≡ rows_beside time self.now.rows }
+        ensures rows { take result self.now.rows ≡ rows_at time self.now.rows }
+        ensures count { result ≤ length self.now.rows }
+        ensures rest { drop result self.now.rows ≡ rows_beside time self.now.rows }
     {
-        let rows = self.rows.as_slice();
-        &rows[..count_of_time(rows, time)]
+        let _ = self.rows.first();
+        count_of_time(&self.rows, time)
     }
 }

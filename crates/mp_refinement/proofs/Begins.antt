@@ -36,6 +36,7 @@ begins o ok w s new =
     record {
       number = new.number;
       log = new.log;
+      posted = new.posted;
       seen = λ at has.
           frontier_unique (count_at o (λ v. empty_log)) at (seen_at s.seen at) (frontier_of o (λ v. empty_log) at)
           (frontier_of_logs o (log_at (replicate o.workers empty_log)) (λ v. empty_log) (λ v l. empty_at o.workers v) at (seen_at s.seen at) (new.seen at has))

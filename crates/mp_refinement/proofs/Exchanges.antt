@@ -83,8 +83,8 @@ module _ (o : Outline) (ok : OutlineIsSound o) (depth : ℕ) (t : SystemState) (
         (frontier_of_logs o (log_at logs_after) (posted_with world w) posted_is at (seen_at seen at) (shows at has))
         (frontier_is o (posted_with world w) ok legal at)
 
-    looked : IsWorkerOf o w (record s { seen = seen }) (having_seen o world w)
-    looked = record { number = is.number; log = is.log; seen = seen_is; version = version ∙ version_is }
+    looked : IsWorkerOf o w (record s { posted = s.log; seen = seen }) (having_seen o world w)
+    looked = record { number = is.number; log = is.log; posted = is.log; seen = seen_is; version = version ∙ version_is }
 
     board_is : (v : ℕ) → v < o.workers → log_at logs_after v ≡ (put w (having_seen o world w) world.worker v).posted
     board_is =
@@ -92,9 +92,9 @@ module _ (o : Outline) (ok : OutlineIsSound o) (depth : ℕ) (t : SystemState) (
         (λ l. posted_here ∙ is.log)
         (λ v n l. posted_elsewhere v n ∙ are.posted v l)
 
-    seen_world : (post : Queues Name) → MailFollows o w t.post s s post → Refines o depth (record (with_worker t w (record s { seen = seen }) post) { board = exchanged t.board w s.log }) (world_exchanged o world w)
+    seen_world : (post : Queues Name) → MailFollows o w t.post s s post → Refines o depth (record (with_worker t w (record s { posted = s.log; seen = seen }) post) { board = exchanged t.board w s.log }) (world_exchanged o world w)
     seen_world post mail =
-        next_world o depth t world are w s was (record s { seen = seen }) (having_seen o world w) looked post (exchanged t.board w s.log) (version_after world w) world.mailbox mail.workers mail.depth mail.follows
+        next_world o depth t world are w s was (record s { posted = s.log; seen = seen }) (having_seen o world w) looked post (exchanged t.board w s.log) (version_after world w) world.mailbox mail.workers mail.depth mail.follows
         (length-set t.board.logs w s.log ∙ are.all_logs) board_is version_is
 
     can_exchange : (seen.version ≡ s.seen.version → ⊥) → CanExchange o world w Exchange
@@ -109,11 +109,11 @@ module _ (o : Outline) (ok : OutlineIsSound o) (depth : ℕ) (t : SystemState) (
     )
 
     pub saw : (post : Queues Name) → (seen.version ≡ s.seen.version → ⊥) → MailFollows o w t.post s s post
-        → (turn_of_machine o depth world w Exchange ≡ Saw seen.version) × Refines o depth (record (with_worker t w (record s { seen = seen }) post) { board = exchanged t.board w s.log }) (step_of_machine o depth world w Exchange)
+        → (turn_of_machine o depth world w Exchange ≡ Saw seen.version) × Refines o depth (record (with_worker t w (record s { posted = s.log; seen = seen }) post) { board = exchanged t.board w s.log }) (step_of_machine o depth world w Exchange)
     unfolding turn_of_machine step_of_machine
     saw post new mail =
         let turn = saw_from o depth world w Exchange (can_exchange new) in
-        (turn ∙ ap Saw (sym (version ∙ version_is)), subst (Refines o depth (record (with_worker t w (record s { seen = seen }) post) { board = exchanged t.board w s.log })) (sym (ap (after_turn o world w Exchange) turn)) (seen_world post mail))
+        (turn ∙ ap Saw (sym (version ∙ version_is)), subst (Refines o depth (record (with_worker t w (record s { posted = s.log; seen = seen }) post) { board = exchanged t.board w s.log })) (sym (ap (after_turn o world w Exchange) turn)) (seen_world post mail))
 
   -- the version that the worker had seen
 

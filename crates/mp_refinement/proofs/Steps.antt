@@ -59,6 +59,7 @@ module _ (o : Outline) (ok : OutlineIsSound o) (depth : ℕ) (t : SystemState) (
         record {
           number = ap (λ (n : WorkerState). n.number) makes.after ∙ is.number;
           log = new_log;
+          posted = ap (λ (n : WorkerState). n.posted) makes.after ∙ is.posted;
           seen = λ at l. subst (λ (n : WorkerState). seen_at n.seen at ≡ (world.worker w).seen at) (sym makes.after) (is.seen at l);
           version = ap (λ (n : WorkerState). n.seen.version) makes.after ∙ is.version;
         }

@@ -37,7 +37,7 @@ pub record StepsRefineMachine (o : Outline) (depth : ℕ) (t : SystemState) (wor
   pub saw : (w : ℕ) (s : WorkerState) (seen : Seen) (post : Queues Name) → let board = exchanged t.board w s.log in
       slice_get t.workers w ≡ Some s → seen.version ≡ board.version → ShowsFrontiers o board.logs seen → (seen.version ≡ s.seen.version → ⊥) → MailFollows o w t.post s s post
       → (turn_of_machine o depth world w Exchange ≡ Saw seen.version)
-      × Refines o depth (record (with_worker t w (record s { seen = seen }) post) { board = board }) (step_of_machine o depth world w Exchange)
+      × Refines o depth (record (with_worker t w (record s { posted = s.log; seen = seen }) post) { board = board }) (step_of_machine o depth world w Exchange)
   -- an exchange saw the version that the worker had seen: it changed nothing
   pub saw_nothing : (w : ℕ) (s : WorkerState) (post : Queues Name) → let board = exchanged t.board w s.log in
       slice_get t.workers w ≡ Some s → board.version ≡ s.seen.version → MailFollows o w t.post s s post
@@ -47,7 +47,8 @@ pub record StepsRefineMachine (o : Outline) (depth : ℕ) (t : SystemState) (wor
 pub record StepsMayBeAsked (o : Outline) (t : SystemState) : Type 0 where
   pub fits : (w : ℕ) (s : WorkerState) → slice_get t.workers w ≡ Some s → (w < o.workers) × (s.number ≡ w)
   pub ends : (w : ℕ) (s : WorkerState) → slice_get t.workers w ≡ Some s → PostMatchesLog (queues_denote o t.post) o w s.log
-  pub posted : (w : ℕ) (s : WorkerState) → slice_get t.workers w ≡ Some s → LogGrows (log_at t.board.logs w) s.log
+  pub posted : (w : ℕ) (s : WorkerState) → slice_get t.workers w ≡ Some s → log_at t.board.logs w ≡ s.posted
+  pub grows : (w : ℕ) (s : WorkerState) → slice_get t.workers w ≡ Some s → LogGrows s.posted s.log
   pub legal : (w : ℕ) (s : WorkerState) → slice_get t.workers w ≡ Some s → LogIsLegal o w s.log
   -- no worker knows of a later version than the board's
   pub version : (w : ℕ) (s : WorkerState) → slice_get t.workers w ≡ Some s → s.seen.version ≤ t.board.version
@@ -75,6 +76,7 @@ OpeningIsTold =
 pub record IsNewWorker (o : Outline) (w : ℕ) (s : WorkerState) : Type 0 where
   pub number : s.number ≡ w
   pub log : s.log ≡ empty_log
+  pub posted : s.posted ≡ empty_log
   pub version : s.seen.version ≡ 0
   pub seen : ShowsFrontiers o (replicate o.workers empty_log) s.seen
 

@@ -1,6 +1,8 @@
 -- What the contracts of this crate cite.
 pub mod State
 pub mod Ends
+pub mod Served
+pub mod Steps
 pub mod Mail
 pub mod SystemState
 pub mod Laws

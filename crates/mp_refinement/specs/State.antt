@@ -3,21 +3,22 @@ use Rattle.std.specs.Prelude.{◌≡◌, ℕ}
 use Rattle.mp_names.specs.declared.kinds.Kind.{Kind}
 use Rattle.mp_names.specs.declared.names.Name.{Name}
 use Rattle.mp_names.specs.Outlines.{Outline}
-use Rattle.mp_names.specs.Logs.{Log, empty_log}
+use Rattle.mp_names.specs.Logs.{Log}
 use Rattle.mp_stamps.specs.declared.seen.Seen.{Seen}
 use Rattle.mp_stamps.specs.Seen.{seen_at}
 use Rattle.mp_machine.specs.Steps.{IsNext, IsReady, KindFits, logged}
 use Rattle.mp_machine.specs.Worlds.{Worker}
 
--- a worker's number, its log, and what it saw at its last exchange
+-- a worker's number, its log, the log that it posted last, which at first is the empty one, and what it saw at its last exchange
 pub record WorkerState : Type 0 where
   pub number : ℕ
   pub log : Log
+  pub posted : Log
   pub seen : Seen
 
--- the worker as the machine has it; what it posted is not its own to say
+-- the worker as the machine has it
 abbrev pub as_machine : WorkerState → Worker
-as_machine s = record { log = s.log; posted = empty_log; seen = seen_at s.seen; version = s.seen.version }
+as_machine s = record { log = s.log; posted = s.posted; seen = seen_at s.seen; version = s.seen.version }
 
 -- By its log and what it saw the worker can make the step of this kind with this name; whether a mailbox lets it is not asked
 pub record CanMake (o : Outline) (kind : Kind) (s : WorkerState) (x : Name) : Type 0 where

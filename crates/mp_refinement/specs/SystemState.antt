@@ -26,10 +26,11 @@ pub record SystemState : Type 0 where
   pub board : Posted
   pub post : Queues Name
 
--- the worker is the one of the machine that has this number: it has the same log, and saw the same of the outline's locations
+-- the worker is the one of the machine that has this number: it has the same log, posted the same, and saw the same of the outline's locations
 pub record IsWorkerOf (o : Outline) (w : ℕ) (s : WorkerState) (worker : Worker) : Type 0 where
   pub number : s.number ≡ w
   pub log : s.log ≡ worker.log
+  pub posted : s.posted ≡ worker.posted
   pub seen : (at : Loc) → IsLocation o.stages at → seen_at s.seen at ≡ worker.seen at
   pub version : s.seen.version ≡ worker.version
 

@@ -119,9 +119,6 @@ module _ (j : ℕ) (records : InOrder Rec) (r : Rec) (first : slice_get records.
 
 -- How the code knows it
 
-pub reads_first : (items read : List Rec) (r : Rec) → read ≡ items → Some r ≡ slice_get read 0 → slice_get items 0 ≡ Some r
-reads_first items read r e f = subst (λ (xs : List Rec). slice_get xs 0 ≡ Some r) e (sym f)
-
 module _ (seen : Seen) (f : Frontier) (t : ℕ) (e : f ≡ seen_at seen CtlMail) where
   pub is_passed : (IsTrue true → HasPassed f t) → HasPassed (seen_at seen CtlMail) t
   is_passed h = subst (λ (g : Frontier). HasPassed g t) e (h refl)

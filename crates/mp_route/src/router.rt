@@ -11,7 +11,7 @@ ghost use Rattle.mp_route.specs.Unsent.{HoldsAllBut, HoldsOneMore, HoldsUnsent, 
 use crate::by_tag::ByTag;
 use mp_model::{Naming, Query, Rec};
 use mp_names::{Loc, Name};
-use mp_ordered::Ordered;
+use mp_ordered::OrderedQueue;
 use mp_stamps::{Seen, passed};
 use std::alloc::{AllocError, Global};
 use std::marker::{Model, PhantomData};
@@ -22,7 +22,7 @@ use std::marker::{Model, PhantomData};
 #[derive(Drop)]
 pub struct Router<Q: Query, J: Naming> {
     stage: u32,
-    held: Ordered<Rec, ByTag>,
+    held: OrderedQueue<Rec, ByTag>,
     of: PhantomData<(Q, J)>,
 }
 
@@ -49,7 +49,7 @@ impl<Q: Query, J: Naming> Router<Q, J> {
     {
         Router {
             stage,
-            held: Ordered::new(alloc),
+            held: OrderedQueue::new(alloc),
             of: PhantomData,
         }
     }
@@ -96,7 +96,7 @@ impl<Q: Query, J: Naming> Router<Q, J> {
         ensures none_may { IfNone result ((w : ℕ) (log : Log) (x : Name) → let q = Q.facts J.job.rules in
             HoldsUnsent q J.job w log self.now → MayGo q J.job w log self.now.stage seen.now x → ⊥) }
     {
-        let first = self.held.as_slice().first()?;
+        let first = self.held.first()?;
         if !passed(seen.frontier(Loc::CtlMail), first.time) {
             return None;
         }

@@ -1,4 +1,6 @@
-//! Records in file order, and the greatest file.
+//! Records in file order, and the greatest file. Lines that are refused stand in examples/cases.toml.
+ghost use Rattle.std.specs.Prelude.{◌<◌};
+
 use mp_control::{Control, ControlReason, ControlRefused, Shape, read_control};
 use std::alloc::{AllocError, Global};
 use std::test::Fail;
@@ -6,7 +8,10 @@ use std::test::Fail;
 /// How many control records a text says, or the line and the reason for which it is refused.
 type Outcome = Result<usize, (u64, ControlReason)>;
 
-fn outcome(alloc: Global, text: &[u8], shape: &Shape) -> Result<Outcome, AllocError> {
+fn outcome(alloc: Global, text: &[u8], shape: &Shape) -> Result<Outcome, AllocError>
+    requires workers { 0 < shape.now.workers }
+    requires bins { 0 < shape.now.bins }
+{
     match read_control(alloc, text, shape) {
         Ok(controls) => Ok(Ok(controls.len())),
         Err(ControlRefused::BadLine { line, why }) => Ok(Err((line, why))),
@@ -48,17 +53,21 @@ fn records_come_in_file_order(rt: HostRuntime) -> Result<(), Fail> {
 fn greatest_file(rt: HostRuntime) -> Result<(), Fail> {
     let mut text = b"M|1|0|0|0\n".repeat(rt.alloc(), 65_536)?;
     assert_eq!(rt; outcome(rt.alloc(), text.as_slice(), &SHAPE)?, Ok(65_536));
-    let full = text.len();
-    text.extend_from_slice(b"M|1|0|0|3\n")?;
-    assert_eq!(rt;
-        outcome(rt.alloc(), text.as_slice(), &SHAPE)?,
-        Err((65_537, ControlReason::Range))
-    );
-    text.truncate(full);
     text.extend_from_slice(b"\nM|1|0|0|0\n")?;
     assert_eq!(rt;
         outcome(rt.alloc(), text.as_slice(), &SHAPE)?,
         Err((65_538, ControlReason::Count))
+    );
+    Ok(())
+}
+
+#[test]
+fn count_comes_last(rt: HostRuntime) -> Result<(), Fail> {
+    let mut text = b"M|1|0|0|0\n".repeat(rt.alloc(), 65_536)?;
+    text.extend_from_slice(b"M|1|0|0|3\n")?;
+    assert_eq!(rt;
+        outcome(rt.alloc(), text.as_slice(), &SHAPE)?,
+        Err((65_537, ControlReason::Range))
     );
     Ok(())
 }

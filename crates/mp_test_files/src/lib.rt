@@ -11,4 +11,8 @@ mod control;
 #[cfg(test)]
 mod events;
 #[cfg(test)]
+mod made;
+#[cfg(test)]
+mod plans;
+#[cfg(test)]
 mod words;

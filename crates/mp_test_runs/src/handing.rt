@@ -185,18 +185,18 @@ fn handoff_is_gated<R: AllocGlobal + Abort, J: Naming>(rt: &R, job: &Job<Q4>) ->
 {
     let mut sink = MemSink::new(rt.alloc());
     let mut plain = Plain::<Q4, J>::open(rt.alloc(), job, 64)?;
-    plays(rt, job, &mut plain, &controls_come(), &mut sink)?;
+    plays(rt, &mut plain, &controls_come(), &mut sink)?;
     assert_eq!(rt; plain.seen().frontier(Loc::CtlMail), Frontier::Done);
-    plays(rt, job, &mut plain, &records_come(), &mut sink)?;
+    plays(rt, &mut plain, &records_come(), &mut sink)?;
     assert_eq!(rt; plain.seen().frontier(Loc::Mail(0)), Frontier::Done);
     assert_eq!(rt; plain.seen().frontier(STATE), Frontier::At(50));
-    plays(rt, job, &mut plain, &groups_before(), &mut sink)?;
+    plays(rt, &mut plain, &groups_before(), &mut sink)?;
     assert_eq!(rt; plain.seen().frontier(HOST), Frontier::At(50));
-    plays(rt, job, &mut plain, &bin_leaves(), &mut sink)?;
+    plays(rt, &mut plain, &bin_leaves(), &mut sink)?;
     assert_eq!(rt; plain.seen().frontier(STATE), Frontier::At(50));
-    plays(rt, job, &mut plain, &bin_comes(), &mut sink)?;
+    plays(rt, &mut plain, &bin_comes(), &mut sink)?;
     assert_eq!(rt; plain.seen().frontier(STATE), Frontier::Done);
-    plays(rt, job, &mut plain, &group_at_the_wake(), &mut sink)?;
+    plays(rt, &mut plain, &group_at_the_wake(), &mut sink)?;
     assert_eq!(rt; sink.bytes(), b"".as_slice());
     Ok(())
 }

@@ -13,6 +13,8 @@ mod handing;
 #[cfg(test)]
 mod passes;
 #[cfg(test)]
+mod schedule;
+#[cfg(test)]
 mod script;
 #[cfg(test)]
 mod worked;

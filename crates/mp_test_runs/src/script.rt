@@ -2,7 +2,6 @@
 ghost use Rattle.std.specs.Prelude.{◌≡◌};
 
 use mp_drive::Plain;
-use mp_job::Job;
 use mp_model::{Naming, Query};
 use mp_names::Kind;
 use mp_outside::MemSink;
@@ -16,18 +15,13 @@ pub type Line = (u32, Kind, Turn);
 /// Drives the steps of this script as one list, and compares what they answer.
 pub fn plays<'a, R: AllocGlobal + Abort, Q: Query, J: Naming>(
     rt: &R,
-    job: &Job<Q>,
     plain: &mut Plain<'a, Q, J>,
     script: &[Line],
     sink: &mut MemSink,
-) -> Result<(), Fail>
-    requires { job.now ≡ J.job }
-{
-    let workers = job.shape().workers;
+) -> Result<(), Fail> {
     let mut steps = Vec::new(rt.alloc());
     let mut turns = Vec::new(rt.alloc());
     for (worker, kind, turn) in script {
-        assert!(rt; *worker < workers);
         steps.push((*worker, *kind))?;
         turns.push(*turn)?;
     }

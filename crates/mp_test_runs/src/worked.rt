@@ -136,11 +136,11 @@ fn counts_may_cancel<R: AllocGlobal + Abort, J: Naming>(rt: &R, job: &Job<Q1>) -
 {
     let mut sink = MemSink::new(rt.alloc());
     let mut plain = Plain::<Q1, J>::open(rt.alloc(), job, 64)?;
-    plays(rt, job, &mut plain, &both_on_the_way(), &mut sink)?;
+    plays(rt, &mut plain, &both_on_the_way(), &mut sink)?;
     assert_eq!(rt; plain.seen().frontier(Loc::Mail(0)), Frontier::At(5));
-    plays(rt, job, &mut plain, &first_is_taken(), &mut sink)?;
+    plays(rt, &mut plain, &first_is_taken(), &mut sink)?;
     assert_eq!(rt; plain.seen().frontier(Loc::Mail(0)), Frontier::Done);
-    plays(rt, job, &mut plain, &second_is_applied(), &mut sink)?;
+    plays(rt, &mut plain, &second_is_applied(), &mut sink)?;
     Ok(())
 }
 
@@ -186,9 +186,9 @@ fn shares_are_by_index<R: AllocGlobal + Abort, J: Naming>(rt: &R, job: &Job<Q1>)
 {
     let mut sink = MemSink::new(rt.alloc());
     let mut plain = Plain::<Q1, J>::open(rt.alloc(), job, 64)?;
-    plays(rt, job, &mut plain, &one_bid_each(), &mut sink)?;
+    plays(rt, &mut plain, &one_bid_each(), &mut sink)?;
     assert_eq!(rt; plain.seen().frontier(Loc::Source), Frontier::At(5));
-    plays(rt, job, &mut plain, &last_bid(), &mut sink)?;
+    plays(rt, &mut plain, &last_bid(), &mut sink)?;
     assert_eq!(rt; plain.seen().frontier(Loc::Source), Frontier::Done);
     Ok(())
 }
@@ -197,6 +197,34 @@ fn shares_are_by_index<R: AllocGlobal + Abort, J: Naming>(rt: &R, job: &Job<Q1>)
 fn shares_by_index(rt: HostRuntime) -> Result<(), Fail> {
     let job = four_bids(rt.alloc())?;
     shares_are_by_index::<_, Brand>(&rt, &job)
+}
+
+// Workers, a stage and a sender that the job hasn't.
+fn outside() -> [Line; 4] {
+    [
+        (3, Kind::Ingest, Turn::NotNow),
+        (u32::MAX, Kind::Exchange, Turn::NotNow),
+        (0, Kind::Route(1), Turn::NotNow),
+        (1, Kind::Receive(3), Turn::NotNow),
+    ]
+}
+
+// Places that the job hasn't have no step, before and after others.
+fn outside_is_not_now<R: AllocGlobal + Abort, J: Naming>(rt: &R, job: &Job<Q1>) -> Result<(), Fail>
+    requires job { job.now ≡ J.job }
+{
+    let mut sink = MemSink::new(rt.alloc());
+    let mut plain = Plain::<Q1, J>::open(rt.alloc(), job, 64)?;
+    plays(rt, &mut plain, &outside(), &mut sink)?;
+    plays(rt, &mut plain, &both_on_the_way(), &mut sink)?;
+    plays(rt, &mut plain, &outside(), &mut sink)?;
+    Ok(())
+}
+
+#[test]
+fn places_that_the_job_lacks(rt: HostRuntime) -> Result<(), Fail> {
+    let job = two_bids(rt.alloc())?;
+    outside_is_not_now::<_, Brand>(&rt, &job)
 }
 
 // What a whole run with this seed writes, and whether it makes no more than so many steps.

@@ -11,7 +11,7 @@ use Rattle.mp_names.specs.declared.names.Name.{Name}
 use Rattle.mp_names.specs.declared.names.Name.TheVariants.{Group}
 use Rattle.mp_names.specs.declared.pointstamps.ControlCursor.{ControlCursor}
 use Rattle.mp_names.specs.Keeping.{IsWaiting}
-use Rattle.mp_names.specs.Logs.{Log, empty_log, is_pending, with_applied}
+use Rattle.mp_names.specs.Logs.{Log, is_pending, with_applied}
 use Rattle.mp_names.specs.Outlines.{OutlineIsSound}
 use Rattle.mp_machine.specs.Steps.{IsNext, IsReady}
 use Rattle.mp_stamps.specs.declared.seen.Seen.{Seen}
@@ -97,6 +97,7 @@ pub record AppliesBy {Cell : Type 0} (q : QueryFacts Cell) : Type 0 where
 pub record Fields (Cell : Type 0) : Type 0 where
   pub number : ℕ
   pub log : WorkerLog
+  pub posted : Log
   pub seen : Seen
   pub notes : Notes
   pub next : ControlCursor
@@ -108,7 +109,7 @@ pub record Fields (Cell : Type 0) : Type 0 where
 
 -- a worker that has these keeps to what it is to
 abbrev pub Keeps : {Cell : Type 0} → QueryFacts Cell → JobFacts → JobFacts → Fields Cell → Type 0
-Keeps q job its f = IsKept q job its f.number f.log (parts_with f.log f.seen f.notes f.next f.routers f.hosts f.movers f.unsent f.unwritten)
+Keeps q job its f = IsKept q job its f.number f.log (parts_with f.log f.posted f.seen f.notes f.next f.routers f.hosts f.movers f.unsent f.unwritten)
 
 module _ {Cell : Type 0} (q : QueryFacts Cell) (keeps : AppliesBy q) (job its : JobFacts) (f : Fields Cell) (kept : Keeps q job its f) where
   o_sound : OutlineIsSound (outline_of q job)
@@ -119,17 +120,17 @@ module _ {Cell : Type 0} (q : QueryFacts Cell) (keeps : AppliesBy q) (job its : 
       → Keeps q job its (record f { log = new; routers = others; unsent = rows })
   kept_with_room new others rows l w same r =
       let still = other_routers kept.parts others (same_length others f.routers same) (routers_still q job f.log.worker f.log.log f.routers others same kept.parts.routers) in
-      kept_as kept new (parts_with new f.seen f.notes f.next others f.hosts f.movers rows f.unwritten) w (rw (l, w, r) still)
+      kept_as kept new (parts_with new f.posted f.seen f.notes f.next others f.hosts f.movers rows f.unwritten) w (rw (l, w, r) still)
 
   -- the worker as contracts see it
   abbrev pub state : WorkerState
-  state = record { number = f.number; log = f.log.log; seen = f.seen }
+  state = record { number = f.number; log = f.log.log; posted = f.posted; seen = f.seen }
 
   abbrev pub its_parts : Parts Cell
-  its_parts = parts_with f.log f.seen f.notes f.next f.routers f.hosts f.movers f.unsent f.unwritten
+  its_parts = parts_with f.log f.posted f.seen f.notes f.next f.routers f.hosts f.movers f.unsent f.unwritten
 
-  told : ConditionsAreTold q job its_parts empty_log
-  told = conditions_are_told q job o_sound its_parts kept.parts empty_log
+  told : ConditionsAreTold q job its_parts
+  told = conditions_are_told q job o_sound its_parts kept.parts
 
   steps : StepsKeepParts q job its_parts
   steps = steps_keep_parts q job o_sound its_parts kept.parts
@@ -164,7 +165,7 @@ module _ {Cell : Type 0} (q : QueryFacts Cell) (keeps : AppliesBy q) (job its : 
 
     -- the step of the machine
     abbrev Step : ℕ → ℕ → Name → Type 0
-    Step w i x = IsNext (outline_of q job) w (machine_worker its_parts empty_log) (Apply i) x × IsReady (outline_of q job) w (machine_worker its_parts empty_log) (Apply i) x
+    Step w i x = IsNext (outline_of q job) w (machine_worker its_parts) (Apply i) x × IsReady (outline_of q job) w (machine_worker its_parts) (Apply i) x
 
     pub none_to_apply : ((t k : ℕ) → IsReadyAt q job f.log.log f.seen h t k → ⊥) → (x : Name) → CanMake (outline_of q job) (Apply j) state x → ⊥
     none_to_apply none x can = told.no_apply h host_at.1 none x (subst (λ (i : ℕ). Step f.log.worker i x) (sym host_at.0) (subst (λ (w : ℕ). Step w j x) (sym kept.number) (can.next, can.ready)))

@@ -4,7 +4,7 @@ use Rattle.std.specs.Prelude.{replicate}
 use Rattle.std.proofs.lemmas.Bool.{cases_eq}
 use Rattle.std.proofs.Math.ListN.{get_or-append}
 use Rattle.std.proofs.Math.Seq.{get_or-append_seam}
-use Rattle.mp_names.specs.Logs.{empty_log}
+use Rattle.mp_names.specs.Logs.{Log, empty_log}
 use Rattle.mp_names.specs.Outlines.{OutlineIsSound}
 use Rattle.mp_stamps.specs.declared.seen.Seen.{Seen}
 use Rattle.mp_bins.specs.Notes.{IsShape, Notes}
@@ -37,9 +37,10 @@ module _ {Cell : Type 0} (q : QueryFacts Cell) (job : JobFacts) (sound : Outline
 
   module _ (w : ℕ) (seen : Seen) (inside : w < job.shape.workers) (opening : ShowsFrontiers (outline_of q job) (replicate job.shape.workers empty_log) seen) where
     pub parts_at_first :
-        (log : WorkerLog) (notes : Notes) (routers : List Routed) (hosts : List (Hosted Cell)) (movers : List MoversState) (unsent unwritten : Unwritten)
+        (log : WorkerLog) (posted : Log) (notes : Notes) (routers : List Routed) (hosts : List (Hosted Cell)) (movers : List MoversState) (unsent unwritten : Unwritten)
         → log.worker ≡ w
         → log.log ≡ empty_log
+        → posted ≡ empty_log
         → notes.shape ≡ job.shape
         → notes.noted ≡ []
         → length routers ≡ job.shape.stages
@@ -50,8 +51,8 @@ module _ {Cell : Type 0} (q : QueryFacts Cell) (job : JobFacts) (sound : Outline
         → AtEach movers (AreMoversAt q job w empty_log)
         → unsent.rows ≡ []
         → unwritten.rows ≡ []
-        → ArePartsOf q job (parts_with log seen notes (cursor 0 0) routers hosts movers unsent unwritten)
-    parts_at_first log notes routers hosts movers unsent unwritten number empty shape none all_routers at_routers all_hosts at_hosts all_movers at_movers no_unsent no_unwritten =
+        → ArePartsOf q job (parts_with log posted seen notes (cursor 0 0) routers hosts movers unsent unwritten)
+    parts_at_first log posted notes routers hosts movers unsent unwritten number empty nothing shape none all_routers at_routers all_hosts at_hosts all_movers at_movers no_unsent no_unwritten =
         let done = opening_is_told (outline_of q job) w seen sound inside opening in
-        rw (number, empty, no_unsent, no_unwritten)
+        rw (number, empty, nothing, no_unsent, no_unwritten)
         (parts_begin q job w seen notes routers hosts movers inside done shape none all_routers at_routers all_hosts at_hosts all_movers at_movers)

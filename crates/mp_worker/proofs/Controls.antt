@@ -9,7 +9,7 @@ use Rattle.mp_names.specs.declared.names.Name.TheVariants.{Ctrl, Settled}
 use Rattle.mp_names.specs.Controls.{control_of, no_control}
 use Rattle.mp_names.specs.Names.{has, is_ctrl}
 use Rattle.mp_names.specs.Keeping.{IsHeld}
-use Rattle.mp_names.specs.Logs.{Log, empty_log, is_noted, with_sent, with_took}
+use Rattle.mp_names.specs.Logs.{Log, is_noted, with_sent, with_took}
 use Rattle.mp_names.specs.Outlines.{OutlineIsSound}
 use Rattle.mp_names.proofs.Orders.{least_unique}
 use Rattle.mp_bins.specs.declared.owners.Note.{Note}
@@ -62,7 +62,7 @@ module _ {Cell : Type 0} {q : QueryFacts Cell} {job its : JobFacts} {number : â„
     receiver_fits = (kept.parts.next its_first).fits
 
     module _ (sound : OutlineIsSound (outline_of q job)) (listed : p.next.index < length job.controls) where
-      sends : CanDo q job p empty_log SendControl (Ctrl p.next.index p.next.receiver)
+      sends : CanDo q job p SendControl (Ctrl p.next.index p.next.receiver)
       sends = (told kept worker sound).send_control its_first listed
 
       pub can_send_control : CanMake (outline_of q job) SendControl (state kept worker) (Ctrl p.next.index p.next.receiver)

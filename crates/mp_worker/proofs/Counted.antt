@@ -1,5 +1,5 @@
 -- What a group gives is counted: how many names of the next stage are its outputs; and when it is.
-use Rattle.std.proofs.Common.{◌≡◌, ◌≢◌, ℕ, suc, ◌+◌, ◌-◌, ◌<◌, ◌≤◌, ◌==◌, Bool, true, false, Option, None, Some, List, [], ◌∷◌, All, AllPairs, Contains, IsSome, count_by, filter, length, map, not, refl, sym, ap, ◌∙◌, subst, arith}
+use Rattle.std.proofs.Common.{◌≡◌, ◌≢◌, ℕ, suc, ◌+◌, ◌-◌, ◌<◌, ◌≤◌, ◌==◌, Bool, true, Option, None, Some, List, [], ◌∷◌, All, AllPairs, Contains, IsSome, count_by, filter, length, map, not, refl, sym, ap, ◌∙◌, subst, arith}
 use Rattle.std.specs.List.{cons_option}
 use Rattle.std.specs.Option.{option_map}
 use Rattle.std.proofs.lemmas.Bool.{and_from, and_parts, eq-eqb, eqb-true, false≢true, ne_eqb}
@@ -9,7 +9,7 @@ use Rattle.mp_names.specs.declared.names.Name.{Name}
 use Rattle.mp_names.specs.declared.names.Name.TheVariants.{Group}
 use Rattle.mp_names.specs.Names.{In, Distinct}
 use Rattle.mp_names.specs.Outlines.{OutlineIsSound, groups_of}
-use Rattle.mp_names.proofs.Lists.{all_counted, counted, same_count}
+use Rattle.mp_names.proofs.Lists.{all_counted, same_count}
 use Rattle.mp_names.specs.Limits.{last_time}
 use Rattle.mp_names.proofs.NameParts.{same_row}
 use Rattle.mp_model.specs.declared.record.Rec.{Rec}

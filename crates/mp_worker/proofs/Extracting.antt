@@ -7,7 +7,7 @@ use Rattle.mp_names.specs.declared.locations.Loc.TheVariants.{Host}
 use Rattle.mp_names.specs.declared.names.Name.{Name}
 use Rattle.mp_names.specs.declared.names.Name.TheVariants.{Packet}
 use Rattle.mp_names.specs.Frontiers.{HasReached}
-use Rattle.mp_names.specs.Logs.{Log, empty_log, with_sent}
+use Rattle.mp_names.specs.Logs.{Log, with_sent}
 use Rattle.mp_names.specs.Names.{IsLeast}
 use Rattle.mp_names.specs.Outlines.{OutlineIsSound, receiver}
 use Rattle.mp_names.proofs.Orders.{least_unique}
@@ -76,7 +76,7 @@ module _ {Cell : Type 0} {q : QueryFacts Cell} {job its : JobFacts} {number : �
     reached_here : HasReached (seen_at p.seen (Host j)) t
     reached_here = subst (λ (i : ℕ). HasReached (seen_at p.seen (Host i)) t) at.0 here.1
 
-    extracts : CanDo q job p empty_log (Extract j) (Packet j b t)
+    extracts : CanDo q job p (Extract j) (Packet j b t)
     extracts = (told kept worker sound).extract j b t below least_here reached_here
 
     pub can_extract : CanMake (outline_of q job) (Extract j) (state kept worker) (Packet j b t)
@@ -84,7 +84,7 @@ module _ {Cell : Type 0} {q : QueryFacts Cell} {job its : JobFacts} {number : �
 
     -- no other is next
     pub one_packet : (x : Name) → CanMake (outline_of q job) (Extract j) (state kept worker) x → Packet j b t ≡ x
-    one_packet x can = least_unique (IsDue (outline_of q job) p.number (machine_worker p empty_log) j) (Packet j b t) x extracts.0 (can_do kept worker (Extract j) x can).0
+    one_packet x can = least_unique (IsDue (outline_of q job) p.number (machine_worker p) j) (Packet j b t) x extracts.0 (can_do kept worker (Extract j) x can).0
 
     -- the host may give it up
     pub leaves : (h : Hosted Cell) → IsHostAt q job p.number p.log j h → MayLeaveNow q job p.log h b t

@@ -17,7 +17,8 @@ use Rattle.mp_route.specs.Routed.{Routed}
 use Rattle.mp_route.specs.Unsent.{MayGo}
 use Rattle.mp_worker_invariant.specs.Parts.{ArePartsOf, AtEach, HoldsRowsBut, IsRouterAt, Parts}
 use Rattle.mp_worker_invariant.proofs.Kept.{steps_keep_parts}
-use Rattle.mp_refinement.specs.Ends.{PostMatchesLog, FollowsLog, Standing}
+use Rattle.mp_refinement.specs.Ends.{Standing}
+use Rattle.mp_refinement.specs.Served.{IsAtPost, PostFollows}
 use Rattle.mp_refinement.specs.State.{CanMake, Makes, WorkerState}
 use Rattle.mp_worker.specs.Kept.{IsKept}
 use Rattle.mp_worker.proofs.Keeping.{kept_by, other_routers}
@@ -41,49 +42,55 @@ module _ {Cell : Type 0} {q : QueryFacts Cell} {job its : JobFacts} {number : �
 
   -- What its parts say of steps, the machine says
 
-  pub may_route : (j : ℕ) (x : Name) → CanMake (outline_of q job) (Route j) (record { number = number; log = p.log; seen = p.seen }) x → MayGo q job p.number p.log j p.seen x
+  pub may_route : (j : ℕ) (x : Name) → CanMake (outline_of q job) (Route j) (record { number = number; log = p.log; posted = p.posted; seen = p.seen }) x → MayGo q job p.number p.log j p.seen x
   may_route j x can = (subst (λ (w : ℕ). IsLeast (IsHeld (outline_of q job) w p.log (is_rec j)) x) (sym number_is) can.next, can.ready)
 
   -- only one record may go
-  pub one_route : (j : ℕ) (x y : Name) → MayGo q job p.number p.log j p.seen x → CanMake (outline_of q job) (Route j) (record { number = number; log = p.log; seen = p.seen }) y → x ≡ y
+  pub one_route : (j : ℕ) (x y : Name) → MayGo q job p.number p.log j p.seen x → CanMake (outline_of q job) (Route j) (record { number = number; log = p.log; posted = p.posted; seen = p.seen }) y → x ≡ y
   one_route j x y may can = least_unique (IsHeld (outline_of q job) p.number p.log (is_rec j)) x y may.0 (may_route j y can).0
 
   module _ (l : Log) (x : Name) (sent : l ≡ with_sent p.log x) where
     pub makes_route : (j : ℕ) → j < job.shape.stages → MayGo q job p.number p.log j p.seen x
-        → Makes (outline_of q job) (Route j) (record { number = number; log = p.log; seen = p.seen }) x (record { number = number; log = l; seen = p.seen })
+        → Makes (outline_of q job) (Route j) (record { number = number; log = p.log; posted = p.posted; seen = p.seen }) x (record { number = number; log = l; posted = p.posted; seen = p.seen })
     makes_route j fits may = record {
       can = record {
         fits = fits;
         next = subst (λ (w : ℕ). IsLeast (IsHeld (outline_of q job) w p.log (is_rec j)) x) number_is may.0;
         ready = may.1;
       };
-      after = ap (λ (m : Log). record { number = number; log = m; seen = p.seen }) sent;
+      after = ap (λ (m : Log). record { number = number; log = m; posted = p.posted; seen = p.seen }) sent;
     }
 
     pub makes_send_row : IsLeast (IsHeld (outline_of q job) p.number p.log is_row) x
-        → Makes (outline_of q job) SendRow (record { number = number; log = p.log; seen = p.seen }) x (record { number = number; log = l; seen = p.seen })
+        → Makes (outline_of q job) SendRow (record { number = number; log = p.log; posted = p.posted; seen = p.seen }) x (record { number = number; log = l; posted = p.posted; seen = p.seen })
     makes_send_row least = record {
       can = record { fits = tt; next = subst (λ (w : ℕ). IsLeast (IsHeld (outline_of q job) w p.log is_row) x) number_is least; ready = tt };
-      after = ap (λ (m : Log). record { number = number; log = m; seen = p.seen }) sent;
+      after = ap (λ (m : Log). record { number = number; log = m; posted = p.posted; seen = p.seen }) sent;
     }
 
   -- What is said of the log's worker is said of this one
 
-  module _ (s : WorkerState) (view : record { number = number; log = p.log; seen = p.seen } ≡ s) where
+  module _ (s : WorkerState) (view : record { number = number; log = p.log; posted = p.posted; seen = p.seen } ≡ s) where
     same_number : s.number ≡ p.number
     same_number = ap (λ (t : WorkerState). t.number) (sym view) ∙ sym number_is
 
     same_names : s.log ≡ p.log
     same_names = ap (λ (t : WorkerState). t.log) (sym view)
 
-    pub ends_asked : (denotes : Standing) → PostMatchesLog denotes (outline_of q job) s.number s.log → PostMatchesLog denotes (outline_of q job) p.number p.log
-    ends_asked denotes ends =
-        subst (λ (l : Log). PostMatchesLog denotes (outline_of q job) p.number l) same_names (subst (λ (w : ℕ). PostMatchesLog denotes (outline_of q job) w s.log) same_number ends)
+    -- a worker whose log has the same names is as it was
+    pub same_state : (l : Log) → l ≡ p.log → record { number = number; log = l; posted = p.posted; seen = p.seen } ≡ s
+    same_state l is = ap (λ (m : Log). record { number = number; log = m; posted = p.posted; seen = p.seen }) is ∙ view
 
-    pub ends_told : (old new : Standing) (after : Log) → FollowsLog old new (outline_of q job) p.number p.log after → FollowsLog old new (outline_of q job) s.number s.log after
-    ends_told old new after ends =
-        subst (λ (l : Log). FollowsLog old new (outline_of q job) s.number l after) (sym same_names)
-        (subst (λ (w : ℕ). FollowsLog old new (outline_of q job) w p.log after) (sym same_number) ends)
+    module _ {P : Type 0} (workers depth : P → ℕ) (serves : P → ℕ → Type 0) (denotes : P → Standing) where
+      pub post_asked : (post : P) → IsAtPost workers depth serves denotes (outline_of q job) s.number s.log post → IsAtPost workers depth serves denotes (outline_of q job) p.number p.log post
+      post_asked post at =
+          subst (λ (l : Log). IsAtPost workers depth serves denotes (outline_of q job) p.number l post) same_names
+          (subst (λ (w : ℕ). IsAtPost workers depth serves denotes (outline_of q job) w s.log post) same_number at)
+
+      pub post_told : (old new : P) (after : Log) → PostFollows workers depth serves denotes (outline_of q job) p.number p.log after old new → PostFollows workers depth serves denotes (outline_of q job) s.number s.log after old new
+      post_told old new after follows =
+          subst (λ (l : Log). PostFollows workers depth serves denotes (outline_of q job) s.number l after old new) (sym same_names)
+          (subst (λ (w : ℕ). PostFollows workers depth serves denotes (outline_of q job) w p.log after old new) (sym same_number) follows)
 
     pub edge_told : (was : ℕ → ℕ → Type 0) (u v : ℕ) → u ≡ v → was p.number u → was s.number v
     edge_told was u v e h = subst (λ (w : ℕ). was w v) (sym same_number) (subst (was p.number) e h)

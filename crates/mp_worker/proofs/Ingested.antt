@@ -38,7 +38,7 @@ has_record q job w n i indices are inside at =
 module _ {Cell : Type 0} (q : QueryFacts Cell) (job : JobFacts) (sound : OutlineIsSound (outline_of q job)) (p : Parts Cell) (parts : ArePartsOf q job p) where
   -- the worker of these parts, as contracts see it
   abbrev state : ℕ → WorkerState
-  state w = record { number = w; log = p.log; seen = p.seen }
+  state w = record { number = w; log = p.log; posted = p.posted; seen = p.seen }
 
   ingests : SharesAreIngested q job p.number p.log
   ingests = shares_are_ingested q job sound p.number p.log parts.legal

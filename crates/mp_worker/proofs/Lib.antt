@@ -4,6 +4,7 @@ pub mod Packets
 pub mod Controls
 pub mod Counted
 pub mod Ended
+pub mod Exchanged
 pub mod Extracting
 pub mod Going
 pub mod Ingested
@@ -19,5 +20,6 @@ pub mod RowSent
 pub mod Sent
 pub mod Settling
 pub mod Stepped
+pub mod Turned
 pub mod Wakes
 pub mod Written

@@ -120,17 +120,17 @@ same_taken job w log old new shape noted are = record {
   taken = λ i. ap (λ (ns : List Note). is_noted ns i) noted ∙ are.taken i;
 }
 
-module _ {Cell : Type 0} (q : QueryFacts Cell) (job its : JobFacts) (number : ℕ) (seen : Seen) (next : ControlCursor) (routers : List Routed) (unsent : Unwritten) where
+module _ {Cell : Type 0} (q : QueryFacts Cell) (job its : JobFacts) (number : ℕ) (posted : Log) (seen : Seen) (next : ControlCursor) (routers : List Routed) (unsent : Unwritten) where
   -- a worker with this log, these notes, hosts and movers, and these rows to be written keeps to what it is to
   abbrev Keeps : WorkerLog → Notes → List (Hosted Cell) → List MoversState → Unwritten → Type 0
-  Keeps log notes hosts movers rows = IsKept q job its number log (parts_with log seen notes next routers hosts movers unsent rows)
+  Keeps log notes hosts movers rows = IsKept q job its number log (parts_with log posted seen notes next routers hosts movers unsent rows)
 
   -- room is made in the log, the notes and the rows
   pub front_roomy : (log new : WorkerLog) (notes more : Notes) (hosts : List (Hosted Cell)) (movers : List MoversState) (rows others : Unwritten)
       → Keeps log notes hosts movers rows → (new.worker ≡ log.worker) × (new.log ≡ log.log) → (more.shape ≡ notes.shape) × (more.noted ≡ notes.noted) → others.rows ≡ rows.rows
       → Keeps new more hosts movers others
   front_roomy log new notes more hosts movers rows others kept l n r =
-      kept_as kept new (parts_with new seen more next routers hosts movers unsent others) l.0
+      kept_as kept new (parts_with new posted seen more next routers hosts movers unsent others) l.0
       (rw (l.0, l.1, r) (other_notes kept.parts more (same_taken job log.worker log.log notes more n.0 n.1 kept.parts.notes)))
 
   -- room is made in the hosts, which are lent as a slice
@@ -139,7 +139,7 @@ module _ {Cell : Type 0} (q : QueryFacts Cell) (job its : JobFacts) (number : �
       → Keeps log notes (take n (roomy ++ drop (length roomy) hosts)) movers rows
   hosts_roomy log notes hosts lent roomy movers rows n kept is count same =
       let there = subst (λ (hs : List (Hosted Cell)). SameHosts hs roomy) is same in
-      kept_as kept log (parts_with log seen notes next routers (take n (roomy ++ drop (length roomy) hosts)) movers unsent rows) refl
+      kept_as kept log (parts_with log posted seen notes next routers (take n (roomy ++ drop (length roomy) hosts)) movers unsent rows) refl
       (rw (written_back without_room hosts lent roomy n count same)
       (other_hosts kept.parts roomy (same_length without_room hosts roomy there) (same_each without_room (IsHostAt q job log.worker log.log) (same_host q job log.worker log.log) hosts roomy there kept.parts.hosts)))
 
@@ -149,13 +149,13 @@ module _ {Cell : Type 0} (q : QueryFacts Cell) (job its : JobFacts) (number : �
       → Keeps log notes hosts (take n (roomy ++ drop (length roomy) movers)) rows
   movers_roomy log notes hosts movers lent roomy rows n kept is count same =
       let there = subst (λ (ms : List MoversState). SameMovers ms roomy) is same in
-      kept_as kept log (parts_with log seen notes next routers hosts (take n (roomy ++ drop (length roomy) movers)) unsent rows) refl
+      kept_as kept log (parts_with log posted seen notes next routers hosts (take n (roomy ++ drop (length roomy) movers)) unsent rows) refl
       (rw (written_back roomless movers lent roomy n count same)
       (other_movers kept.parts roomy (same_length roomless movers roomy there) (same_each roomless (AreMoversAt q job log.worker log.log) (same_movers q job log.worker log.log) movers roomy there kept.parts.movers)))
 
   module _ (sound : OutlineIsSound (outline_of q job)) (log new : WorkerLog) (notes : Notes) (hosts : List (Hosted Cell)) (movers : List MoversState) (rows : Unwritten) (kept : Keeps log notes hosts movers rows) (x : Name) (owed : IsOwedTo (outline_of q job) log.worker x) (fresh : has log.log.took x ≡ false) (l : (new.worker ≡ log.worker) × (new.log ≡ with_took log.log x)) where
     abbrev p : Parts Cell
-    p = parts_with log seen notes next routers hosts movers unsent rows
+    p = parts_with log posted seen notes next routers hosts movers unsent rows
 
     owed_as : (y : Name) → x ≡ y → IsOwedTo (outline_of q job) log.worker y
     owed_as y is = subst (λ (z : Name). IsOwedTo (outline_of q job) log.worker z) is owed
@@ -170,25 +170,25 @@ module _ {Cell : Type 0} (q : QueryFacts Cell) (job its : JobFacts) (number : �
         let taken = (steps_keep_parts q job sound p kept.parts).receive_control i noted m (owed_as (Ctrl i log.worker) is) (fresh_as (Ctrl i log.worker) is)
         (subst (λ (d : Control). noted ≡ record notes { noted = with_note notes.noted (record { index = i; control = d }); room = noted.room }) of_job with_it)
         (subst (λ (y : Name). AreMoversAt q job log.worker (with_took log.log y) (control_of job.controls i).stage m) is (subst (λ (d : Control). AreMoversAt q job log.worker (with_took log.log x) d.stage m) of_job at)) in
-        kept_as kept new (parts_with new seen noted next routers hosts (set movers c.stage m) unsent rows) l.0 (rw (l.0, l.1, is, of_job) taken)
+        kept_as kept new (parts_with new posted seen noted next routers hosts (set movers c.stage m) unsent rows) l.0 (rw (l.0, l.1, is, of_job) taken)
 
     -- a record is taken
     pub record_taken : (j t k : ℕ) (g : Tag) → x ≡ RecName j t k g → (h : Hosted Cell) → IsHostAt q job log.worker (with_took log.log x) j h → Keeps new notes (set hosts j h) movers rows
     record_taken j t k g is h holds =
         let taken = (steps_keep_parts q job sound p kept.parts).receive j t k g h (owed_as (RecName j t k g) is) (fresh_as (RecName j t k g) is)
         (subst (λ (y : Name). IsHostAt q job log.worker (with_took log.log y) j h) is holds) in
-        kept_as kept new (parts_with new seen notes next routers (set hosts j h) movers unsent rows) l.0 (rw (l.0, l.1, is) taken)
+        kept_as kept new (parts_with new posted seen notes next routers (set hosts j h) movers unsent rows) l.0 (rw (l.0, l.1, is) taken)
 
     -- the state of a bin is taken
     pub packet_taken : (j b t : ℕ) → x ≡ Packet j b t → (h : Hosted Cell) → IsHostAt q job log.worker (with_took log.log x) j h → Keeps new notes (set hosts j h) movers rows
     packet_taken j b t is h holds =
         let taken = (steps_keep_parts q job sound p kept.parts).receive_packet j b t h (owed_as (Packet j b t) is) (fresh_as (Packet j b t) is)
         (subst (λ (y : Name). IsHostAt q job log.worker (with_took log.log y) j h) is holds) in
-        kept_as kept new (parts_with new seen notes next routers (set hosts j h) movers unsent rows) l.0 (rw (l.0, l.1, is) taken)
+        kept_as kept new (parts_with new posted seen notes next routers (set hosts j h) movers unsent rows) l.0 (rw (l.0, l.1, is) taken)
 
     -- an answer row is taken
     pub row_taken : (t : ℕ) (g : Tag) → x ≡ Row t g → (more : Unwritten) → HoldsUnwritten (with_took log.log x) more.rows → Keeps new notes hosts movers more
     row_taken t g is more holds =
         let taken = (steps_keep_parts q job sound p kept.parts).receive_row t g more.rows (owed_as (Row t g) is) (fresh_as (Row t g) is)
         (subst (λ (y : Name). HoldsUnwritten (with_took log.log y) more.rows) is holds) in
-        kept_as kept new (parts_with new seen notes next routers hosts movers unsent more) l.0 (rw (l.0, l.1, is) taken)
+        kept_as kept new (parts_with new posted seen notes next routers hosts movers unsent more) l.0 (rw (l.0, l.1, is) taken)

@@ -1,5 +1,6 @@
 -- What a worker keeps to: its parts hold what its log says.
 use Rattle.std.specs.Prelude.{◌≡◌, ℕ, List}
+use Rattle.mp_names.specs.Logs.{Log}
 use Rattle.mp_names.specs.declared.pointstamps.ControlCursor.{ControlCursor}
 use Rattle.mp_stamps.specs.declared.seen.Seen.{Seen}
 use Rattle.mp_bins.specs.Notes.{Notes}
@@ -14,11 +15,12 @@ use Rattle.mp_output.specs.Unwritten.{Unwritten}
 use Rattle.mp_worker_invariant.specs.Parts.{ArePartsOf, Parts}
 
 -- the parts of a worker
-abbrev pub parts_with : {Cell : Type 0} → WorkerLog → Seen → Notes → ControlCursor → List Routed → List (Hosted Cell) → List MoversState → Unwritten → Unwritten → Parts Cell
-parts_with log seen notes next routers hosts movers unsent unwritten =
+abbrev pub parts_with : {Cell : Type 0} → WorkerLog → Log → Seen → Notes → ControlCursor → List Routed → List (Hosted Cell) → List MoversState → Unwritten → Unwritten → Parts Cell
+parts_with log posted seen notes next routers hosts movers unsent unwritten =
     record {
       number = log.worker;
       log = log.log;
+      posted = posted;
       seen = seen;
       notes = notes;
       next = next;

@@ -1,5 +1,6 @@
 -- What the contracts of this crate cite.
 pub mod Done
+pub mod Exchanging
 pub mod Kept
 pub mod Rooms
 pub mod Sending

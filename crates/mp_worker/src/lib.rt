@@ -3,22 +3,25 @@
 //! One worker of a running dataflow: its parts, and the ten kinds of step that it makes, each as the machine has it.
 #![tactic(auto)]
 
-mod applying;
-mod beginning;
-mod coming;
-mod controlling;
-mod ending;
-mod exchanging;
-mod ingesting;
-mod moving;
-mod receiving;
-mod rooms;
-mod sending;
-mod stepping;
+mod apply;
+mod exchange;
+mod extract;
+mod finished;
+mod ingest;
+mod receive;
+mod room;
+mod route;
+mod send;
+mod send_control;
+mod send_row;
+mod settle;
+mod start;
+mod step;
+mod take;
 mod tally;
 mod turn;
 mod worker;
-mod writing;
+mod write;
 
 pub use turn::{Stop, Turn};
 pub use worker::Worker;

@@ -1,4 +1,5 @@
 //! A worker and its parts.
+use crate::room::PacketLists;
 use mp_bins::Owners;
 use mp_handoff::Movers;
 use mp_host::Host;
@@ -11,15 +12,18 @@ use mp_rows::Log;
 use mp_stamps::Seen;
 use std::alloc::Global;
 use std::marker::Model;
+use std::snapshot::Snapshot;
 
-/// One worker of the job J of the query Q. Contracts see a `WorkerState`: its number, its log, and what it saw at its last
-/// exchange. The query's last stage gives rows alone.
+/// One worker of the job J of the query Q. Contracts see a `WorkerState`: its number, its log, the log that it posted last,
+/// and what it saw at its last exchange. The query's last stage gives rows alone.
 #[derive(Drop)]
 pub struct Worker<'a, Q: Query, J: Naming> {
     pub(crate) alloc: Global,
     pub(crate) job: &'a Job<Q>,
     pub(crate) number: u32,
     pub(crate) log: Log<Q, J>,
+    // The log that it posted last; no more than proofs see.
+    pub(crate) posted: Snapshot<Log<Q, J>>,
     pub(crate) seen: Seen,
     // The control records that it took.
     pub(crate) owners: Owners,
@@ -33,6 +37,8 @@ pub struct Worker<'a, Q: Query, J: Naming> {
     pub(crate) unsent: Unsent<Q, J>,
     // The answer rows that it took, on worker 0.
     pub(crate) rows: Rows<Q, J>,
+    // For the next packet that it takes.
+    pub(crate) lists: PacketLists,
 }
 
 impl<'a, Q: Query, J: Naming> Model for Worker<'a, Q, J> {
@@ -41,9 +47,9 @@ impl<'a, Q: Query, J: Naming> Model for Worker<'a, Q, J> {
 
     ghost Value = { WorkerState };
 
-    ghost view = { λ w. record { number = w.number; log = w.log.log; seen = w.seen } };
+    ghost view = { λ w. record { number = w.number; log = w.log.log; posted = w.posted.value.log; seen = w.seen } };
 
     ghost invariant = { λ w.
         IsKept (Q.facts J.job.rules) J.job w.job.now w.number w.log
-        (parts_with w.log w.seen w.owners w.next w.routers.items w.hosts.items w.movers.items w.unsent w.rows) };
+        (parts_with w.log w.posted.value.log w.seen w.owners w.next w.routers.items w.hosts.items w.movers.items w.unsent w.rows) };
 }

@@ -7,7 +7,7 @@ use Rattle.mp_names.specs.declared.names.Name.{Name}
 use Rattle.mp_names.specs.declared.names.Name.TheVariants.{Ctrl, Packet, Group, Settled, Written}
 use Rattle.mp_names.specs.Names.{has, In, IsLeast, is_ctrl, Less}
 use Rattle.mp_names.specs.Outlines.{IsOwedBy, OutlineIsSound, time_of}
-use Rattle.mp_names.specs.Logs.{Log, InHand, InHandBefore}
+use Rattle.mp_names.specs.Logs.{InHand, InHandBefore}
 use Rattle.mp_names.specs.Frontiers.{HasPassed, HasReached}
 use Rattle.mp_names.specs.Keeping.{IsHeld, IsUnsettled, IsUnwritten, IsWaiting}
 use Rattle.mp_names.proofs.Listed.{groups_are}
@@ -32,20 +32,20 @@ less_before i v n m less = is_so_before (cursor n m) i v before
     before : (i < n) ⊎ ((i ≡ n) × (v < m))
     before = grind arith
 
-module _ {Cell : Type 0} (q : QueryFacts Cell) (job : JobFacts) (sound : OutlineIsSound (outline_of q job)) (p : Parts Cell) (parts : ArePartsOf q job p) (posted : Log) where
+module _ {Cell : Type 0} (q : QueryFacts Cell) (job : JobFacts) (sound : OutlineIsSound (outline_of q job)) (p : Parts Cell) (parts : ArePartsOf q job p) where
   -- of the control records that are held none comes before the place of the next one
   held_from_next : AreSentBefore job p.log p.next → (y : Name) → IsHeld (outline_of q job) p.number p.log is_ctrl y → Less y (Ctrl p.next.index p.next.receiver) → ⊥
   held_from_next before (Ctrl i v) held less =
       both_ways (has p.log.sent (Ctrl i v)) held.3 (before.sent i v held.1.0 held.1.1 ∙ less_before i v p.next.index p.next.receiver less)
   held_from_next before _ held less = absurd (false≢true held.0)
 
-  can_send_control : p.number ≡ 0 → p.next.index < length job.controls → CanDo q job p posted SendControl (Ctrl p.next.index p.next.receiver)
+  can_send_control : p.number ≡ 0 → p.next.index < length job.controls → CanDo q job p SendControl (Ctrl p.next.index p.next.receiver)
   can_send_control first listed =
       let before = parts.next first in
       let unsent = before.sent p.next.index p.next.receiver listed before.fits ∙ place_not_before p.next in
       (((refl, (listed, before.fits), eq-eqb p.number 0 first, unsent), held_from_next before), tt)
 
-  cant_send_control : (p.number ≡ 0 → length job.controls ≤ p.next.index) → (x : Name) → CanDo q job p posted SendControl x → ⊥
+  cant_send_control : (p.number ≡ 0 → length job.controls ≤ p.next.index) → (x : Name) → CanDo q job p SendControl x → ⊥
   cant_send_control over x can = form x can.0.0
     where
       form : (x : Name) → IsHeld (outline_of q job) p.number p.log is_ctrl x → ⊥
@@ -59,11 +59,11 @@ module _ {Cell : Type 0} (q : QueryFacts Cell) (job : JobFacts) (sound : Outline
       form _ held = absurd (false≢true held.0)
 
   -- a packet that is due by what was seen is due, and the other way round
-  due_here : (j : ℕ) (x : Name) → IsDue (outline_of q job) p.number (machine_worker p posted) j x → IsDueHere (outline_of q job) p.log p.seen p.number j x
+  due_here : (j : ℕ) (x : Name) → IsDue (outline_of q job) p.number (machine_worker p) j x → IsDueHere (outline_of q job) p.log p.seen p.number j x
   due_here j (Packet i b t) due = due
   due_here j _ due = due
 
-  here_due : (j : ℕ) (x : Name) → IsDueHere (outline_of q job) p.log p.seen p.number j x → IsDue (outline_of q job) p.number (machine_worker p posted) j x
+  here_due : (j : ℕ) (x : Name) → IsDueHere (outline_of q job) p.log p.seen p.number j x → IsDue (outline_of q job) p.number (machine_worker p) j x
   here_due j (Packet i b t) due = due
   here_due j _ due = due
 
@@ -74,13 +74,13 @@ module _ {Cell : Type 0} (q : QueryFacts Cell) (job : JobFacts) (sound : Outline
       let legal = packet_legal q job sound p.number parts.worker p.log parts.legal p.seen parts.done j b t least reached in
       (legal.sent_given x (In_right x p.log.sent (x ∷ []) (In_here x []))).0
 
-  can_extract : (j b t : ℕ) → IsLeast (IsDueHere (outline_of q job) p.log p.seen p.number j) (Packet j b t) → HasReached (seen_at p.seen (Host j)) t → CanDo q job p posted (Extract j) (Packet j b t)
+  can_extract : (j b t : ℕ) → IsLeast (IsDueHere (outline_of q job) p.log p.seen p.number j) (Packet j b t) → HasReached (seen_at p.seen (Host j)) t → CanDo q job p (Extract j) (Packet j b t)
   can_extract j b t least reached = ((here_due j (Packet j b t) least.0, (λ y due less. least.1 y (due_here j y due) less)), (reached, due_in_hand j b t least reached))
 
-  cant_extract : (j : ℕ) → ((b t : ℕ) → IsLeast (IsDueHere (outline_of q job) p.log p.seen p.number j) (Packet j b t) → HasReached (seen_at p.seen (Host j)) t → ⊥) → (x : Name) → CanDo q job p posted (Extract j) x → ⊥
+  cant_extract : (j : ℕ) → ((b t : ℕ) → IsLeast (IsDueHere (outline_of q job) p.log p.seen p.number j) (Packet j b t) → HasReached (seen_at p.seen (Host j)) t → ⊥) → (x : Name) → CanDo q job p (Extract j) x → ⊥
   cant_extract j none x can = form x (due_here j x can.0.0, (λ y due less. can.0.1 y (here_due j y due) less)) can.1
     where
-      form : (x : Name) → IsLeast (IsDueHere (outline_of q job) p.log p.seen p.number j) x → MayLeave (outline_of q job) p.number (machine_worker p posted) j x → ⊥
+      form : (x : Name) → IsLeast (IsDueHere (outline_of q job) p.log p.seen p.number j) x → MayLeave (outline_of q job) p.number (machine_worker p) j x → ⊥
       form (Packet i b t) least may =
           let o = outline_of q job in
           none b t (subst (λ (n : ℕ). IsLeast (IsDueHere o p.log p.seen p.number j) (Packet n b t)) least.0.0.0 least) may.0
@@ -88,43 +88,43 @@ module _ {Cell : Type 0} (q : QueryFacts Cell) (job : JobFacts) (sound : Outline
 
   cant_settle : (j : ℕ)
       → ((t : ℕ) → IsLeast (IsUnsettled (outline_of q job) p.log j) (Settled j t) → HasPassed (seen_at p.seen CtlMail) t → ((b : ℕ) → IsOwedBy (outline_of q job) p.number (Packet j b t) → In (Packet j b t) p.log.sent) → ⊥)
-      → (x : Name) → CanDo q job p posted (Settle j) x → ⊥
+      → (x : Name) → CanDo q job p (Settle j) x → ⊥
   cant_settle j none x can = form x can.0 can.1
     where
-      form : (x : Name) → IsLeast (IsUnsettled (outline_of q job) p.log j) x → MaySettle (outline_of q job) p.number (machine_worker p posted) j x → ⊥
+      form : (x : Name) → IsLeast (IsUnsettled (outline_of q job) p.log j) x → MaySettle (outline_of q job) p.number (machine_worker p) j x → ⊥
       form (Settled i t) least may = none t (subst (λ (n : ℕ). IsLeast (IsUnsettled (outline_of q job) p.log j) (Settled n t)) least.0.0 least) may.0 may.1
       form _ least may = may
 
   -- a group that is ready is one that the machine may apply
-  can_apply : (h : Hosted Cell) (t k : ℕ) → h.worker ≡ p.number → IsReadyAt q job p.log p.seen h t k → CanDo q job p posted (Apply h.stage) (Group h.stage t k)
+  can_apply : (h : Hosted Cell) (t k : ℕ) → h.worker ≡ p.number → IsReadyAt q job p.log p.seen h t k → CanDo q job p (Apply h.stage) (Group h.stage t k)
   can_apply h t k own ready =
       let o = outline_of q job in
       (ready.least, (ready.mail, ready.state, subst (λ (w : ℕ). InHand o w p.log h.stage (o.bin_of k) t) own ready.in_hand))
 
   ready_group : (h : Hosted Cell) → h.worker ≡ p.number → (t k : ℕ) → IsLeast (IsWaiting (outline_of q job) p.log h.stage) (Group h.stage t k)
-      → MayApply (outline_of q job) p.number (machine_worker p posted) h.stage (Group h.stage t k) → IsReadyAt q job p.log p.seen h t k
+      → MayApply (outline_of q job) p.number (machine_worker p) h.stage (Group h.stage t k) → IsReadyAt q job p.log p.seen h t k
   ready_group h own t k least may =
       let o = outline_of q job in
       record { least = least; mail = may.0; state = may.1; in_hand = subst (λ (w : ℕ). InHand o w p.log h.stage (o.bin_of k) t) (sym own) may.2 }
 
-  cant_apply : (h : Hosted Cell) → h.worker ≡ p.number → ((t k : ℕ) → IsReadyAt q job p.log p.seen h t k → ⊥) → (x : Name) → CanDo q job p posted (Apply h.stage) x → ⊥
+  cant_apply : (h : Hosted Cell) → h.worker ≡ p.number → ((t k : ℕ) → IsReadyAt q job p.log p.seen h t k → ⊥) → (x : Name) → CanDo q job p (Apply h.stage) x → ⊥
   cant_apply h own none x can = form x can.0 can.1
     where
-      form : (x : Name) → IsLeast (IsWaiting (outline_of q job) p.log h.stage) x → MayApply (outline_of q job) p.number (machine_worker p posted) h.stage x → ⊥
+      form : (x : Name) → IsLeast (IsWaiting (outline_of q job) p.log h.stage) x → MayApply (outline_of q job) p.number (machine_worker p) h.stage x → ⊥
       form (Group i t k) least may =
           let o = outline_of q job in
           let e : i ≡ h.stage = eqb-true i h.stage (groups_are o sound h.stage (Group i t k) least.0.0).1 in
           none t k (ready_group h own t k (subst (λ (n : ℕ). IsLeast (IsWaiting o p.log h.stage) (Group n t k)) e least) may)
       form _ least may = may
 
-  cant_write : (p.number ≡ 0 → (t : ℕ) → IsLeast (IsUnwritten p.log) (Written t) → HasPassed (seen_at p.seen OutMail) t → ⊥) → (x : Name) → CanDo q job p posted Write x → ⊥
+  cant_write : (p.number ≡ 0 → (t : ℕ) → IsLeast (IsUnwritten p.log) (Written t) → HasPassed (seen_at p.seen OutMail) t → ⊥) → (x : Name) → CanDo q job p Write x → ⊥
   cant_write none x can = form x can.0.0 can.0.1 can.1
     where
       form : (x : Name) → p.number ≡ 0 → IsLeast (IsUnwritten p.log) x → HasPassed (seen_at p.seen OutMail) (time_of (outline_of q job) x) → ⊥
       form (Written t) e least passed = none e t least passed
       form _ e least passed = least.0
 
-  pub conditions_are_told : ConditionsAreTold q job p posted
+  pub conditions_are_told : ConditionsAreTold q job p
   conditions_are_told = record {
     ingest = λ x next. (next, tt);
     no_ingest = λ none x can. none x can.0;

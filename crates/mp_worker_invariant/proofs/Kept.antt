@@ -415,7 +415,7 @@ module _ {Cell : Type 0} (q : QueryFacts Cell) (job : JobFacts) (sound : Outline
           unsent = unsent.settled p.log p.unsent x parts.unsent;
           unwritten = holds;
         };
-    see = λ seen done. record {
+    see = λ posted seen done. record {
       worker = parts.worker;
       legal = parts.legal;
       done = done;

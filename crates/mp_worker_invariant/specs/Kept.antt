@@ -104,8 +104,8 @@ module _ {Cell : Type 0} (q : QueryFacts Cell) (job : JobFacts) where
     -- the answer rows of a time are written
     pub write : (t : ℕ) (rows : List Output) → p.number ≡ 0 → IsLeast (IsUnwritten p.log) (Written t) → HasPassed (seen_at p.seen OutMail) t
         → HoldsUnwritten (with_settled p.log (Written t)) rows → ArePartsOf q job (with_unwritten p (with_settled p.log (Written t)) rows)
-    -- new frontiers are seen
-    pub see : (seen : Seen) → SeenIsDone (outline_of q job) p.number p.log seen → ArePartsOf q job (record p { seen = seen })
+    -- a log is posted, and new frontiers are seen
+    pub see : (posted : Log) (seen : Seen) → SeenIsDone (outline_of q job) p.number p.log seen → ArePartsOf q job (record p { posted = posted; seen = seen })
 
   abbrev pub StepsAlwaysKeepParts : Type 0
   StepsAlwaysKeepParts = (p : Parts Cell) → ArePartsOf q job p → StepsKeepParts p
@@ -133,4 +133,4 @@ module _ {Cell : Type 0} (q : QueryFacts Cell) (job : JobFacts) where
       → AtEach hosts (IsHostAt q job w empty_log)
       → length movers ≡ job.shape.stages
       → AtEach movers (AreMoversAt q job w empty_log)
-      → ArePartsOf q job (record { number = w; log = empty_log; seen = seen; notes = notes; next = cursor 0 0; routers = routers; hosts = hosts; movers = movers; unsent = []; unwritten = [] })
+      → ArePartsOf q job (record { number = w; log = empty_log; posted = empty_log; seen = seen; notes = notes; next = cursor 0 0; routers = routers; hosts = hosts; movers = movers; unsent = []; unwritten = [] })

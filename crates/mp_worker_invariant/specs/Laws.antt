@@ -131,25 +131,25 @@ module _ {Cell : Type 0} (q : QueryFacts Cell) (job : JobFacts) where
     pub sent : (row : Output) (rest : List Output) → HoldsRowsBut q job w log [] (row ∷ rest) → HoldsRowsBut q job w (with_sent log (name_of_row row)) [] rest
     pub none : HoldsRowsBut q job w log [] [] → (x : Name) → IsHeld (outline_of q job) w log is_row x → ⊥
 
-  -- the condition of a step is true of the worker of the machine that these are the parts of, where it last posted that log
-  abbrev pub CanDo : Parts Cell → Log → Kind → Name → Type 0
-  CanDo p posted kind x = IsNext (outline_of q job) p.number (machine_worker p posted) kind x × IsReady (outline_of q job) p.number (machine_worker p posted) kind x
+  -- the condition of a step is true of the worker of the machine that these are the parts of
+  abbrev pub CanDo : Parts Cell → Kind → Name → Type 0
+  CanDo p kind x = IsNext (outline_of q job) p.number (machine_worker p) kind x × IsReady (outline_of q job) p.number (machine_worker p) kind x
 
   -- What the parts say of the conditions of steps
-  pub record ConditionsAreTold (p : Parts Cell) (posted : Log) : Type 0 where
-    pub ingest : (x : Name) → IsPrefix (p.log.ingested ++ x ∷ []) (share (outline_of q job) p.number) → CanDo p posted Ingest x
-    pub no_ingest : ((x : Name) → IsPrefix (p.log.ingested ++ x ∷ []) (share (outline_of q job) p.number) → ⊥) → (x : Name) → CanDo p posted Ingest x → ⊥
-    pub send_control : p.number ≡ 0 → p.next.index < length job.controls → CanDo p posted SendControl (Ctrl p.next.index p.next.receiver)
-    pub no_send_control : (p.number ≡ 0 → length job.controls ≤ p.next.index) → (x : Name) → CanDo p posted SendControl x → ⊥
-    pub extract : (j b t : ℕ) → j < job.shape.stages → IsLeast (IsDueHere (outline_of q job) p.log p.seen p.number j) (Packet j b t) → HasReached (seen_at p.seen (HostLoc j)) t → CanDo p posted (Extract j) (Packet j b t)
-    pub no_extract : (j : ℕ) → ((b t : ℕ) → IsLeast (IsDueHere (outline_of q job) p.log p.seen p.number j) (Packet j b t) → HasReached (seen_at p.seen (HostLoc j)) t → ⊥) → (x : Name) → CanDo p posted (Extract j) x → ⊥
-    pub settle : (j t : ℕ) → IsLeast (IsUnsettled (outline_of q job) p.log j) (Settled j t) → HasPassed (seen_at p.seen CtlMail) t → ((b : ℕ) → IsOwedBy (outline_of q job) p.number (Packet j b t) → In (Packet j b t) p.log.sent) → CanDo p posted (Settle j) (Settled j t)
-    pub no_settle : (j : ℕ) → ((t : ℕ) → IsLeast (IsUnsettled (outline_of q job) p.log j) (Settled j t) → HasPassed (seen_at p.seen CtlMail) t → ((b : ℕ) → IsOwedBy (outline_of q job) p.number (Packet j b t) → In (Packet j b t) p.log.sent) → ⊥) → (x : Name) → CanDo p posted (Settle j) x → ⊥
-    pub route : (j : ℕ) (x : Name) → MayGo q job p.number p.log j p.seen x → CanDo p posted (Route j) x
-    pub no_route : (j : ℕ) → ((x : Name) → MayGo q job p.number p.log j p.seen x → ⊥) → (x : Name) → CanDo p posted (Route j) x → ⊥
-    pub apply : (h : Hosted Cell) (t k : ℕ) → h.worker ≡ p.number → IsReadyAt q job p.log p.seen h t k → CanDo p posted (Apply h.stage) (Group h.stage t k)
-    pub no_apply : (h : Hosted Cell) → h.worker ≡ p.number → ((t k : ℕ) → IsReadyAt q job p.log p.seen h t k → ⊥) → (x : Name) → CanDo p posted (Apply h.stage) x → ⊥
-    pub send_row : (x : Name) → IsLeast (IsHeld (outline_of q job) p.number p.log is_row) x → CanDo p posted SendRow x
-    pub no_send_row : ((x : Name) → IsHeld (outline_of q job) p.number p.log is_row x → ⊥) → (x : Name) → CanDo p posted SendRow x → ⊥
-    pub write : (t : ℕ) → p.number ≡ 0 → IsLeast (IsUnwritten p.log) (Written t) → HasPassed (seen_at p.seen OutMail) t → CanDo p posted Write (Written t)
-    pub no_write : (p.number ≡ 0 → (t : ℕ) → IsLeast (IsUnwritten p.log) (Written t) → HasPassed (seen_at p.seen OutMail) t → ⊥) → (x : Name) → CanDo p posted Write x → ⊥
+  pub record ConditionsAreTold (p : Parts Cell) : Type 0 where
+    pub ingest : (x : Name) → IsPrefix (p.log.ingested ++ x ∷ []) (share (outline_of q job) p.number) → CanDo p Ingest x
+    pub no_ingest : ((x : Name) → IsPrefix (p.log.ingested ++ x ∷ []) (share (outline_of q job) p.number) → ⊥) → (x : Name) → CanDo p Ingest x → ⊥
+    pub send_control : p.number ≡ 0 → p.next.index < length job.controls → CanDo p SendControl (Ctrl p.next.index p.next.receiver)
+    pub no_send_control : (p.number ≡ 0 → length job.controls ≤ p.next.index) → (x : Name) → CanDo p SendControl x → ⊥
+    pub extract : (j b t : ℕ) → j < job.shape.stages → IsLeast (IsDueHere (outline_of q job) p.log p.seen p.number j) (Packet j b t) → HasReached (seen_at p.seen (HostLoc j)) t → CanDo p (Extract j) (Packet j b t)
+    pub no_extract : (j : ℕ) → ((b t : ℕ) → IsLeast (IsDueHere (outline_of q job) p.log p.seen p.number j) (Packet j b t) → HasReached (seen_at p.seen (HostLoc j)) t → ⊥) → (x : Name) → CanDo p (Extract j) x → ⊥
+    pub settle : (j t : ℕ) → IsLeast (IsUnsettled (outline_of q job) p.log j) (Settled j t) → HasPassed (seen_at p.seen CtlMail) t → ((b : ℕ) → IsOwedBy (outline_of q job) p.number (Packet j b t) → In (Packet j b t) p.log.sent) → CanDo p (Settle j) (Settled j t)
+    pub no_settle : (j : ℕ) → ((t : ℕ) → IsLeast (IsUnsettled (outline_of q job) p.log j) (Settled j t) → HasPassed (seen_at p.seen CtlMail) t → ((b : ℕ) → IsOwedBy (outline_of q job) p.number (Packet j b t) → In (Packet j b t) p.log.sent) → ⊥) → (x : Name) → CanDo p (Settle j) x → ⊥
+    pub route : (j : ℕ) (x : Name) → MayGo q job p.number p.log j p.seen x → CanDo p (Route j) x
+    pub no_route : (j : ℕ) → ((x : Name) → MayGo q job p.number p.log j p.seen x → ⊥) → (x : Name) → CanDo p (Route j) x → ⊥
+    pub apply : (h : Hosted Cell) (t k : ℕ) → h.worker ≡ p.number → IsReadyAt q job p.log p.seen h t k → CanDo p (Apply h.stage) (Group h.stage t k)
+    pub no_apply : (h : Hosted Cell) → h.worker ≡ p.number → ((t k : ℕ) → IsReadyAt q job p.log p.seen h t k → ⊥) → (x : Name) → CanDo p (Apply h.stage) x → ⊥
+    pub send_row : (x : Name) → IsLeast (IsHeld (outline_of q job) p.number p.log is_row) x → CanDo p SendRow x
+    pub no_send_row : ((x : Name) → IsHeld (outline_of q job) p.number p.log is_row x → ⊥) → (x : Name) → CanDo p SendRow x → ⊥
+    pub write : (t : ℕ) → p.number ≡ 0 → IsLeast (IsUnwritten p.log) (Written t) → HasPassed (seen_at p.seen OutMail) t → CanDo p Write (Written t)
+    pub no_write : (p.number ≡ 0 → (t : ℕ) → IsLeast (IsUnwritten p.log) (Written t) → HasPassed (seen_at p.seen OutMail) t → ⊥) → (x : Name) → CanDo p Write x → ⊥

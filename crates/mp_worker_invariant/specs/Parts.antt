@@ -21,10 +21,11 @@ use Rattle.mp_host_laws.specs.HostOf.{IsHostOf}
 use Rattle.mp_handoff.specs.MoversState.{MoversState}
 use Rattle.mp_handoff.specs.MoversOf.{IsMoversOf}
 
--- a worker's number, its log and what it saw; the control records that it noted, and the first that it has to send; by stage its routers, hosts and movers; the answer rows that it has to send, and those that it has to write
+-- a worker's number, its log, the log that it posted last, and what it saw; the control records that it noted, and the first that it has to send; by stage its routers, hosts and movers; the answer rows that it has to send, and those that it has to write
 pub record Parts (Cell : Type 0) : Type 0 where
   pub number : ℕ
   pub log : Log
+  pub posted : Log
   pub seen : Seen
   pub notes : Notes
   pub next : ControlCursor

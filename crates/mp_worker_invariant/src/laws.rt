@@ -62,8 +62,8 @@ pub fn steps_stay_legal<Q: Query>()
 
 /// The parts say which steps of the machine their worker can make.
 pub fn conditions_are_told<Q: Query>()
-    ensures told { (job : JobFacts) (p : Parts Q.Cell) (posted : Log) → let q = Q.facts job.rules in
-        JobIsLegal q job → ArePartsOf q job p → ConditionsAreTold q job p posted }
+    ensures told { (job : JobFacts) (p : Parts Q.Cell) → let q = Q.facts job.rules in
+        JobIsLegal q job → ArePartsOf q job p → ConditionsAreTold q job p }
     ensures agree { ConditionsAgree }
 {}
 

@@ -12,7 +12,7 @@ loop-number-preserved g c =
     let worker = c.in_ok-new.field-0 in
     let made = c.in_ok-new.ensures in
     let pushed = c.push_reserved.ensures in
-    let is = is_new o number worker c.args.seen made.number made.log made.seen c.requires.version c.requires.opening in
+    let is = is_new o number worker c.args.seen made.number made.log made.posted made.seen c.requires.version c.requires.opening in
     record {
       room = omega (arith, i.room, pushed.capacity);
       many = omega (arith, ap length pushed.items, length-append workers (worker ∷ []), i.many);

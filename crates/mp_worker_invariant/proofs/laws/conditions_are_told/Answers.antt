@@ -4,12 +4,12 @@ use Rattle.mp_worker_invariant.proofs.Conditions.{conditions_are_told}
 use Rattle.mp_worker_invariant.proofs.laws.conditions_are_told.Goals as goal
 
 pub returns-clause-told : goal.returns-clause-told
-returns-clause-told g c = λ job p posted legal parts.
+returns-clause-told g c = λ job p legal parts.
     let laws = g.met.Q.Query g.world.𝓛 g.world.𝓜 g.world.𝓡 ((λ s x. x), (λ x. x), (λ x. x), λ x. x) in
     let q = g.Q.Query.facts job.rules in
     let nothing = laws.later_stages_post_nothing job.rules in
     let sound = outline_is_sound q (laws.has_stages job.rules) (laws.posts_are_later job.rules) nothing job legal in
-    conditions_are_told q job sound p parts posted
+    conditions_are_told q job sound p parts
 
 pub returns-clause-agree : goal.returns-clause-agree
 returns-clause-agree g c = conditions_agree

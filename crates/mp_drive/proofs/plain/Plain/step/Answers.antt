@@ -1,14 +1,16 @@
-use Rattle.std.proofs.Common.{◌≡◌, Some, sym, ap, ◌∙◌, subst}
+use Rattle.std.proofs.Common.{◌≡◌, [], ◌∷◌, Err, Some, arith, sym, ap, ◌∙◌, subst}
 use Rattle.std.specs.Prelude.{slice_get}
 use Rattle.mp_names.specs.Outlines.{OutlineIsSound}
 use Rattle.mp_job.specs.Legal.{JobIsLegal}
 use Rattle.mp_outline.specs.JobOutline.{outline_of}
 use Rattle.mp_outline.proofs.Soundness.{outline_is_sound}
 use Rattle.mp_refinement.specs.SystemState.{SystemState}
-use Rattle.mp_drive.specs.Driven.{HasWritten}
+use Rattle.mp_machine.specs.Runs.{NotNow}
+use Rattle.mp_drive.specs.Driven.{HasWritten, LeadsOn}
 use Rattle.mp_drive.specs.Kept.{together}
-use Rattle.mp_drive.proofs.Turned.{Passes, Says, ends_are, leads_nowhere_on_err, leads_on_if_ok, number_fits, number_is, placed, posted_is, same_cause, still_reached}
-use Rattle.mp_drive.proofs.Written.{Writes, begun_on_err, if_not_now, written_on_ok}
+use Rattle.mp_drive.proofs.Turned.{Passes, at_hub, at_post, leads_nowhere_on_err, leads_on_if_ok, leads_on_outside, not_busy_if_ok, number_is, placed, same_cause, still_reached}
+use Rattle.mp_drive.proofs.Told.{Says, Writes, memory_of, says_of, writes_of}
+use Rattle.mp_drive.proofs.Written.{kept_on_err, written_on_ok}
 use Rattle.mp_drive.proofs.plain.Plain.step.Given as given
 use Rattle.mp_drive.proofs.plain.Plain.step.Goals as goal
 use Rattle.mp_drive.proofs.plain.Plain.step.Goals.{in-Ok, in-Err-Write, in-Err-Memory}
@@ -19,66 +21,40 @@ sound g legal =
     let job = g.J.Naming.job in
     outline_is_sound (g.Q.Query.facts job.rules) (laws.has_stages job.rules) (laws.posts_are_later job.rules) (laws.later_stages_post_nothing job.rules) job legal
 
-pub step-requires-clause-ends : goal.step-requires-clause-ends
-step-requires-clause-ends g c κs within =
+pub step-requires-clause-at_post : goal.step-requires-clause-at_post
+step-requires-clause-at_post g c κs within =
     let o = outline_of (g.Q.Query.facts g.J.Naming.job.rules) g.J.Naming.job in
     let kept = c.self.invariant in
     let t = together c.self.inside.workers.items c.self.inside.board c.self.inside.post in
     let s = c.index_mut-worker.result.now in
-    ends_are o (sound g kept.legal) t kept.reached c.args.worker s (placed o t kept.reached c.args.worker s c.requires.worker c.index_mut-worker.ensures.value)
+    at_post o (sound g kept.legal) t kept.reached c.args.worker s (placed t c.args.worker s (omega (arith, c.len.ensures, c.if-worker-len.false)) c.index_mut-worker.ensures.value)
 
-pub step-requires-clause-hub : goal.step-requires-clause-hub
-step-requires-clause-hub g c κs within =
+pub step-requires-clause-at_hub : goal.step-requires-clause-at_hub
+step-requires-clause-at_hub g c κs within =
     let o = outline_of (g.Q.Query.facts g.J.Naming.job.rules) g.J.Naming.job in
     let kept = c.self.invariant in
     let t = together c.self.inside.workers.items c.self.inside.board c.self.inside.post in
     let s = c.index_mut-worker.result.now in
-    number_fits o (sound g kept.legal) t kept.reached c.args.worker s (placed o t kept.reached c.args.worker s c.requires.worker c.index_mut-worker.ensures.value)
-
-pub step-requires-clause-posted : goal.step-requires-clause-posted
-step-requires-clause-posted g c κs within =
-    let o = outline_of (g.Q.Query.facts g.J.Naming.job.rules) g.J.Naming.job in
-    let kept = c.self.invariant in
-    let t = together c.self.inside.workers.items c.self.inside.board c.self.inside.post in
-    let s = c.index_mut-worker.result.now in
-    posted_is o (sound g kept.legal) t kept.reached c.args.worker s (placed o t kept.reached c.args.worker s c.requires.worker c.index_mut-worker.ensures.value)
+    at_hub o (sound g kept.legal) t kept.reached c.args.worker s (placed t c.args.worker s (omega (arith, c.len.ensures, c.if-worker-len.false)) c.index_mut-worker.ensures.value)
 
 was : (g : given.Over) (c : goal.Joined-step g) → slice_get c.self.inside.workers.items c.args.worker ≡ Some c.index_mut-worker.result.now
 was g c =
-    let o = outline_of (g.Q.Query.facts g.J.Naming.job.rules) g.J.Naming.job in
     let t = together c.self.inside.workers.items c.self.inside.board c.self.inside.post in
-    placed o t c.self.invariant.reached c.args.worker c.index_mut-worker.result.now c.requires.worker c.index_mut-worker.ensures.value
+    placed t c.args.worker c.index_mut-worker.result.now (omega (arith, c.len.ensures, c.if-worker-len.false)) c.index_mut-worker.ensures.value
 
 told : (g : given.Over) (c : goal.Joined-step g) → let o = outline_of (g.Q.Query.facts g.J.Naming.job.rules) g.J.Naming.job in let s = c.index_mut-worker.result.now in
     Says o c.args.kind c.self.inside.board c.step.new.hub c.self.inside.post c.step.new.post s c.step.new.self c.step.result s.number
 told g c =
+    let o = outline_of (g.Q.Query.facts g.J.Naming.job.rules) g.J.Naming.job in
     let e = c.step.ensures in
-    record {
-      did = e.did;
-      mail = e.mail;
-      saw = e.saw;
-      shown = e.shown;
-      not_now = e.not_now;
-      same = e.same;
-      busy = e.busy;
-      unchanged = e.unchanged;
-      follows = e.ends;
-      workers = e.same_workers;
-      depth = e.same_depth;
-      others = e.others_post_nothing;
-      kept = e.kept;
-    }
+    says_of o c.args.kind c.self.inside.board c.step.new.hub c.self.inside.post c.step.new.post c.index_mut-worker.result.now c.step.new.self c.step.result e.answers e.exchanges e.others_post_nothing e.mail
 
 writes : (g : given.Over) (c : goal.Joined-step g) → let job = g.J.Naming.job in
     Writes (g.Q.Query.facts job.rules) job c.args.kind c.index_mut-worker.result.now (g.S.Sink.written c.args.sink.now) (g.S.Sink.written c.step.new.sink) c.step.result
 writes g c =
+    let job = g.J.Naming.job in
     let e = c.step.ensures in
-    record {
-      others = λ n. ap g.S.Sink.written (e.others_write_nothing n);
-      lines = e.lines;
-      nothing = if_not_now (c.step.new.sink ≡ c.args.sink.now) (g.S.Sink.written c.step.new.sink ≡ g.S.Sink.written c.args.sink.now) (λ same. ap g.S.Sink.written same) c.step.result e.nothing_written;
-      part = e.part;
-    }
+    writes_of (g.Q.Query.facts job.rules) job g.S.Sink.written g.S.Sink.faults c.args.kind c.index_mut-worker.result.now c.args.sink.now c.step.new.sink c.step.result e.writes e.others_write_nothing
 
 passes : (g : given.Over) (c : goal.Joined-step g) → Passes c.step.result c.match-step.result
 passes g c =
@@ -140,4 +116,26 @@ returns-clause-part g c = λ before has.
     let ok = sound g kept.legal in
     let number = number_is o ok t kept.reached c.args.worker s (was g c) in
     let here = subst (λ (u : SystemState). HasWritten q job.events before u (g.S.Sink.written c.args.sink.now)) (sym c.self.view_is) has in
-    begun_on_err q job ok t c.args.worker c.args.kind s c.step.new.self c.step.new.hub c.step.new.post (was g c) number (g.S.Sink.written c.args.sink.now) (g.S.Sink.written c.step.new.sink) before here c.self.inside.post.depth kept.reached.0 kept.reached.1 c.step.result c.match-step.result (passes g c) (writes g c)
+    kept_on_err q job ok t c.args.worker c.args.kind s c.step.new.self c.step.new.hub c.step.new.post (was g c) number (g.S.Sink.written c.args.sink.now) (g.S.Sink.written c.step.new.sink) before here c.self.inside.post.depth kept.reached.0 kept.reached.1 c.step.result c.match-step.result (passes g c) (told g c).unchanged (writes g c)
+
+pub returns-clause-not_busy : goal.returns-clause-not_busy
+returns-clause-not_busy g c =
+    let o = outline_of (g.Q.Query.facts g.J.Naming.job.rules) g.J.Naming.job in
+    let t = together c.self.inside.workers.items c.self.inside.board c.self.inside.post in
+    not_busy_if_ok o (sound g c.self.invariant.legal) t c.args.worker c.args.kind c.index_mut-worker.result.now c.step.new.self c.step.new.hub c.step.new.post (was g c) c.step.result c.match-step.result (passes g c) (told g c)
+
+pub returns-then-worker-len-clause-turn : goal.returns-then-worker-len-clause-turn
+returns-then-worker-len-clause-turn g c =
+    let o = outline_of (g.Q.Query.facts g.J.Naming.job.rules) g.J.Naming.job in
+    let t = together c.self.inside.workers.items c.self.inside.board c.self.inside.post in
+    subst (λ (u : SystemState). LeadsOn o ((c.args.worker, c.args.kind) ∷ []) (NotNow ∷ []) u u) c.self.view_is (leads_on_outside o (sound g c.self.invariant.legal) t c.args.worker c.args.kind c.self.invariant.reached (omega (arith, c.len.ensures, c.if-worker-len.true)))
+
+pub returns-clause-memory : goal.returns-clause-memory
+returns-clause-memory g c = λ e.
+    let job = g.J.Naming.job in
+    elim c.match-step.branch as (λ b. g.S.Sink.faults c.step.new.sink ≡ g.S.Sink.faults c.args.sink.now) [
+      | in-Ok w ↦ let is = w.result-is in absurd (cc)
+      | in-Err-Write w ↦ let is = w.result-is in absurd (cc)
+      | in-Err-Memory w ↦
+          memory_of (g.Q.Query.facts job.rules) job g.S.Sink.written g.S.Sink.faults c.args.kind c.index_mut-worker.result.now c.args.sink.now c.step.new.sink c.step.result (w.in-Err-Memory.is ∙ ap Err w.in-Err-Memory.field-0-is) c.step.ensures.writes c.step.ensures.others_write_nothing
+    ]

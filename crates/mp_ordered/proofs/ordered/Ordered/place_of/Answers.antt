@@ -1,10 +1,16 @@
-use Rattle.std.proofs.Common.{sym}
-use Rattle.mp_ordered.proofs.Placing.{placed_after}
+use Rattle.std.proofs.Common.{◌≡◌, ap, sym, subst, arith, rules, of_calls, List, length}
+use Rattle.std.specs.List.{insert}
+use Rattle.std.proofs.lemmas.Fn.{always_returns_same}
+use Rattle.mp_names.specs.Names.{is_before}
+use Rattle.mp_ordered.specs.InOrder.{IsInOrder, put_in_order}
+use Rattle.mp_ordered.proofs.Placing.{placed_at, partitioned}
 use Rattle.mp_ordered.proofs.ordered.Ordered.place_of.Goals as goal
 
--- src/ordered.rt:106:5
-pub returns-else-not-is_before-clause-place : goal.returns-else-not-is_before-clause-place
-returns-else-not-is_before-clause-place g c =
-    let inside = rw (← c.self.view_is) at c.loop-at.invariant.inside in
-    let later = rw (← c.self.view_is) at c.loop-at.invariant.later in
-    rw (← c.self.view_is) (placed_after g.O.Order.rank c.args.item.now c.index.result.now c.self.inside.items.items c.loop-at.at c.self.invariant c.loop-at-test.true inside c.index.ensures (sym c.if-not-is_before.ensures) later)
+pub returns-clause-place : goal.returns-clause-place
+returns-clause-place g c =
+    let rank = g.O.Order.rank in
+    let items = c.as_slice.result.now in
+    let x = c.args.item.now in
+    let order : IsInOrder rank items = subst (IsInOrder rank) (sym c.as_slice.ensures.items) c.as_slice.ensures.in_order in
+    let point = c.partition_point.ensures.partitioned (λ y. is_before (rank y) (rank x)) (always_returns_same _ _ _ (λ a r f k. search (rules, of_calls))) (partitioned rank x items order) in
+    rw (← c.as_slice.ensures.items) (placed_at rank x items c.partition_point.result (omega (arith, c.partition_point.ensures.bound)) (λ k d l. point.0 k d (omega arith) l) (λ d l. point.1 c.partition_point.result d (omega arith) l))

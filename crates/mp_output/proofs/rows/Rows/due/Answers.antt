@@ -8,4 +8,4 @@ use Rattle.mp_output.proofs.rows.Rows.due.Goals as goal
 pub returns-clause-least : goal.returns-clause-least
 returns-clause-least g c =
     let due : IfSome c.then_some.result (IsDue (seen_at c.args.seen.now OutMail) c.args.self.now.rows) = search rules in
-    rw (← c.self.view_is) (due_is_first (seen_at c.args.seen.now OutMail) c.self.inside.rows.items c.then_some.result c.as_slice.ensures.in_order (rw (← c.self.view_is) at due))
+    rw (← c.self.view_is) (due_is_first (seen_at c.args.seen.now OutMail) c.self.inside.rows.items c.then_some.result c.first.ensures.in_order (rw (← c.self.view_is) at due))

@@ -34,11 +34,11 @@ returns-in_err-write_piece-clause-part_of_answer g c =
     (rw (← c.self.view_is) (λ log t h due. (due_is_least log seen rows t order due h, λ closed. time_is_whole q g.J.Naming.job log seen rows t order c.self.invariant due h closed)))
 
 pub invariant_of-self : goal.invariant_of-self
-invariant_of-self g c = rw c.drop_first.ensures.items (All-drop (Contains (answer_rows (g.Q.Query.facts g.J.Naming.job.rules) g.J.Naming.job.events)) (length c.rows_of-rows.result.now) c.self.inside.rows.items c.self.invariant)
+invariant_of-self g c = rw c.drop_first.ensures.items (All-drop (Contains (answer_rows (g.Q.Query.facts g.J.Naming.job.rules) g.J.Naming.job.events)) c.count_at-count.result c.self.inside.rows.items c.self.invariant)
 
 pub returns-clause-next : goal.returns-clause-next
 returns-clause-next g c =
-    let rest = c.drop_first.ensures.items ∙ (rw (← c.self.view_is) at c.rows_of-rows.ensures.rest) in
+    let rest = c.drop_first.ensures.items ∙ (rw (← c.self.view_is) at c.count_at-count.ensures.rest) in
     let seen = seen_at c.args.seen.now OutMail in
     λ log h. record {
       least = due_is_least log seen c.args.self.now.rows c.in-Some.time c.due.ensures.in_order c.in-Some.ensures.some h;

@@ -11,5 +11,5 @@ invariant_of-self g c =
 
 pub returns-clause-back : goal.returns-clause-back
 returns-clause-back g c =
-    let order = c.as_slice.ensures.in_order in
-    rw (← c.self.view_is) (IfSome_then c.pop_first.result c.pop_first.ensures.some (λ x first. back_in_front x c.self.inside.rows.items c.pop_first.new.self.items c.as_slice.ensures.goes_back order first))
+    let order = c.first.ensures.in_order in
+    rw (← c.self.view_is) (IfSome_then c.pop_first.result c.pop_first.ensures.some (λ x first. back_in_front x c.self.inside.rows.items c.pop_first.new.self.items c.first.ensures.goes_back order first))

@@ -16,22 +16,24 @@ use Rattle.mp_worker.proofs.Counted.{woken_once}
 use Rattle.mp_worker.proofs.worker.Worker.apply.Goals as goal
 use Rattle.mp_worker.proofs.worker.Worker.apply.Goals.{then-stage-stages+in_ok-hold_records, else-stage-stages+in_ok-hold_rows}
 
-pub returns-then-is_none-clause-none : goal.returns-then-is_none-clause-none
-returns-then-is_none-clause-none g c =
+pub returns-then-is_none : goal.returns-then-is_none
+returns-then-is_none g c =
     let laws = g.met.Q.Query g.world.𝓛 g.world.𝓜 g.world.𝓡 ((λ s x. x), (λ x. x), (λ x. x), λ x. x) in
     let job = g.J.Naming.job in
     let rules = job.rules in
     let q = g.Q.Query.facts rules in
     let keeps : AppliesBy q = record { stages = laws.has_stages rules; later = laws.posts_are_later rules; nothing = laws.later_stages_post_nothing rules; keys = laws.outputs_have_keys rules } in
     let i = c.self.inside in
-    let f : Fields g.row.Q-Cell.Denot = record { number = i.number; log = i.log; seen = i.seen; notes = i.owners; next = i.next; routers = i.routers.items; hosts = i.hosts.items; movers = i.movers.items; unsent = i.unsent; unwritten = i.rows } in
+    let f : Fields g.row.Q-Cell.Denot = record { number = i.number; log = i.log; posted = i.posted.value.log; seen = i.seen; notes = i.owners; next = i.next; routers = i.routers.items; hosts = i.hosts.items; movers = i.movers.items; unsent = i.unsent; unwritten = i.rows } in
     let h = c.index_mut-host.result.now in
-    let is : h ≡ get_or i.hosts.items c.args.stage h = c.index_mut-host.ensures.value in
-    rw (← c.self.view_is) (none_to_apply q keeps job i.job.now f c.self.invariant c.args.stage c.requires.stage h is (λ t k ready.
-    let found : c.ready.result ≡ Some (t, k) = (c.ready.ensures.exact i.log.log (informed q keeps job i.job.now f c.self.invariant c.args.stage c.requires.stage h is) (knows q keeps job i.job.now f c.self.invariant c.args.stage c.requires.stage h is) t k).1 ready in
-    let none = c.if-is_none.ensures in
-    let some = ap is_some found in
-    cc))
+    let is : h ≡ get_or i.hosts.items c.args.stage h = c.index_mut-host.ensures.value in (
+      rw (← c.self.view_is) (none_to_apply q keeps job i.job.now f c.self.invariant c.args.stage c.requires.stage h is (λ t k ready.
+          let found : c.ready.result ≡ Some (t, k) = (c.ready.ensures.exact i.log.log (informed q keeps job i.job.now f c.self.invariant c.args.stage c.requires.stage h is) (knows q keeps job i.job.now f c.self.invariant c.args.stage c.requires.stage h is) t k).1 ready in
+          let none = c.if-is_none.ensures in
+          let some = ap is_some found in
+          cc)),
+      c.self.view_is,
+    )
 
 pub most-most-requires-clause-informed : goal.most-most-requires-clause-informed
 most-most-requires-clause-informed g c = λ κs within.
@@ -41,7 +43,7 @@ most-most-requires-clause-informed g c = λ κs within.
     let q = g.Q.Query.facts rules in
     let keeps : AppliesBy q = record { stages = laws.has_stages rules; later = laws.posts_are_later rules; nothing = laws.later_stages_post_nothing rules; keys = laws.outputs_have_keys rules } in
     let i = c.self.inside in
-    let f : Fields g.row.Q-Cell.Denot = record { number = i.number; log = i.log; seen = i.seen; notes = i.owners; next = i.next; routers = i.routers.items; hosts = i.hosts.items; movers = i.movers.items; unsent = i.unsent; unwritten = i.rows } in
+    let f : Fields g.row.Q-Cell.Denot = record { number = i.number; log = i.log; posted = i.posted.value.log; seen = i.seen; notes = i.owners; next = i.next; routers = i.routers.items; hosts = i.hosts.items; movers = i.movers.items; unsent = i.unsent; unwritten = i.rows } in
     let h = c.index_mut-host.result.now in
     let is : h ≡ get_or i.hosts.items c.args.stage h = c.index_mut-host.ensures.value in
     (i.log.log, informed q keeps job i.job.now f c.self.invariant c.args.stage c.requires.stage h is, knows q keeps job i.job.now f c.self.invariant c.args.stage c.requires.stage h is)
@@ -54,7 +56,7 @@ invariant_of-self-in_err-make_room_onward g c =
     let q = g.Q.Query.facts rules in
     let keeps : AppliesBy q = record { stages = laws.has_stages rules; later = laws.posts_are_later rules; nothing = laws.later_stages_post_nothing rules; keys = laws.outputs_have_keys rules } in
     let i = c.self.inside in
-    let f : Fields g.row.Q-Cell.Denot = record { number = i.number; log = i.log; seen = i.seen; notes = i.owners; next = i.next; routers = i.routers.items; hosts = i.hosts.items; movers = i.movers.items; unsent = i.unsent; unwritten = i.rows } in
+    let f : Fields g.row.Q-Cell.Denot = record { number = i.number; log = i.log; posted = i.posted.value.log; seen = i.seen; notes = i.owners; next = i.next; routers = i.routers.items; hosts = i.hosts.items; movers = i.movers.items; unsent = i.unsent; unwritten = i.rows } in
     let h = c.index_mut-host.result.now in
     let is : h ≡ get_or i.hosts.items c.args.stage h = c.index_mut-host.ensures.value in
     let routers = c.make_room_onward.new.routers in
@@ -70,7 +72,7 @@ invariant_of-self-in_err-changes g c =
     let q = g.Q.Query.facts rules in
     let keeps : AppliesBy q = record { stages = laws.has_stages rules; later = laws.posts_are_later rules; nothing = laws.later_stages_post_nothing rules; keys = laws.outputs_have_keys rules } in
     let i = c.self.inside in
-    let f : Fields g.row.Q-Cell.Denot = record { number = i.number; log = i.log; seen = i.seen; notes = i.owners; next = i.next; routers = i.routers.items; hosts = i.hosts.items; movers = i.movers.items; unsent = i.unsent; unwritten = i.rows } in
+    let f : Fields g.row.Q-Cell.Denot = record { number = i.number; log = i.log; posted = i.posted.value.log; seen = i.seen; notes = i.owners; next = i.next; routers = i.routers.items; hosts = i.hosts.items; movers = i.movers.items; unsent = i.unsent; unwritten = i.rows } in
     let h = c.index_mut-host.result.now in
     let is : h ≡ get_or i.hosts.items c.args.stage h = c.index_mut-host.ensures.value in
     let routers = c.make_room_onward.new.routers in
@@ -86,7 +88,7 @@ apply-requires-clause-informed g c = λ κs within.
     let q = g.Q.Query.facts rules in
     let keeps : AppliesBy q = record { stages = laws.has_stages rules; later = laws.posts_are_later rules; nothing = laws.later_stages_post_nothing rules; keys = laws.outputs_have_keys rules } in
     let i = c.self.inside in
-    let f : Fields g.row.Q-Cell.Denot = record { number = i.number; log = i.log; seen = i.seen; notes = i.owners; next = i.next; routers = i.routers.items; hosts = i.hosts.items; movers = i.movers.items; unsent = i.unsent; unwritten = i.rows } in
+    let f : Fields g.row.Q-Cell.Denot = record { number = i.number; log = i.log; posted = i.posted.value.log; seen = i.seen; notes = i.owners; next = i.next; routers = i.routers.items; hosts = i.hosts.items; movers = i.movers.items; unsent = i.unsent; unwritten = i.rows } in
     let h = c.index_mut-host.result.now in
     let is : h ≡ get_or i.hosts.items c.args.stage h = c.index_mut-host.ensures.value in
     (i.log.log, informed q keeps job i.job.now f c.self.invariant c.args.stage c.requires.stage h is, knows q keeps job i.job.now f c.self.invariant c.args.stage c.requires.stage h is)
@@ -99,7 +101,7 @@ invariant_of-self-in_err-applied g c =
     let q = g.Q.Query.facts rules in
     let keeps : AppliesBy q = record { stages = laws.has_stages rules; later = laws.posts_are_later rules; nothing = laws.later_stages_post_nothing rules; keys = laws.outputs_have_keys rules } in
     let i = c.self.inside in
-    let f : Fields g.row.Q-Cell.Denot = record { number = i.number; log = i.log; seen = i.seen; notes = i.owners; next = i.next; routers = i.routers.items; hosts = i.hosts.items; movers = i.movers.items; unsent = i.unsent; unwritten = i.rows } in
+    let f : Fields g.row.Q-Cell.Denot = record { number = i.number; log = i.log; posted = i.posted.value.log; seen = i.seen; notes = i.owners; next = i.next; routers = i.routers.items; hosts = i.hosts.items; movers = i.movers.items; unsent = i.unsent; unwritten = i.rows } in
     let h = c.index_mut-host.result.now in
     let is : h ≡ get_or i.hosts.items c.args.stage h = c.index_mut-host.ensures.value in
     let routers = c.make_room_onward.new.routers in
@@ -115,7 +117,7 @@ invariant_of-self-in_default g c =
     let q = g.Q.Query.facts rules in
     let keeps : AppliesBy q = record { stages = laws.has_stages rules; later = laws.posts_are_later rules; nothing = laws.later_stages_post_nothing rules; keys = laws.outputs_have_keys rules } in
     let i = c.self.inside in
-    let f : Fields g.row.Q-Cell.Denot = record { number = i.number; log = i.log; seen = i.seen; notes = i.owners; next = i.next; routers = i.routers.items; hosts = i.hosts.items; movers = i.movers.items; unsent = i.unsent; unwritten = i.rows } in
+    let f : Fields g.row.Q-Cell.Denot = record { number = i.number; log = i.log; posted = i.posted.value.log; seen = i.seen; notes = i.owners; next = i.next; routers = i.routers.items; hosts = i.hosts.items; movers = i.movers.items; unsent = i.unsent; unwritten = i.rows } in
     let h = c.index_mut-host.result.now in
     let is : h ≡ get_or i.hosts.items c.args.stage h = c.index_mut-host.ensures.value in
     let routers = c.make_room_onward.new.routers in
@@ -131,7 +133,7 @@ push-requires-clause-changes g c = λ κs within.
     let q = g.Q.Query.facts rules in
     let keeps : AppliesBy q = record { stages = laws.has_stages rules; later = laws.posts_are_later rules; nothing = laws.later_stages_post_nothing rules; keys = laws.outputs_have_keys rules } in
     let i = c.self.inside in
-    let f : Fields g.row.Q-Cell.Denot = record { number = i.number; log = i.log; seen = i.seen; notes = i.owners; next = i.next; routers = i.routers.items; hosts = i.hosts.items; movers = i.movers.items; unsent = i.unsent; unwritten = i.rows } in
+    let f : Fields g.row.Q-Cell.Denot = record { number = i.number; log = i.log; posted = i.posted.value.log; seen = i.seen; notes = i.owners; next = i.next; routers = i.routers.items; hosts = i.hosts.items; movers = i.movers.items; unsent = i.unsent; unwritten = i.rows } in
     let h = c.index_mut-host.result.now in
     let is : h ≡ get_or i.hosts.items c.args.stage h = c.index_mut-host.ensures.value in
     let routers = c.make_room_onward.new.routers in
@@ -169,7 +171,7 @@ hold_records-requires-clause-time g c = λ κs within.
     let q = g.Q.Query.facts rules in
     let keeps : AppliesBy q = record { stages = laws.has_stages rules; later = laws.posts_are_later rules; nothing = laws.later_stages_post_nothing rules; keys = laws.outputs_have_keys rules } in
     let i = c.self.inside in
-    let f : Fields g.row.Q-Cell.Denot = record { number = i.number; log = i.log; seen = i.seen; notes = i.owners; next = i.next; routers = i.routers.items; hosts = i.hosts.items; movers = i.movers.items; unsent = i.unsent; unwritten = i.rows } in
+    let f : Fields g.row.Q-Cell.Denot = record { number = i.number; log = i.log; posted = i.posted.value.log; seen = i.seen; notes = i.owners; next = i.next; routers = i.routers.items; hosts = i.hosts.items; movers = i.movers.items; unsent = i.unsent; unwritten = i.rows } in
     let h = c.index_mut-host.result.now in
     let is : h ≡ get_or i.hosts.items c.args.stage h = c.index_mut-host.ensures.value in
     let routers = c.make_room_onward.new.routers in
@@ -190,7 +192,7 @@ hold_records-requires-clause-keys g c = λ κs within.
     let q = g.Q.Query.facts rules in
     let keeps : AppliesBy q = record { stages = laws.has_stages rules; later = laws.posts_are_later rules; nothing = laws.later_stages_post_nothing rules; keys = laws.outputs_have_keys rules } in
     let i = c.self.inside in
-    let f : Fields g.row.Q-Cell.Denot = record { number = i.number; log = i.log; seen = i.seen; notes = i.owners; next = i.next; routers = i.routers.items; hosts = i.hosts.items; movers = i.movers.items; unsent = i.unsent; unwritten = i.rows } in
+    let f : Fields g.row.Q-Cell.Denot = record { number = i.number; log = i.log; posted = i.posted.value.log; seen = i.seen; notes = i.owners; next = i.next; routers = i.routers.items; hosts = i.hosts.items; movers = i.movers.items; unsent = i.unsent; unwritten = i.rows } in
     let h = c.index_mut-host.result.now in
     let is : h ≡ get_or i.hosts.items c.args.stage h = c.index_mut-host.ensures.value in
     let routers = c.make_room_onward.new.routers in
@@ -214,7 +216,7 @@ hold_records-requires-clause-stage g c = λ κs within.
     let q = g.Q.Query.facts rules in
     let keeps : AppliesBy q = record { stages = laws.has_stages rules; later = laws.posts_are_later rules; nothing = laws.later_stages_post_nothing rules; keys = laws.outputs_have_keys rules } in
     let i = c.self.inside in
-    let f : Fields g.row.Q-Cell.Denot = record { number = i.number; log = i.log; seen = i.seen; notes = i.owners; next = i.next; routers = i.routers.items; hosts = i.hosts.items; movers = i.movers.items; unsent = i.unsent; unwritten = i.rows } in
+    let f : Fields g.row.Q-Cell.Denot = record { number = i.number; log = i.log; posted = i.posted.value.log; seen = i.seen; notes = i.owners; next = i.next; routers = i.routers.items; hosts = i.hosts.items; movers = i.movers.items; unsent = i.unsent; unwritten = i.rows } in
     let routers = c.make_room_onward.new.routers in
     let same : map content routers ≡ map content i.routers.items = c.make_room_onward.ensures.held ∙ ap (map content) c.deref_mut.ensures.value in
     let length_is : i.routers.len ≡ length i.routers.items = i.routers.ok.0 in
@@ -237,7 +239,7 @@ hold_records-requires-clause-records g c = λ κs within.
     let q = g.Q.Query.facts rules in
     let keeps : AppliesBy q = record { stages = laws.has_stages rules; later = laws.posts_are_later rules; nothing = laws.later_stages_post_nothing rules; keys = laws.outputs_have_keys rules } in
     let i = c.self.inside in
-    let f : Fields g.row.Q-Cell.Denot = record { number = i.number; log = i.log; seen = i.seen; notes = i.owners; next = i.next; routers = i.routers.items; hosts = i.hosts.items; movers = i.movers.items; unsent = i.unsent; unwritten = i.rows } in
+    let f : Fields g.row.Q-Cell.Denot = record { number = i.number; log = i.log; posted = i.posted.value.log; seen = i.seen; notes = i.owners; next = i.next; routers = i.routers.items; hosts = i.hosts.items; movers = i.movers.items; unsent = i.unsent; unwritten = i.rows } in
     let h = c.index_mut-host.result.now in
     let is : h ≡ get_or i.hosts.items c.args.stage h = c.index_mut-host.ensures.value in
     let routers = c.make_room_onward.new.routers in
@@ -285,7 +287,7 @@ invariant_of-self-in-Continue-branch-7 g c =
     let q = g.Q.Query.facts rules in
     let keeps : AppliesBy q = record { stages = laws.has_stages rules; later = laws.posts_are_later rules; nothing = laws.later_stages_post_nothing rules; keys = laws.outputs_have_keys rules } in
     let i = c.self.inside in
-    let f : Fields g.row.Q-Cell.Denot = record { number = i.number; log = i.log; seen = i.seen; notes = i.owners; next = i.next; routers = i.routers.items; hosts = i.hosts.items; movers = i.movers.items; unsent = i.unsent; unwritten = i.rows } in
+    let f : Fields g.row.Q-Cell.Denot = record { number = i.number; log = i.log; posted = i.posted.value.log; seen = i.seen; notes = i.owners; next = i.next; routers = i.routers.items; hosts = i.hosts.items; movers = i.movers.items; unsent = i.unsent; unwritten = i.rows } in
     let h = c.index_mut-host.result.now in
     let is : h ≡ get_or i.hosts.items c.args.stage h = c.index_mut-host.ensures.value in
     let routers = c.make_room_onward.new.routers in
@@ -316,7 +318,7 @@ hold_rows-requires-clause-rows g c = λ κs within.
     let q = g.Q.Query.facts rules in
     let keeps : AppliesBy q = record { stages = laws.has_stages rules; later = laws.posts_are_later rules; nothing = laws.later_stages_post_nothing rules; keys = laws.outputs_have_keys rules } in
     let i = c.self.inside in
-    let f : Fields g.row.Q-Cell.Denot = record { number = i.number; log = i.log; seen = i.seen; notes = i.owners; next = i.next; routers = i.routers.items; hosts = i.hosts.items; movers = i.movers.items; unsent = i.unsent; unwritten = i.rows } in
+    let f : Fields g.row.Q-Cell.Denot = record { number = i.number; log = i.log; posted = i.posted.value.log; seen = i.seen; notes = i.owners; next = i.next; routers = i.routers.items; hosts = i.hosts.items; movers = i.movers.items; unsent = i.unsent; unwritten = i.rows } in
     let h = c.index_mut-host.result.now in
     let is : h ≡ get_or i.hosts.items c.args.stage h = c.index_mut-host.ensures.value in
     let routers = c.make_room_onward.new.routers in
@@ -358,7 +360,7 @@ invariant_of-self-in-Continue-branch-8 g c =
     let q = g.Q.Query.facts rules in
     let keeps : AppliesBy q = record { stages = laws.has_stages rules; later = laws.posts_are_later rules; nothing = laws.later_stages_post_nothing rules; keys = laws.outputs_have_keys rules } in
     let i = c.self.inside in
-    let f : Fields g.row.Q-Cell.Denot = record { number = i.number; log = i.log; seen = i.seen; notes = i.owners; next = i.next; routers = i.routers.items; hosts = i.hosts.items; movers = i.movers.items; unsent = i.unsent; unwritten = i.rows } in
+    let f : Fields g.row.Q-Cell.Denot = record { number = i.number; log = i.log; posted = i.posted.value.log; seen = i.seen; notes = i.owners; next = i.next; routers = i.routers.items; hosts = i.hosts.items; movers = i.movers.items; unsent = i.unsent; unwritten = i.rows } in
     let h = c.index_mut-host.result.now in
     let is : h ≡ get_or i.hosts.items c.args.stage h = c.index_mut-host.ensures.value in
     let routers = c.make_room_onward.new.routers in
@@ -377,23 +379,23 @@ invariant_of-self-in-Continue-branch-8 g c =
     let is_applied = rw c.in-Some.is at c.in_ok-applied.ensures.applied in
     rw written (kept_with_rows q keeps job i.job.now m kept c.args.stage c.requires.stage h is applied.time applied.key does.ready applied.outputs.items (rw c.in-Some.is at c.in_ok-applied.ensures.outputs) c.apply.new.self is_applied.stage is_applied.worker does.held c.push.new.self (ap (λ (l : WorkerLog). l.log) pushed) (ap (λ (l : WorkerLog). l.worker) pushed) ends c.hold_rows.new.unsent c.in_ok-hold_rows.ensures.held)
 
-pub returns-clause-did : goal.returns-clause-did
-returns-clause-did g c =
+pub returns : goal.returns
+returns g c =
     let laws = g.met.Q.Query g.world.𝓛 g.world.𝓜 g.world.𝓡 ((λ s x. x), (λ x. x), (λ x. x), λ x. x) in
     let job = g.J.Naming.job in
     let rules = job.rules in
     let q = g.Q.Query.facts rules in
     let keeps : AppliesBy q = record { stages = laws.has_stages rules; later = laws.posts_are_later rules; nothing = laws.later_stages_post_nothing rules; keys = laws.outputs_have_keys rules } in
     let i = c.self.inside in
-    let f : Fields g.row.Q-Cell.Denot = record { number = i.number; log = i.log; seen = i.seen; notes = i.owners; next = i.next; routers = i.routers.items; hosts = i.hosts.items; movers = i.movers.items; unsent = i.unsent; unwritten = i.rows } in
+    let f : Fields g.row.Q-Cell.Denot = record { number = i.number; log = i.log; posted = i.posted.value.log; seen = i.seen; notes = i.owners; next = i.next; routers = i.routers.items; hosts = i.hosts.items; movers = i.movers.items; unsent = i.unsent; unwritten = i.rows } in
     let h = c.index_mut-host.result.now in
     let is : h ≡ get_or i.hosts.items c.args.stage h = c.index_mut-host.ensures.value in
     let applied = c.in-Some.applied in
     let does = (rw c.in-Some.is at c.in_ok-applied.ensures.held) i.log.log (informed q keeps job i.job.now f c.self.invariant c.args.stage c.requires.stage h is) in
     let x = Group c.args.stage applied.time applied.key in
-    let self_is : c.if-stage-stages.self ≡ record { number = i.number; log = c.push.new.self.log; seen = i.seen } = elim c.if-stage-stages.branch [ then-stage-stages+in_ok-hold_records w ↦ w.self-is | else-stage-stages+in_ok-hold_rows w ↦ w.self-is ] in
+    let self_is : c.if-stage-stages.self ≡ record { number = i.number; log = c.push.new.self.log; posted = i.posted.value.log; seen = i.seen } = elim c.if-stage-stages.branch [ then-stage-stages+in_ok-hold_records w ↦ w.self-is | else-stage-stages+in_ok-hold_rows w ↦ w.self-is ] in
     let grows = ap (λ (l : WorkerLog). l.log) c.in_ok-push.ensures.pushed ∙ ap (λ (l : Log). with_applied l x) c.room_in_log.ensures.log in
     rw (← c.self.view_is, self_is) (record {
       can = can_apply q keeps job i.job.now f c.self.invariant c.args.stage c.requires.stage h is applied.time applied.key does.ready;
-      after = ap (λ (l : Log). record { number = i.number; log = l; seen = i.seen }) grows;
+      after = ap (λ (l : Log). record { number = i.number; log = l; posted = i.posted.value.log; seen = i.seen }) grows;
     })

@@ -1,6 +1,8 @@
+use Rattle.std.proofs.Common.{◌∙◌, arith, refl, sym}
 use Rattle.mp_names.proofs.Grows.{grows_refl}
 use Rattle.mp_outline.proofs.Soundness.{outline_is_sound}
 use Rattle.mp_worker_invariant.proofs.Kept.{steps_keep_parts}
+use Rattle.mp_worker.proofs.Exchanged.{nothing_new}
 use Rattle.mp_worker.proofs.worker.Worker.exchange.Goals as goal
 
 pub exchange-requires-clause-legal : goal.exchange-requires-clause-legal
@@ -9,10 +11,17 @@ exchange-requires-clause-legal g c = rw (c.in_ok-posted.ensures.log, ← c.self.
 pub exchange-requires-clause-contributions : goal.exchange-requires-clause-contributions
 exchange-requires-clause-contributions g c = rw (c.in_ok-posted.ensures.log, ← c.self.invariant.number) c.in_ok-posted.ensures.entries
 
-pub returns-then-version-clause-posted : goal.returns-then-version-clause-posted
-returns-then-version-clause-posted g c =
-    let posted = rw c.in-Got.is at c.in_ok-seen.ensures.posted in
-    rw (← c.self.view_is, posted, c.in_ok-posted.ensures.log) (grows_refl _)
+pub returns-then-version-clause-exchanges : goal.returns-then-version-clause-exchanges
+returns-then-version-clause-exchanges g c =
+    let at = rw (← c.self.view_is) at c.requires.at_hub in
+    let rises = rw (c.in-Got.is, c.in_ok-posted.ensures.log) at c.in_ok-seen.ensures.rises in
+    let version = rw c.in-Got.is at c.in_ok-seen.ensures.version in
+    let again = sym c.version-version.ensures ∙ c.if-version.true ∙ c.version.ensures in
+    let after = rw (c.in-Got.is, c.in_ok-posted.ensures.log) at c.in_ok-seen.ensures.after in
+    let goes_on = rw c.in-Got.is at c.in_ok-seen.ensures.tried in
+    let shows = rw c.in-Got.is at c.in_ok-seen.ensures.shows in
+    rw (← c.self.view_is)
+    (refl, sym at.has_posted ∙ nothing_new _ _ _ _ _ _ rises version again at.later, (goes_on, after), (c.in-Got.seen, shows, again))
 
 pub invariant_of-self : goal.invariant_of-self
 invariant_of-self g c =
@@ -22,9 +31,12 @@ invariant_of-self g c =
     let kept = c.self.invariant in
     let sound = outline_is_sound q (laws.has_stages job.rules) (laws.posts_are_later job.rules) (laws.later_stages_post_nothing job.rules) job kept.legal in
     let told = rw (c.in-Got.is, c.in_ok-posted.ensures.log, ← kept.number) at c.in_ok-seen.ensures.told in
-    record { same = kept.same; legal = kept.legal; rows = kept.rows; number = kept.number; parts = (steps_keep_parts q job sound _ kept.parts).see c.in-Got.seen told }
+    record { same = kept.same; legal = kept.legal; rows = kept.rows; number = kept.number; parts = (steps_keep_parts q job sound _ kept.parts).see _ c.in-Got.seen told }
 
-pub returns-clause-posted : goal.returns-clause-posted
-returns-clause-posted g c =
-    let posted = rw c.in-Got.is at c.in_ok-seen.ensures.posted in
-    rw (← c.self.view_is, posted, c.in_ok-posted.ensures.log) (grows_refl _)
+pub returns-clause-at_hub : goal.returns-clause-at_hub
+returns-clause-at_hub g c =
+    let at = rw (← c.self.view_is) at c.requires.at_hub in
+    let version = rw c.in-Got.is at c.in_ok-seen.ensures.version in
+    let posted = rw (c.in-Got.is, c.in_ok-posted.ensures.log) at c.in_ok-seen.ensures.posted in
+    let serves = c.in_ok-seen.ensures.still_serves in
+    rw c.of-2.ensures (record { served = serves _ at.served; has_posted = posted; grows = grows_refl _; later = omega (arith, version) })

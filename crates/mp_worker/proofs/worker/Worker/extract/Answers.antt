@@ -7,14 +7,14 @@ use Rattle.mp_msg.specs.States.{IsStateBefore}
 use Rattle.mp_outline.specs.JobOutline.{outline_of}
 use Rattle.mp_outline.proofs.Soundness.{outline_is_sound}
 use Rattle.mp_worker.proofs.Extracting.{can_extract, goes_to, host_back, leaves, may_send_packet, movers_sent, none_to_extract, one_packet, packet_kept, packet_still_kept, with_room}
-use Rattle.mp_worker.proofs.Going.{edge_told, ends_asked, ends_told}
+use Rattle.mp_worker.proofs.Going.{edge_told, post_asked, post_told, same_state}
 use Rattle.mp_worker.proofs.Leaving.{bin_back, host_without, packet_changes, packet_content, state_back, taken_of_bin}
 use Rattle.mp_worker.proofs.Making.{makes}
 use Rattle.mp_worker.proofs.Movers.{host_at, movers_at}
 use Rattle.mp_worker.proofs.worker.Worker.extract.Goals as goal
 
-pub returns-in_default-clause-none : goal.returns-in_default-clause-none
-returns-in_default-clause-none g c =
+pub returns-in_default-clause-steps : goal.returns-in_default-clause-steps
+returns-in_default-clause-steps g c =
     let laws = g.met.Q.Query g.world.𝓛 g.world.𝓜 g.world.𝓡 ((λ s x. x), (λ x. x), (λ x. x), λ x. x) in
     let job = g.J.Naming.job in
     let q = g.Q.Query.facts job.rules in
@@ -24,7 +24,7 @@ returns-in_default-clause-none g c =
     let j = c.args.stage in
     let m = c.index_mut-movers.result.now in
     let movers = movers_at kept sound j c.requires.stage m c.index_mut-movers.ensures.value in
-    rw (← c.self.view_is) (λ x can. absurd (none_to_extract kept refl sound j c.requires.stage m movers c.in_default.ensures.none_may x can))
+    (rw (← c.self.view_is) (λ x can. absurd (none_to_extract kept refl sound j c.requires.stage m movers c.in_default.ensures.none_may x can)), c.self.view_is)
 
 pub unreachable-requires : goal.unreachable-requires
 unreachable-requires g c =
@@ -120,9 +120,9 @@ send-requires-clause-changes g c κs within =
     rw (c.in_ok-make_room.ensures.made, c.packet-packet.ensures, bin, c.as_slice-2.ensures.value, c.in_ok-changes.ensures, c.as_slice.ensures.value)
     (packet_changes q job i.log.worker i.log.log j h host moved.bin moved.time may sound kept.parts.legal c.requires.stage one c.take_bin.new.self c.in_ok-numbers.numbers.items c.in_ok-numbers.ensures.denotes taken left.1 told)
 
-pub send-requires-clause-ends : goal.send-requires-clause-ends
-send-requires-clause-ends g c κs within =
-    rw c.in_ok-make_room.ensures.made (ends_asked c.self.invariant refl c.args.self.now c.self.view_is (g.P.Post.denotes c.args.post.now) c.requires.ends)
+pub send-requires-clause-at_post : goal.send-requires-clause-at_post
+send-requires-clause-at_post g c κs within =
+    rw c.in_ok-make_room.ensures.made (post_asked c.self.invariant refl c.args.self.now c.self.view_is g.P.Post.workers g.P.Post.depth g.P.Post.serves g.P.Post.denotes c.args.post.now c.requires.at_post)
 
 pub sent-requires-clause-keys : goal.sent-requires-clause-keys
 sent-requires-clause-keys g c κs within =
@@ -174,8 +174,8 @@ invariant_of-self-in-Ok g c =
     let told = movers_sent kept refl sound j c.requires.stage m movers moved.bin moved.time c.in-Some.ensures.may_leave made.new.self c.sent.new.self roomy (ap (λ (n : MoversState). n.stage) same) (ap (λ (n : MoversState). n.worker) same) c.sent.ensures.held in
     packet_kept kept refl sound j c.requires.stage m movers moved.bin moved.time c.in-Some.ensures.may_leave c.take_bin.new.self c.sent.new.self without told c.send.new.log worker sent
 
-pub returns-in-Ok-clause-did : goal.returns-in-Ok-clause-did
-returns-in-Ok-clause-did g c =
+pub returns-in-Ok-clause-steps : goal.returns-in-Ok-clause-steps
+returns-in-Ok-clause-steps g c =
     let laws = g.met.Q.Query g.world.𝓛 g.world.𝓜 g.world.𝓡 ((λ s x. x), (λ x. x), (λ x. x), λ x. x) in
     let job = g.J.Naming.job in
     let q = g.Q.Query.facts job.rules in
@@ -189,29 +189,16 @@ returns-in-Ok-clause-did g c =
     let bin = taken_of_bin moved.bin moved.time c.in-Some-take_bin.field-0 c.index_mut-host.result.now c.take_bin.new.self c.in-Some-take_bin.ensures.taken in
     let sent = rw (c.in_ok-make_room.ensures.made, c.packet-packet.ensures, bin) at c.in-Ok.ensures.sent in
     let can = can_extract kept refl sound j c.requires.stage m movers moved.bin moved.time c.in-Some.ensures.may_leave in
-    rw (← c.self.view_is, c.in-Ok.ensures.name, c.packet-packet.ensures, bin) (makes kept refl (Extract j) (Packet j moved.bin moved.time) c.send.new.log.log sent can)
+    let to = goes_to kept refl sound j c.requires.stage m movers moved c.in-Some.ensures.away in
+    let room = rw c.in_ok-make_room.ensures.made at c.in-Ok.ensures.room in (
+      rw (← c.self.view_is, c.in-Ok.ensures.name, c.packet-packet.ensures, bin) (makes kept refl (Extract j) (Packet j moved.bin moved.time) c.send.new.log.log sent can),
+      rw (c.in-Ok.ensures.name, c.packet-packet.ensures, bin) (edge_told kept refl c.args.self.now c.self.view_is (g.P.Post.had_room c.args.post.now) _ _ to room),
+    )
 
 pub returns-in-Ok-clause-mail : goal.returns-in-Ok-clause-mail
 returns-in-Ok-clause-mail g c =
-    let laws = g.met.Q.Query g.world.𝓛 g.world.𝓜 g.world.𝓡 ((λ s x. x), (λ x. x), (λ x. x), λ x. x) in
-    let job = g.J.Naming.job in
-    let q = g.Q.Query.facts job.rules in
-    let kept = c.self.invariant in
-    let sound = outline_is_sound q (laws.has_stages job.rules) (laws.posts_are_later job.rules) (laws.later_stages_post_nothing job.rules) job kept.legal in
-    let i = c.self.inside in
-    let j = c.args.stage in
-    let m = c.index_mut-movers.result.now in
-    let movers = movers_at kept sound j c.requires.stage m c.index_mut-movers.ensures.value in
-    let moved = c.in-Some.moved in
-    let bin = taken_of_bin moved.bin moved.time c.in-Some-take_bin.field-0 c.index_mut-host.result.now c.take_bin.new.self c.in-Some-take_bin.ensures.taken in
-    let to = goes_to kept refl sound j c.requires.stage m movers moved c.in-Some.ensures.away in
-    let room = rw c.in_ok-make_room.ensures.made at c.in-Ok.ensures.room in
-    rw (c.in-Ok.ensures.name, c.packet-packet.ensures, bin) (edge_told kept refl c.args.self.now c.self.view_is (g.P.Post.had_room c.args.post.now) _ _ to room)
-
-pub returns-in-Ok-clause-ends : goal.returns-in-Ok-clause-ends
-returns-in-Ok-clause-ends g c =
-    let ends = rw c.in_ok-make_room.ensures.made at c.in-Ok.ensures.ends in
-    ends_told c.self.invariant refl c.args.self.now c.self.view_is (g.P.Post.denotes c.args.post.now) (g.P.Post.denotes c.send.new.post) c.send.new.log.log ends
+    let follows = rw c.in_ok-make_room.ensures.made at c.in-Ok.ensures.mail in
+    post_told c.self.invariant refl c.args.self.now c.self.view_is g.P.Post.workers g.P.Post.depth g.P.Post.serves g.P.Post.denotes c.args.post.now c.send.new.post c.send.new.log.log follows
 
 pub put_back-requires-clause-fits : goal.put_back-requires-clause-fits
 put_back-requires-clause-fits g c κs within =
@@ -270,8 +257,8 @@ invariant_of-self-2 g c =
     let roomy = with_room q job i.log.worker i.log.log j m made.new.self movers made.ensures.same made.ensures.held in
     packet_still_kept kept refl sound j c.requires.stage made.new.self roomy c.put_back.new.self again c.send.new.log worker unsent
 
-pub returns-clause-none : goal.returns-clause-none
-returns-clause-none g c =
+pub returns-clause-steps : goal.returns-clause-steps
+returns-clause-steps g c =
     let laws = g.met.Q.Query g.world.𝓛 g.world.𝓜 g.world.𝓡 ((λ s x. x), (λ x. x), (λ x. x), λ x. x) in
     let job = g.J.Naming.job in
     let q = g.Q.Query.facts job.rules in
@@ -285,10 +272,13 @@ returns-clause-none g c =
     let bin = taken_of_bin moved.bin moved.time c.in-Some-take_bin.field-0 c.index_mut-host.result.now c.take_bin.new.self c.in-Some-take_bin.ensures.taken in
     let to = goes_to kept refl sound j c.requires.stage m movers moved c.in-Some.ensures.away in
     let full = rw c.in_ok-make_room.ensures.made at c.in-Err.ensures.full in
-    rw (← c.self.view_is)
-    (λ x can. rw (← one_packet kept refl sound j c.requires.stage m movers moved.bin moved.time c.in-Some.ensures.may_leave x can) (edge_told kept refl _ refl (g.P.Post.was_full c.args.post.now) _ _ to full))
+    let unsent = rw c.in_ok-make_room.ensures.made at c.in-Err.ensures.unchanged in (
+      rw (← c.self.view_is)
+          (λ x can. rw (← one_packet kept refl sound j c.requires.stage m movers moved.bin moved.time c.in-Some.ensures.may_leave x can) (edge_told kept refl _ refl (g.P.Post.was_full c.args.post.now) _ _ to full)),
+      same_state c.self.invariant refl c.args.self.now c.self.view_is _ unsent,
+    )
 
-pub returns-clause-ends : goal.returns-clause-ends
-returns-clause-ends g c =
-    let ends = rw c.in_ok-make_room.ensures.made at c.in-Err.ensures.ends in
-    ends_told c.self.invariant refl c.args.self.now c.self.view_is (g.P.Post.denotes c.args.post.now) (g.P.Post.denotes c.send.new.post) c.send.new.log.log ends
+pub returns-clause-mail : goal.returns-clause-mail
+returns-clause-mail g c =
+    let follows = rw c.in_ok-make_room.ensures.made at c.in-Err.ensures.mail in
+    post_told c.self.invariant refl c.args.self.now c.self.view_is g.P.Post.workers g.P.Post.depth g.P.Post.serves g.P.Post.denotes c.args.post.now c.send.new.post c.send.new.log.log follows

@@ -4,15 +4,15 @@ use Rattle.mp_outline.proofs.Soundness.{outline_is_sound}
 use Rattle.mp_worker.proofs.Ingested.{can_ingest, has_record, ingested_counts, next_record, none_to_ingest, record_fits, record_ingested, roomy_router, some_router}
 use Rattle.mp_worker.proofs.worker.Worker.ingest.Goals as goal
 
-pub returns-in_default-clause-none : goal.returns-in_default-clause-none
-returns-in_default-clause-none g c = λ x can.
+pub returns-in_default : goal.returns-in_default
+returns-in_default g c =
     let laws = g.met.Q.Query g.world.𝓛 g.world.𝓜 g.world.𝓡 ((λ s x. x), (λ x. x), (λ x. x), λ x. x) in
     let job = g.J.Naming.job in
     let q = g.Q.Query.facts job.rules in
     let kept = c.self.invariant in
     let sound = outline_is_sound q (laws.has_stages job.rules) (laws.posts_are_later job.rules) (laws.later_stages_post_nothing job.rules) job kept.legal in
     let share = rw kept.same at c.share.ensures in
-    none_to_ingest q job sound _ kept.parts c.self.inside.number kept.number _ c.names-next.ensures _ share c.in_default.ensures.lookup.3 x (rw c.self.view_is can)
+    ((λ x can. none_to_ingest q job sound _ kept.parts c.self.inside.number kept.number _ c.names-next.ensures _ share c.in_default.ensures.lookup.3 x (rw c.self.view_is can)), refl)
 
 pub rec_at-requires-after_bounds : goal.rec_at-requires-after_bounds
 rec_at-requires-after_bounds g c κs within =
@@ -79,8 +79,8 @@ invariant_of-self-2 g c =
     rw (c.in_ok-push.ensures.pushed, c.in_ok-make_room.ensures.made, set-set)
     (record { same = kept.same; legal = kept.legal; rows = kept.rows; number = kept.number; parts = parts })
 
-pub returns-clause-did : goal.returns-clause-did
-returns-clause-did g c =
+pub returns : goal.returns
+returns g c =
     let laws = g.met.Q.Query g.world.𝓛 g.world.𝓜 g.world.𝓡 ((λ s x. x), (λ x. x), (λ x. x), λ x. x) in
     let job = g.J.Naming.job in
     let q = g.Q.Query.facts job.rules in

@@ -27,7 +27,7 @@ invariant_of-result g c =
     let routers = c.in_ok-routers.ensures in
     let hosts = c.in_ok-hosts.ensures in
     let movers = c.in_ok-movers.ensures in
-    let parts = parts_at_first q job sound c.args.number c.args.seen c.requires.number c.requires.opening c.in_ok-log.log c.in_ok-owners.owners _ _ _ c.new-2.result c.new-3.result log.worker log.log
+    let parts = parts_at_first q job sound c.args.number c.args.seen c.requires.number c.requires.opening c.in_ok-log.log _ c.in_ok-owners.owners _ _ _ c.new-2.result c.new-3.result log.worker log.log (rw c.of-posted.ensures log.log)
     (owners.shape ∙ shape) owners.none_noted (routers.all ∙ ap (λ (s : Shape). s.stages) shape) (routers.each c.args.number) hosts.all hosts.each movers.all movers.each c.new-2.ensures c.new-3.ensures.rows in
     record {
       same = c.requires.job;

@@ -6,7 +6,7 @@ use Rattle.mp_model.specs.Facts.{JobFacts}
 use Rattle.mp_outline.proofs.Soundness.{outline_is_sound}
 use Rattle.mp_worker_invariant.specs.Parts.{place_after}
 use Rattle.mp_worker.proofs.Controls.{control_counted, control_kept, may_send_control, one_control}
-use Rattle.mp_worker.proofs.Going.{edge_told, ends_asked, ends_told}
+use Rattle.mp_worker.proofs.Going.{edge_told, post_asked, post_told, same_state}
 use Rattle.mp_worker.proofs.worker.Worker.send_control.Goals as goal
 
 pub send-requires-clause-may : goal.send-requires-clause-may
@@ -30,12 +30,12 @@ send-requires-clause-changes g c κs within =
     let control : c.in-Some.control.now ≡ control_of job.controls c.self.inside.next.index = c.in-Some.ensures.lookup.3.1 no_control ∙ ap (λ (cs : List Control). control_of cs c.self.inside.next.index) all in
     rw (c.in_ok-make_room.ensures.made, c.control-message.ensures, c.one_less.ensures, c.one_more.ensures, control) (control_counted kept refl c.if-self-ne0.false sound listed)
 
-pub send-requires-clause-ends : goal.send-requires-clause-ends
-send-requires-clause-ends g c κs within =
-    rw c.in_ok-make_room.ensures.made (ends_asked c.self.invariant refl c.args.self.now c.self.view_is (g.P.Post.denotes c.args.post.now) c.requires.ends)
+pub send-requires-clause-at_post : goal.send-requires-clause-at_post
+send-requires-clause-at_post g c κs within =
+    rw c.in_ok-make_room.ensures.made (post_asked c.self.invariant refl c.args.self.now c.self.view_is g.P.Post.workers g.P.Post.depth g.P.Post.serves g.P.Post.denotes c.args.post.now c.requires.at_post)
 
-pub returns-in_default-send-clause-none : goal.returns-in_default-send-clause-none
-returns-in_default-send-clause-none g c =
+pub returns-in_default-send-clause-steps : goal.returns-in_default-send-clause-steps
+returns-in_default-send-clause-steps g c =
     let laws = g.met.Q.Query g.world.𝓛 g.world.𝓜 g.world.𝓡 ((λ s x. x), (λ x. x), (λ x. x), λ x. x) in
     let job = g.J.Naming.job in
     let kept = c.self.invariant in
@@ -43,12 +43,15 @@ returns-in_default-send-clause-none g c =
     let all = c.controls.ensures ∙ ap (λ (f : JobFacts). f.controls) kept.same in
     let listed = subst (λ (cs : List Control). c.self.inside.next.index < length cs) all c.in-Some.ensures.lookup.3.0 in
     let full = rw c.in_ok-make_room.ensures.made at c.in_default-send.ensures.full in
-    rw (← c.self.view_is) (λ x can. rw (← one_control kept refl c.if-self-ne0.false sound listed x can) (edge_told kept refl _ refl (g.P.Post.was_full c.args.post.now) _ _ refl full))
+    let unsent = rw c.in_ok-make_room.ensures.made at c.in_default-send.ensures.unchanged in (
+      rw (← c.self.view_is) (λ x can. rw (← one_control kept refl c.if-self-ne0.false sound listed x can) (edge_told kept refl _ refl (g.P.Post.was_full c.args.post.now) _ _ refl full)),
+      same_state kept refl c.args.self.now c.self.view_is _ unsent,
+    )
 
-pub returns-in_default-send-clause-ends : goal.returns-in_default-send-clause-ends
-returns-in_default-send-clause-ends g c =
-    let ends = rw c.in_ok-make_room.ensures.made at c.in_default-send.ensures.ends in
-    ends_told c.self.invariant refl c.args.self.now c.self.view_is (g.P.Post.denotes c.args.post.now) (g.P.Post.denotes c.send.new.post) c.send.new.log.log ends
+pub returns-in_default-send-clause-mail : goal.returns-in_default-send-clause-mail
+returns-in_default-send-clause-mail g c =
+    let follows = rw c.in_ok-make_room.ensures.made at c.in_default-send.ensures.mail in
+    post_told c.self.invariant refl c.args.self.now c.self.view_is g.P.Post.workers g.P.Post.depth g.P.Post.serves g.P.Post.denotes c.args.post.now c.send.new.post c.send.new.log.log follows
 
 pub invariant_of-self-2 : goal.invariant_of-self-2
 invariant_of-self-2 g c =
@@ -65,7 +68,7 @@ invariant_of-self-2 g c =
     let sent = rw (c.in_ok-make_room.ensures.made, c.control-message.ensures) at c.in-Ok.ensures.sent in
     rw place (control_kept kept refl c.if-self-ne0.false sound listed c.send.new.log worker sent)
 
-pub returns-clause-ends : goal.returns-clause-ends
-returns-clause-ends g c =
-    let ends = rw c.in_ok-make_room.ensures.made at c.in-Ok.ensures.ends in
-    ends_told c.self.invariant refl c.args.self.now c.self.view_is (g.P.Post.denotes c.args.post.now) (g.P.Post.denotes c.send.new.post) c.send.new.log.log ends
+pub returns-clause-mail : goal.returns-clause-mail
+returns-clause-mail g c =
+    let follows = rw c.in_ok-make_room.ensures.made at c.in-Ok.ensures.mail in
+    post_told c.self.invariant refl c.args.self.now c.self.view_is g.P.Post.workers g.P.Post.depth g.P.Post.serves g.P.Post.denotes c.args.post.now c.send.new.post c.send.new.log.log follows

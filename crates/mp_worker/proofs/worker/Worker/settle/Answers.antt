@@ -10,15 +10,15 @@ use Rattle.mp_worker.proofs.Movers.{movers_at}
 use Rattle.mp_worker.proofs.Settling.{can_settle, none_to_settle, settled_counted, settled_kept}
 use Rattle.mp_worker.proofs.worker.Worker.settle.Goals as goal
 
-pub returns-in_default-clause-none : goal.returns-in_default-clause-none
-returns-in_default-clause-none g c =
+pub returns-in_default : goal.returns-in_default
+returns-in_default g c =
     let laws = g.met.Q.Query g.world.𝓛 g.world.𝓜 g.world.𝓡 ((λ s x. x), (λ x. x), (λ x. x), λ x. x) in
     let job = g.J.Naming.job in
     let kept = c.self.invariant in
     let sound = outline_is_sound (g.Q.Query.facts job.rules) (laws.has_stages job.rules) (laws.posts_are_later job.rules) (laws.later_stages_post_nothing job.rules) job kept.legal in
     let m = c.index_mut-movers.result.now in
     let at = movers_at kept sound c.args.stage c.requires.stage m c.index_mut-movers.ensures.value in
-    rw (← c.self.view_is) (none_to_settle kept refl sound c.args.stage c.requires.stage m at c.in_default.ensures.none_may)
+    (rw (← c.self.view_is) (none_to_settle kept refl sound c.args.stage c.requires.stage m at c.in_default.ensures.none_may), rw c.in_ok-make_room.ensures.made c.self.view_is)
 
 pub push-requires-clause-changes : goal.push-requires-clause-changes
 push-requires-clause-changes g c κs within =
@@ -45,8 +45,8 @@ invariant_of-self-2 g c =
     next c.push.new.self (ap (λ (l : WorkerLog). l.worker) pushed ∙ ap (λ (l : WorkerLog). l.worker) made)
     (ap (λ (l : WorkerLog). l.log) pushed ∙ ap (λ (l : WorkerLog). with_settled l.log (Settled c.args.stage c.in-Some.time)) made)
 
-pub returns-clause-did : goal.returns-clause-did
-returns-clause-did g c =
+pub returns : goal.returns
+returns g c =
     let laws = g.met.Q.Query g.world.𝓛 g.world.𝓜 g.world.𝓡 ((λ s x. x), (λ x. x), (λ x. x), λ x. x) in
     let job = g.J.Naming.job in
     let kept = c.self.invariant in

@@ -1,22 +1,43 @@
-use Rattle.std.proofs.Common.{◌≡◌}
+use Rattle.std.proofs.Common.{Ok, ap, subst, sym}
+use Rattle.mp_names.specs.Logs.{Log}
+use Rattle.mp_names.specs.declared.kinds.Kind.{Kind}
 use Rattle.mp_names.specs.declared.kinds.Kind.TheVariants.{Write}
 use Rattle.mp_outline.specs.JobOutline.{outline_of}
-use Rattle.mp_worker.proofs.Stepped.{still_grows}
+use Rattle.mp_worker.specs.Turns.{Answers}
+use Rattle.mp_worker.proofs.Stepped.{post_same, write_kept, writes}
+use Rattle.mp_worker.proofs.Turned.{answers, answers_exchange, answers_refused, refused_in_turn, same_log_after, stays_at_hub, writes_in_turn}
 use Rattle.mp_worker.proofs.worker.Worker.step.Goals as goal
 
-pub returns-in_ok-write-in-Write-clause-posted : goal.returns-in_ok-write-in-Write-clause-posted
-returns-in_ok-write-in-Write-clause-posted g c =
-    let o = outline_of (g.Q.Query.facts g.J.Naming.job.rules) g.J.Naming.job in
-    let old = c.args.self.now in
-    let new = c.write.new.self in
-    let none = (new ≡ old) × (c.write.new.sink ≡ c.args.sink.now) in
-    let made = c.in_ok-write-in-Write in
-    still_grows none o Write (g.H.Hub.posted c.args.hub.now old.number) old new _ c.requires.posted made.ensures.did made.ensures.idle (λ same. same.0)
+pub returns-in-Exchange-clause-answers : goal.returns-in-Exchange-clause-answers
+returns-in-Exchange-clause-answers g c = answers_exchange (g.P.Post.had_room c.args.post.now) (g.P.Post.was_full c.args.post.now) (g.P.Post.was_empty c.args.post.now) _ _ _ _ g.H.Hub.after g.H.Hub.kept g.H.Hub.shows g.H.Hub.goes_on g.H.Hub.was_stopped g.H.Hub.was_busy c.args.hub.now c.exchange.new.hub c.in-Exchange.is c.exchange.result c.exchange.ensures.exchanges
 
-pub returns-in_ok-step_by_mail-in_default-clause-posted : goal.returns-in_ok-step_by_mail-in_default-clause-posted
-returns-in_ok-step_by_mail-in_default-clause-posted g c =
-    let o = outline_of (g.Q.Query.facts g.J.Naming.job.rules) g.J.Naming.job in
-    let old = c.args.self.now in
-    let new = c.step_by_mail.new.self in
-    let made = c.in_ok-step_by_mail-in_default in
-    still_grows (new ≡ old) o c.args.kind (g.H.Hub.posted c.args.hub.now old.number) old new _ c.requires.posted made.ensures.did made.ensures.idle (λ same. same)
+pub returns-in-Exchange-clause-mail : goal.returns-in-Exchange-clause-mail
+returns-in-Exchange-clause-mail g c =
+    let same = same_log_after (g.P.Post.had_room c.args.post.now) (g.P.Post.was_full c.args.post.now) (g.P.Post.was_empty c.args.post.now) (outline_of (g.Q.Query.facts g.J.Naming.job.rules) g.J.Naming.job) c.args.kind _ _ g.H.Hub.after g.H.Hub.kept g.H.Hub.shows g.H.Hub.goes_on g.H.Hub.was_stopped g.H.Hub.was_busy c.args.hub.now c.exchange.new.hub c.exchange.result c.exchange.ensures.exchanges in
+    post_same g.P.Post.workers g.P.Post.depth g.P.Post.serves g.P.Post.denotes (outline_of (g.Q.Query.facts g.J.Naming.job.rules) g.J.Naming.job) _ _ _ _ (ap (λ (l : Log). l.sent) same) (ap (λ (l : Log). l.took) same)
+
+pub returns-in_ok-write-in-Write-clause-answers : goal.returns-in_ok-write-in-Write-clause-answers
+returns-in_ok-write-in-Write-clause-answers g c =
+    let made = answers (g.P.Post.had_room c.args.post.now) (g.P.Post.was_full c.args.post.now) (g.P.Post.was_empty c.args.post.now) (outline_of (g.Q.Query.facts g.J.Naming.job.rules) g.J.Naming.job) Write _ _ (Unit {0}) c.in_ok-write-in-Write.field-0 c.turn_of.result c.turn_of.ensures.did c.turn_of.ensures.not_now (writes (g.P.Post.had_room c.args.post.now) (g.P.Post.was_full c.args.post.now) (g.P.Post.was_empty c.args.post.now) (outline_of (g.Q.Query.facts g.J.Naming.job.rules) g.J.Naming.job) {E = Unit {0}} _ _ (Ok c.in_ok-write-in-Write.field-0) c.in_ok-write-in-Write.ensures.steps) in
+    subst (λ (k : Kind). Answers (g.P.Post.had_room c.args.post.now) (g.P.Post.was_full c.args.post.now) (g.P.Post.was_empty c.args.post.now) (outline_of (g.Q.Query.facts g.J.Naming.job.rules) g.J.Naming.job) k c.args.self.now c.write.new.self (Ok c.turn_of.result)) (sym c.in-Write.is) made
+
+pub returns-in_ok-write-in-Write-clause-mail : goal.returns-in_ok-write-in-Write-clause-mail
+returns-in_ok-write-in-Write-clause-mail g c = write_kept g.P.Post.workers g.P.Post.depth g.P.Post.serves g.P.Post.denotes (outline_of (g.Q.Query.facts g.J.Naming.job.rules) g.J.Naming.job) {E = Unit {0}} _ _ _ (Ok c.in_ok-write-in-Write.field-0) c.in_ok-write-in-Write.ensures.steps
+
+pub returns-in_ok-write-in-Write-clause-at_hub : goal.returns-in_ok-write-in-Write-clause-at_hub
+returns-in_ok-write-in-Write-clause-at_hub g c = stays_at_hub (g.P.Post.had_room c.args.post.now) (g.P.Post.was_full c.args.post.now) (g.P.Post.was_empty c.args.post.now) (outline_of (g.Q.Query.facts g.J.Naming.job.rules) g.J.Naming.job) Write _ _ g.H.Hub.serves g.H.Hub.posted g.H.Hub.version c.args.hub.now c.requires.at_hub {E = Unit {0}} (Ok c.in_ok-write-in-Write.field-0) (writes (g.P.Post.had_room c.args.post.now) (g.P.Post.was_full c.args.post.now) (g.P.Post.was_empty c.args.post.now) (outline_of (g.Q.Query.facts g.J.Naming.job.rules) g.J.Naming.job) {E = Unit {0}} _ _ (Ok c.in_ok-write-in-Write.field-0) c.in_ok-write-in-Write.ensures.steps)
+
+pub returns-in_ok-write-in-Write-clause-writes : goal.returns-in_ok-write-in-Write-clause-writes
+returns-in_ok-write-in-Write-clause-writes g c = λ kind. writes_in_turn (g.Q.Query.facts g.J.Naming.job.rules) g.J.Naming.job g.S.Sink.written g.S.Sink.faults c.args.self.now c.args.sink.now c.write.new.sink c.in_ok-write-in-Write.field-0 c.turn_of.result c.turn_of.ensures.did c.turn_of.ensures.not_now c.in_ok-write-in-Write.ensures.writes
+
+pub returns-in_err-write-in-Write-clause-answers : goal.returns-in_err-write-in-Write-clause-answers
+returns-in_err-write-in-Write-clause-answers g c = answers_refused (g.P.Post.had_room c.args.post.now) (g.P.Post.was_full c.args.post.now) (g.P.Post.was_empty c.args.post.now) (outline_of (g.Q.Query.facts g.J.Naming.job.rules) g.J.Naming.job) _ _ _ c.in_err-write-in-Write.field-0.0 c.from_residual.result c.from_residual.ensures.1 c.in-Write.is c.in_err-write-in-Write.ensures.steps
+
+pub returns-in_err-write-in-Write-clause-writes : goal.returns-in_err-write-in-Write-clause-writes
+returns-in_err-write-in-Write-clause-writes g c = λ kind. refused_in_turn (g.Q.Query.facts g.J.Naming.job.rules) g.J.Naming.job g.S.Sink.written g.S.Sink.faults c.args.self.now c.args.sink.now c.write.new.sink c.in_err-write-in-Write.field-0.0 c.from_residual.result c.from_residual.ensures.1 c.in_err-write-in-Write.ensures.writes
+
+pub returns-in_ok-step_by_mail-in_default-clause-answers : goal.returns-in_ok-step_by_mail-in_default-clause-answers
+returns-in_ok-step_by_mail-in_default-clause-answers g c = answers (g.P.Post.had_room c.args.post.now) (g.P.Post.was_full c.args.post.now) (g.P.Post.was_empty c.args.post.now) (outline_of (g.Q.Query.facts g.J.Naming.job.rules) g.J.Naming.job) _ _ _ (Unit {0}) c.in_ok-step_by_mail-in_default.field-0 c.turn_of-in_default.result c.turn_of-in_default.ensures.did c.turn_of-in_default.ensures.not_now c.in_ok-step_by_mail-in_default.ensures.steps
+
+pub returns-in_ok-step_by_mail-in_default-clause-at_hub : goal.returns-in_ok-step_by_mail-in_default-clause-at_hub
+returns-in_ok-step_by_mail-in_default-clause-at_hub g c = stays_at_hub (g.P.Post.had_room c.args.post.now) (g.P.Post.was_full c.args.post.now) (g.P.Post.was_empty c.args.post.now) (outline_of (g.Q.Query.facts g.J.Naming.job.rules) g.J.Naming.job) c.args.kind _ _ g.H.Hub.serves g.H.Hub.posted g.H.Hub.version c.args.hub.now c.requires.at_hub {E = Unit {0}} (Ok c.in_ok-step_by_mail-in_default.field-0) c.in_ok-step_by_mail-in_default.ensures.steps

@@ -1,21 +1,22 @@
-use Rattle.std.proofs.Common.{List, ℕ, ◌∙◌, ap, inr}
+use Rattle.std.proofs.Common.{Err, List, ℕ, ◌∙◌, ap, inr}
 use Rattle.mp_outside.specs.Sink.{grown}
 use Rattle.mp_outline.specs.JobOutline.{outline_of}
 use Rattle.mp_outline.proofs.Soundness.{outline_is_sound}
 use Rattle.mp_count_laws.proofs.Settled.{written}
-use Rattle.mp_output.proofs.Writing.{on_err}
-use Rattle.mp_worker.proofs.Written.{part_written, rows_have_come, time_written}
+use Rattle.mp_worker.proofs.Written.{err_is, part_written, rows_have_come, time_written, writes_refused}
 use Rattle.mp_worker.proofs.worker.Worker.write.Goals as goal
 
-pub returns-in_err-time-clause-part : goal.returns-in_err-time-clause-part
-returns-in_err-time-clause-part g c =
+pub returns-in_err-time-clause-writes : goal.returns-in_err-time-clause-writes
+returns-in_err-time-clause-writes g c =
     let job = g.J.Naming.job in
     let q = g.Q.Query.facts job.rules in
     let kept = c.self.invariant in
-    let part = c.in_err-time.ensures.part in
-    let told = c.in_err-time.ensures.part_of_answer _ part.0 kept.parts.unwritten part.2 in
+    let refused = c.in_err-time.ensures in
+    let part = refused.part in
+    let told = refused.part_of_answer _ part.0 kept.parts.unwritten part.2 in
+    let some = part_written q job _ kept.parts _ kept.number c.if-self-ne0.false part.0 part.2 told part.1 _ _ part.4 in
     rw (← c.self.view_is)
-    (on_err c.from_residual-in_err-time.result (inr (part_written q job _ kept.parts _ kept.number c.if-self-ne0.false part.0 part.2 told part.1 _ _ part.4)))
+    (writes_refused q job g.S.Sink.written g.S.Sink.faults _ c.args.sink.now c.write_due.new.sink (inr some) c.in_err-time.field-0.0 _ c.from_residual-in_err-time.ensures.1 (λ e. refused.failed (ap Err e)) (λ e. refused.no_fault (λ f. e (err_is _ _ f))))
 
 pub push-requires-clause-changes : goal.push-requires-clause-changes
 push-requires-clause-changes g c κs within =
@@ -34,8 +35,8 @@ invariant_of-self-in-Time g c =
     rw (c.in_ok-push-in-Time.ensures.pushed, c.in_ok-make_room.ensures.made)
     (record { same = kept.same; legal = kept.legal; rows = kept.rows; number = kept.number; parts = parts })
 
-pub returns-in_ok-push-in-Time-clause-lines : goal.returns-in_ok-push-in-Time-clause-lines
-returns-in_ok-push-in-Time-clause-lines g c =
+pub returns-in_ok-push-in-Time-clause-writes : goal.returns-in_ok-push-in-Time-clause-writes
+returns-in_ok-push-in-Time-clause-writes g c =
     let job = g.J.Naming.job in
     let q = g.Q.Query.facts job.rules in
     let kept = c.self.invariant in

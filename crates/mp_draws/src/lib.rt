@@ -1,0 +1,8 @@
+//! Layer: values, files and text.
+//!
+//! Draws from a seed: a schedule and made events take their choices from them.
+#![tactic(auto)]
+
+mod draws;
+
+pub use draws::Draws;

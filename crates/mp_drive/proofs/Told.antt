@@ -1,0 +1,191 @@
+-- What a worker says of its step, by its answer.
+use Rattle.std.proofs.Common.{◌≡◌, ◌⊎◌, ℕ, Some, None, Ok, Err, List, Option, refl, sym, ap, ◌∙◌, inl, inr, ⊎_elim}
+use Rattle.std.specs.Prelude.{OnErr}
+use Rattle.std.specs.declared.result.Result.{Result}
+use Rattle.mp_names.specs.declared.kinds.Kind.{Kind}
+use Rattle.mp_names.specs.declared.kinds.Kind.TheVariants.{Exchange, Write}
+use Rattle.mp_names.specs.declared.names.Name.{Name}
+use Rattle.mp_names.specs.Outlines.{Outline}
+use Rattle.mp_stamps.specs.declared.seen.Seen.{Seen}
+use Rattle.mp_mailbox.specs.Queues.{HadRoom, Queues, WasEmpty, WasFull}
+use Rattle.mp_board.specs.Boards.{Posted, ShowsFrontiers, exchanged}
+use Rattle.mp_board.specs.declared.causes.Cause.{Cause}
+use Rattle.mp_model.specs.Facts.{JobFacts, QueryFacts}
+use Rattle.mp_outside.specs.Sink.{grown}
+use Rattle.mp_answer_laws.specs.Lines.{lines_of_time}
+use Rattle.mp_refinement.specs.Ends.{FollowsLog}
+use Rattle.mp_refinement.specs.Mail.{MailboxAllows, MailboxBlocks}
+use Rattle.mp_refinement.specs.Served.{PostFollows}
+use Rattle.mp_refinement.specs.State.{CanMake, Makes, WorkerState}
+use Rattle.mp_refinement.specs.SystemState.{queues_denote}
+use Rattle.mp_worker.specs.declared.turn.Stop.{Stop}
+use Rattle.mp_worker.specs.declared.turn.Stop.TheVariants as stop
+use Rattle.mp_worker.specs.declared.turn.Turn.{Turn as Answered}
+use Rattle.mp_worker.specs.declared.turn.Turn.TheVariants as worker
+use Rattle.mp_worker.specs.Exchanging.{Exchanges}
+use Rattle.mp_worker.specs.Turns.{Answers}
+use Rattle.mp_worker.specs.Writing.{WritesInTurn, WritesPart}
+
+-- What holds where a step gives one answer or another
+
+abbrev pub IfDid : Result Answered Stop → (Name → Type 0) → Type 0
+IfDid (Ok (worker.Did x)) P = P x
+IfDid _ P = Unit {0}
+
+abbrev pub IfSaw : Result Answered Stop → (ℕ → Type 0) → Type 0
+IfSaw (Ok (worker.Seen version)) P = P version
+IfSaw _ P = Unit {0}
+
+abbrev pub IfNotNow : Result Answered Stop → Type 0 → Type 0
+IfNotNow (Ok worker.NotNow) P = P
+IfNotNow _ P = Unit {0}
+
+abbrev pub IfBusy : Result Answered Stop → Type 0 → Type 0
+IfBusy (Ok worker.Busy) P = P
+IfBusy _ P = Unit {0}
+
+-- unless a name was put into the log, or a new version was seen
+abbrev pub IfNotMade : Result Answered Stop → Type 0 → Type 0
+IfNotMade (Ok (worker.Did x)) P = Unit {0}
+IfNotMade (Ok (worker.Seen version)) P = Unit {0}
+IfNotMade _ P = P
+
+pub is_exchange : (kind : Kind) → (kind ≡ Exchange) ⊎ (kind ≡ Exchange → ⊥)
+is_exchange Exchange = inl refl
+is_exchange kind = inr (λ e. cc)
+
+pub is_write : (kind : Kind) → (kind ≡ Write) ⊎ (kind ≡ Write → ⊥)
+is_write Write = inl refl
+is_write kind = inr (λ e. cc)
+
+pub exchange_no_write : (kind : Kind) → kind ≡ Exchange → kind ≡ Write → ⊥
+exchange_no_write kind e f = cc
+
+-- What a worker with this number says of its step, on a board and on plain queues
+pub record Says (o : Outline) (kind : Kind) (board after : Posted) (post left : Queues Name) (s new : WorkerState) (r : Result Answered Stop) (w : ℕ) : Type 0 where
+  pub did : IfDid r (λ x. Makes o kind s x new)
+  pub mail : IfDid r (MailboxAllows (HadRoom post) o w kind)
+  pub saw : IfSaw r (λ version. (kind ≡ Exchange) × (new ≡ record s { posted = s.log; seen = new.seen }) × (new.seen.version ≡ version) × (version ≡ s.seen.version → ⊥))
+  pub shown : IfSaw r (λ _. (after ≡ exchanged board w s.log) × ((new.seen.version ≡ after.version) × ShowsFrontiers o after.logs new.seen))
+  pub not_now : IfNotNow r ((x : Name) → CanMake o kind s x → MailboxBlocks (WasFull post) (WasEmpty post) o w kind x)
+  pub same : IfNotNow r (kind ≡ Exchange → (after ≡ exchanged board w s.log) × ((seen : Seen) × ((seen.version ≡ after.version) × ShowsFrontiers o after.logs seen) × (seen.version ≡ s.seen.version)))
+  pub busy : IfBusy r ⊥
+  pub unchanged : IfNotMade r (new ≡ s)
+  pub follows : FollowsLog (queues_denote o post) (queues_denote o left) o w s.log new.log
+  pub workers : left.workers ≡ post.workers
+  pub depth : left.depth ≡ post.depth
+  pub others : (kind ≡ Exchange → ⊥) → after ≡ board
+  pub kept : OnErr r (after ≡ board)
+
+module _ (o : Outline) (kind : Kind) (board after : Posted) (post left : Queues Name) (s new : WorkerState) where
+  abbrev Answer : Result Answered Stop → Type 0
+  Answer r = Answers (HadRoom post) (WasFull post) (WasEmpty post) o kind s new r
+
+  -- an exchange at a board that goes on and is never held
+  abbrev pub AtBoard : Result Answered Stop → Type 0
+  AtBoard r =
+      kind ≡ Exchange → Exchanges (λ b w log c. c ≡ exchanged b w log) (λ b c. c ≡ b) (λ b seen. (seen.version ≡ b.version) × ShowsFrontiers o b.logs seen) (λ b. b.stopped ≡ None) (λ b cause. b.stopped ≡ Some cause) (λ _. ⊥) s new board after r
+
+  did_of : (r : Result Answered Stop) → Answer r → IfDid r (λ x. Makes o kind s x new)
+  did_of (Ok (worker.Did x)) a = a.0
+  did_of r a = tt
+
+  mail_of : (r : Result Answered Stop) → Answer r → IfDid r (MailboxAllows (HadRoom post) o s.number kind)
+  mail_of (Ok (worker.Did x)) a = a.1
+  mail_of r a = tt
+
+  saw_of : (r : Result Answered Stop) → Answer r → IfSaw r (λ version. (kind ≡ Exchange) × (new ≡ record s { posted = s.log; seen = new.seen }) × (new.seen.version ≡ version) × (version ≡ s.seen.version → ⊥))
+  saw_of (Ok (worker.Seen version)) a = (a.0, a.1.after, a.1.version_is, a.1.is_new)
+  saw_of r a = tt
+
+  shown_of : (r : Result Answered Stop) → Answer r → AtBoard r → IfSaw r (λ _. (after ≡ exchanged board s.number s.log) × ((new.seen.version ≡ after.version) × ShowsFrontiers o after.logs new.seen))
+  shown_of (Ok (worker.Seen version)) a at = let h = at a.0 in (h.1.1, h.2)
+  shown_of r a at = tt
+
+  not_now_of : (r : Result Answered Stop) → Answer r → IfNotNow r ((x : Name) → CanMake o kind s x → MailboxBlocks (WasFull post) (WasEmpty post) o s.number kind x)
+  not_now_of (Ok worker.NotNow) a = a.0
+  not_now_of r a = tt
+
+  same_of : (r : Result Answered Stop) → AtBoard r
+      → IfNotNow r (kind ≡ Exchange → (after ≡ exchanged board s.number s.log) × ((seen : Seen) × ((seen.version ≡ after.version) × ShowsFrontiers o after.logs seen) × (seen.version ≡ s.seen.version)))
+  same_of (Ok worker.NotNow) at = λ e. let h = at e in (h.2.1, h.3)
+  same_of r at = tt
+
+  busy_of : (r : Result Answered Stop) → Answer r → AtBoard r → IfBusy r ⊥
+  busy_of (Ok worker.Busy) a at = (at a.0).1
+  busy_of r a at = tt
+
+  unchanged_of : (r : Result Answered Stop) → Answer r → IfNotMade r (new ≡ s)
+  unchanged_of (Ok (worker.Did x)) a = tt
+  unchanged_of (Ok (worker.Seen version)) a = tt
+  unchanged_of (Ok worker.NotNow) a = a.1
+  unchanged_of (Ok worker.Busy) a = a.1
+  unchanged_of (Err stop.Write) a = a.1
+  unchanged_of (Err stop.Memory) a = a
+  unchanged_of (Err (stop.Other cause)) a = a.1
+
+  kept_of : (r : Result Answered Stop) → Answer r → AtBoard r → ((kind ≡ Exchange → ⊥) → after ≡ board) → OnErr r (after ≡ board)
+  kept_of (Ok turn) a at others = tt
+  kept_of (Err stop.Write) a at others = others (λ e. exchange_no_write kind e a.0)
+  kept_of (Err stop.Memory) a at others =
+      ⊎_elim
+      (λ (e : kind ≡ Exchange). ⊎_elim (λ (h : after ≡ board). h) (λ (h : (board.stopped ≡ None) × (after ≡ board)). h.1) (at e).1)
+      others
+      (is_exchange kind)
+  kept_of (Err (stop.Other cause)) a at others = (at a.0).2
+
+  pub says_of : (r : Result Answered Stop) → Answer r → AtBoard r → ((kind ≡ Exchange → ⊥) → after ≡ board)
+      → PostFollows (λ q. q.workers) (λ q. q.depth) (λ _ w. Unit {0}) (queues_denote o) o s.number s.log new.log post left → Says o kind board after post left s new r s.number
+  says_of r a at others mail = record {
+    did = did_of r a;
+    mail = mail_of r a;
+    saw = saw_of r a;
+    shown = shown_of r a at;
+    not_now = not_now_of r a;
+    same = same_of r at;
+    busy = busy_of r a at;
+    unchanged = unchanged_of r a;
+    follows = mail.follows;
+    workers = mail.keeps.same_workers;
+    depth = mail.keeps.same_depth;
+    others = others;
+    kept = kept_of r a at others;
+  }
+
+-- What a worker's step says of the bytes of a sink
+pub record Writes {Cell : Type 0} (q : QueryFacts Cell) (job : JobFacts) (kind : Kind) (s : WorkerState) (written now : Option (List ℕ)) (r : Result Answered Stop) : Type 0 where
+  pub others : (kind ≡ Write → ⊥) → now ≡ written
+  pub lines : IfDid r (λ x. kind ≡ Write → now ≡ grown written (lines_of_time q job.events x))
+  pub nothing : IfNotNow r (now ≡ written)
+  pub part : OnErr r ((now ≡ written) ⊎ WritesPart q job s written now)
+
+module _ {Cell S : Type 0} (q : QueryFacts Cell) (job : JobFacts) (written : S → Option (List ℕ)) (faults : S → ℕ) (kind : Kind) (s : WorkerState) (old new : S) where
+  abbrev InTurn : Result Answered Stop → Type 0
+  InTurn r = kind ≡ Write → WritesInTurn q job written faults s old new r
+
+  lines_of : (r : Result Answered Stop) → InTurn r → IfDid r (λ x. kind ≡ Write → written new ≡ grown (written old) (lines_of_time q job.events x))
+  lines_of (Ok (worker.Did x)) w = w
+  lines_of r w = tt
+
+  nothing_of : (r : Result Answered Stop) → InTurn r → ((kind ≡ Write → ⊥) → new ≡ old) → IfNotNow r (written new ≡ written old)
+  nothing_of (Ok worker.NotNow) w others = ap written (⊎_elim (λ (e : kind ≡ Write). w e) others (is_write kind))
+  nothing_of r w others = tt
+
+  part_of : (r : Result Answered Stop) → InTurn r → ((kind ≡ Write → ⊥) → new ≡ old) → OnErr r ((written new ≡ written old) ⊎ WritesPart q job s (written old) (written new))
+  part_of (Ok turn) w others = tt
+  part_of (Err stop.Write) w others = ⊎_elim (λ (e : kind ≡ Write). (w e).0) (λ (n : kind ≡ Write → ⊥). inl (ap written (others n))) (is_write kind)
+  part_of (Err stop.Memory) w others = ⊎_elim (λ (e : kind ≡ Write). (w e).0) (λ (n : kind ≡ Write → ⊥). inl (ap written (others n))) (is_write kind)
+  part_of (Err (stop.Other cause)) w others = ⊎_elim (λ (e : kind ≡ Write). absurd (w e)) (λ (n : kind ≡ Write → ⊥). inl (ap written (others n))) (is_write kind)
+
+  pub writes_of : (r : Result Answered Stop) → InTurn r → ((kind ≡ Write → ⊥) → new ≡ old) → Writes q job kind s (written old) (written new) r
+  writes_of r w others = record {
+    others = λ n. ap written (others n);
+    lines = lines_of r w;
+    nothing = nothing_of r w others;
+    part = part_of r w others;
+  }
+
+  -- want of memory counts no fault
+  pub memory_of : (r : Result Answered Stop) → r ≡ Err stop.Memory → InTurn r → ((kind ≡ Write → ⊥) → new ≡ old) → faults new ≡ faults old
+  memory_of (Err stop.Memory) e w others = ⊎_elim (λ (f : kind ≡ Write). (w f).1) (λ (n : kind ≡ Write → ⊥). ap faults (others n)) (is_write kind)
+  memory_of r e w others = absurd (cc)

@@ -1,0 +1,13 @@
+use Rattle.std.proofs.Common.{ℕ, Bool, arith, rules, of_calls}
+use Rattle.std.proofs.lemmas.Fn.{always_returns_same}
+use Rattle.mp_names.specs.Names.{is_before}
+use Rattle.mp_ordered.proofs.Placing.{placed_at, partitioned}
+use Rattle.mp_ordered.proofs.queue.OrderedQueue.place_of.Goals as goal
+
+pub returns-clause-place : goal.returns-clause-place
+returns-clause-place g c =
+    let rank = g.O.Order.rank in
+    let items = c.self.inside.items.items in
+    let x = c.args.item.now in
+    let point = c.partition_point.ensures.partitioned (λ y. is_before (rank y) (rank x)) (always_returns_same _ _ _ (λ a r f k. search (rules, of_calls))) (partitioned rank x items c.self.invariant) in
+    rw (← c.self.view_is) (placed_at rank x items c.partition_point.result (omega (arith, c.partition_point.ensures.bound)) (λ k d l. point.0 k d (omega arith) l) (λ d l. point.1 c.partition_point.result d (omega arith) l))

@@ -1,0 +1,5 @@
+-- The name that is picked is that of the job.
+use Rattle.mp_test_runs.proofs.schedule.the_schedule_of_seed_0.Given as goal
+
+abbrev pub ghosts-seed_makes_the_steps : goal.ghosts-seed_makes_the_steps
+ghosts-seed_makes_the_steps g a = record { job = a.job.now }

@@ -1,0 +1,207 @@
+//! A known schedule: the steps of a seed, computed from the definition of the schedule by another program.
+ghost use Rattle.std.specs.Prelude.{◌≡◌, ◌<◌};
+
+use crate::handing::one_move;
+use mp_drive::{Draws, Plain};
+use mp_gate::{Gate, OpenGate};
+use mp_job::Job;
+use mp_model::Naming;
+use mp_names::Kind;
+use mp_outside::MemSink;
+use mp_q_auction::Q4;
+use mp_worker::Turn;
+use std::alloc::{AllocError, Global};
+use std::cell::Cell;
+use std::marker::Brand;
+use std::process::Abort;
+use std::test::Fail;
+
+type Step = (u32, Kind);
+
+// The steps of seed 0 with two workers, one bin and one move of it.
+const STEPS: [Step; 42] = [
+    (0, Kind::SendControl),
+    (0, Kind::Ingest),
+    (0, Kind::Exchange),
+    (1, Kind::Ingest),
+    (0, Kind::SendControl),
+    (1, Kind::Exchange),
+    (0, Kind::Exchange),
+    (1, Kind::Route(0)),
+    (1, Kind::Receive(0)),
+    (1, Kind::Exchange),
+    (0, Kind::Route(0)),
+    (0, Kind::Receive(0)),
+    (0, Kind::Receive(0)),
+    (0, Kind::Exchange),
+    (0, Kind::Receive(1)),
+    (0, Kind::Apply(0)),
+    (1, Kind::Exchange),
+    (0, Kind::Exchange),
+    (1, Kind::Settle(0)),
+    (1, Kind::Exchange),
+    (0, Kind::Exchange),
+    (0, Kind::Apply(0)),
+    (0, Kind::Exchange),
+    (1, Kind::Exchange),
+    (0, Kind::Extract(0)),
+    (0, Kind::Settle(0)),
+    (0, Kind::Exchange),
+    (1, Kind::Receive(0)),
+    (1, Kind::Exchange),
+    (1, Kind::Apply(0)),
+    (0, Kind::Exchange),
+    (1, Kind::Route(1)),
+    (1, Kind::Exchange),
+    (0, Kind::Receive(1)),
+    (0, Kind::Exchange),
+    (1, Kind::Exchange),
+    (0, Kind::Apply(1)),
+    (0, Kind::SendRow),
+    (0, Kind::Receive(0)),
+    (0, Kind::Exchange),
+    (1, Kind::Exchange),
+    (0, Kind::Write),
+];
+
+// The kinds of step of a job of two workers and two stages, in the order in which they are tried.
+const KINDS: [Kind; 15] = [
+    Kind::Ingest,
+    Kind::SendControl,
+    Kind::Route(0),
+    Kind::Route(1),
+    Kind::Receive(0),
+    Kind::Receive(1),
+    Kind::Extract(0),
+    Kind::Extract(1),
+    Kind::Settle(0),
+    Kind::Settle(1),
+    Kind::Apply(0),
+    Kind::Apply(1),
+    Kind::SendRow,
+    Kind::Write,
+    Kind::Exchange,
+];
+
+const PLACES: u64 = 30;
+
+// The place of a number: those of worker 0, and then those of worker 1.
+fn place_at(number: u64) -> Step {
+    let place = number % PLACES;
+    if place < 15 {
+        (0, KINDS[place as usize])
+    } else {
+        (1, KINDS[(place - 15) as usize])
+    }
+}
+
+// The places that the draws of seed 0 try: each from its own upward, until that of the step which it picks.
+fn places_tried(alloc: Global) -> Result<Vec<Step>, AllocError> {
+    let mut draws = Draws::of(0);
+    let mut tried = Vec::new(alloc);
+    for step in &STEPS {
+        try_places(draws.draw() % PLACES, *step, &mut tried)?;
+    }
+    Ok(tried)
+}
+
+fn try_places(start: u64, step: Step, tried: &mut Vec<Step>) -> Result<(), AllocError>
+    requires { start < PLACES }
+{
+    for more in 0..PLACES {
+        let place = place_at(start + more);
+        tried.push(place)?;
+        if place == step {
+            return Ok(());
+        }
+    }
+    Ok(())
+}
+
+// A gate that compares what it is passed for with a list of steps.
+#[derive(Drop)]
+struct ListedGate {
+    steps: Vec<Step>,
+    passes: Cell<u64>,
+    wrong: Cell<u64>,
+}
+
+impl Gate for ListedGate {
+    fn pass(&self, worker: u32, kind: Kind) {
+        let passes = self.passes.get();
+        if self.steps.get(passes as usize) != Some(&(worker, kind)) {
+            self.wrong.set(self.wrong.get().saturating_add(1));
+        }
+        self.passes.set(passes.saturating_add(1));
+    }
+}
+
+// The schedule tries what it should, and makes as many steps.
+fn seed_makes_the_steps<J: Naming>(rt: &impl Abort, alloc: Global, job: &Job<Q4>) -> Result<(), Fail>
+    requires { job.now ≡ J.job }
+{
+    let gate = ListedGate {
+        steps: places_tried(alloc)?,
+        passes: Cell::new(0),
+        wrong: Cell::new(0),
+    };
+    let mut sink = MemSink::new(alloc);
+    let mut plain = Plain::<Q4, J>::open(alloc, job, 64)?;
+    let Ok(made) = plain.drive_seed(0, &gate, &mut sink) else {
+        return Err("the run stopped".into());
+    };
+    assert_eq!(rt; made, 42);
+    assert_eq!(rt; gate.wrong.get(), 0);
+    assert_eq!(rt; gate.passes.get(), gate.steps.len() as u64);
+    assert_eq!(rt; sink.bytes(), b"100|10|60\n".as_slice());
+    Ok(())
+}
+
+#[test]
+fn the_schedule_of_seed_0(rt: HostRuntime) -> Result<(), Fail> {
+    let job = one_move(rt.alloc())?;
+    seed_makes_the_steps::<Brand>(&rt, rt.alloc(), &job)
+}
+
+// Driven as a list, each of these steps is made, and after them each worker knows the end.
+fn list_makes_the_steps<J: Naming>(rt: &impl Abort, alloc: Global, job: &Job<Q4>) -> Result<(), Fail>
+    requires { job.now ≡ J.job }
+{
+    let mut sink = MemSink::new(alloc);
+    let mut plain = Plain::<Q4, J>::open(alloc, job, 64)?;
+    let Ok(turns) = plain.drive_list(alloc, &STEPS, &mut sink) else {
+        return Err("the list stopped".into());
+    };
+    assert_eq!(rt; turns.len(), 42);
+    assert!(rt; turns.iter().all(|turn| *turn != Turn::NotNow));
+    assert!(rt; plain.is_finished());
+    assert_eq!(rt; sink.bytes(), b"100|10|60\n".as_slice());
+    Ok(())
+}
+
+#[test]
+fn the_schedule_as_a_list(rt: HostRuntime) -> Result<(), Fail> {
+    let job = one_move(rt.alloc())?;
+    list_makes_the_steps::<Brand>(&rt, rt.alloc(), &job)
+}
+
+// How many steps the schedule of a seed has.
+fn steps_of_seed<J: Naming>(alloc: Global, job: &Job<Q4>, seed: u64) -> Result<u64, Fail>
+    requires { job.now ≡ J.job }
+{
+    let mut sink = MemSink::new(alloc);
+    let mut plain = Plain::<Q4, J>::open(alloc, job, 64)?;
+    match plain.drive_seed(seed, &OpenGate, &mut sink) {
+        Ok(made) => Ok(made),
+        Err(_) => Err("the run stopped".into()),
+    }
+}
+
+#[test]
+fn other_seeds_make_other_steps(rt: HostRuntime) -> Result<(), Fail> {
+    let job = one_move(rt.alloc())?;
+    assert_eq!(rt; steps_of_seed::<Brand>(rt.alloc(), &job, 1)?, 46);
+    assert_eq!(rt; steps_of_seed::<Brand>(rt.alloc(), &job, 7)?, 50);
+    assert_eq!(rt; steps_of_seed::<Brand>(rt.alloc(), &job, 281_474_976_710_656)?, 46);
+    Ok(())
+}

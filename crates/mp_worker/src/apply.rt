@@ -1,0 +1,129 @@
+//! How a worker applies groups.
+ghost use Rattle.std.specs.Prelude.{◌≡◌, ◌≤◌, ◌<◌, ◌+◌, ◌^◌, ◌++◌, ◌∷◌, [], IfOk, IsOk, OnOk, length, map, vec_len};
+ghost use Rattle.std.specs.Vec.{vec_capacity};
+ghost use Rattle.mp_names.specs.declared.locations.Loc.TheVariants.{Host as HostLoc};
+ghost use Rattle.mp_names.specs.declared.kinds.Kind.TheVariants.{Apply};
+ghost use Rattle.mp_count_laws.specs.Changes.{one_less, one_more, some_more};
+ghost use Rattle.mp_outline.specs.JobOutline.{outline_of};
+ghost use Rattle.mp_refinement.specs.Steps.{StepsAlone};
+
+use crate::Worker;
+use mp_host::Applied;
+use mp_model::{Naming, Query, Time};
+use mp_names::{Loc, Name};
+use mp_parts::{hold_records, hold_rows, location_after, make_room_onward, one_less, one_more};
+use mp_rows::{Change, Log, LogList, Pointstamp};
+use std::alloc::{AllocError, Global};
+
+impl<'a, Q: Query, J: Naming> Worker<'a, Q, J> {
+    /// The least group of a stage that waits is applied, once all that belongs to it has come; what it gives goes to the
+    /// router of the next stage, or from the last stage to the answer rows to be sent: its name, or `None` exactly where
+    /// no group may be applied. `AllocError`: no memory, and nothing changes.
+    pub(crate) fn apply(&mut self, stage: u32) -> Result<Option<Name>, AllocError>
+        requires stage { stage < J.job.shape.stages }
+        ensures { let o = outline_of (Q.facts J.job.rules) J.job in
+            StepsAlone o (Apply stage) self.old self.new result }
+    {
+        let stages = self.job.shape().stages;
+        let host = &mut self.hosts[stage as usize];
+        if host.ready(&self.seen, &self.owners).is_none() {
+            return Ok(None);
+        }
+        let most = host.most(self.alloc, &self.seen, &self.owners);
+        make_room_onward(stage + 1, most, &mut self.routers, &mut self.unsent)?;
+        let mut changes = room_in_log(self.alloc, most, &mut self.log)?;
+        let Some(applied) = host.apply(self.alloc, &self.seen, &self.owners)? else {
+            return Ok(None);
+        };
+        let name = Name::Group {
+            stage,
+            time: applied.time,
+            key: applied.key,
+        };
+        let onward = location_after(stage, stages);
+        push_changes(&mut changes, stage, onward, &applied)?;
+        self.log.push(LogList::Applied, name, changes.as_slice())?;
+        if stage + 1 < stages {
+            let router = &mut self.routers[stage as usize + 1];
+            let query = self.job.query();
+            hold_records(
+                query,
+                stage + 1,
+                applied.time,
+                applied.key,
+                applied.outputs,
+                router,
+            )?;
+        } else {
+            hold_rows(applied.time, applied.key, applied.outputs, &mut self.unsent)?;
+        }
+        Ok(Some(name))
+    }
+}
+
+// Makes room in the log for the name and the changes of a group that gives and wakes no more than `most` in all, and the
+// list of these changes, which is still empty. `AllocError`: no memory, and nothing but rooms changes.
+fn room_in_log<Q: Query, J: Naming>(
+    alloc: Global,
+    most: u64,
+    log: &mut Log<Q, J>,
+) -> Result<Vec<Change>, AllocError>
+    ensures log { log.new.log ≡ log.old.log }
+    ensures worker { log.new.worker ≡ log.old.worker }
+    ensures names { OnOk result (1 ≤ log.new.room_for_names) }
+    ensures changes { OnOk result (most + 2 ≤ log.new.room_for_changes) }
+    ensures empty { IfOk result (λ changes. changes.items ≡ []) }
+    ensures room { IfOk result (λ changes. most + 2 ≤ vec_capacity changes) }
+    ensures whole { OnOk result (most + 2 < 2 ^ 64) }
+{
+    let Some(count) = most.checked_add(2) else {
+        return Err(AllocError);
+    };
+    log.make_room(count)?;
+    Vec::with_capacity(alloc, count as usize)
+}
+
+// Lists the changes that a group brings to the counts: it waits no longer, what it gives is to be sent, and the groups that
+// it wakes wait. The list is empty and has room for them.
+fn push_changes(
+    changes: &mut Vec<Change>,
+    stage: u32,
+    onward: Loc,
+    applied: &Applied,
+) -> Result<(), AllocError>
+    requires empty { changes.old.items ≡ [] }
+    requires room { length applied.now.woke.items + 2 ≤ vec_capacity changes.old }
+    ensures done { IsOk result }
+    ensures changes { changes.new.items
+        ≡ one_less (HostLoc stage) applied.now.time ∷ (some_more onward applied.now.time (length applied.now.outputs.items) ++ map (one_more (HostLoc stage)) applied.now.woke.items) }
+{
+    changes.push(one_less(Loc::Host(stage), applied.time))?;
+    push_more(changes, onward, applied.time, applied.outputs.len())?;
+    for time in applied.woke.as_slice() {
+        changes.push(one_more(Loc::Host(stage), *time))?;
+    }
+    Ok(())
+}
+
+// Lists that there are so many more at a location and time, unless there are none. The list has room.
+fn push_more(
+    changes: &mut Vec<Change>,
+    loc: Loc,
+    time: Time,
+    count: usize,
+) -> Result<(), AllocError>
+    requires room { vec_len changes.old < vec_capacity changes.old }
+    requires count { count < 2 ^ 63 }
+    ensures done { IsOk result }
+    ensures changes { changes.new.items ≡ changes.old.items ++ some_more loc time count }
+    ensures few { vec_len changes.new ≤ vec_len changes.old + 1 }
+    ensures room { vec_capacity changes.old ≤ vec_capacity changes.new }
+{
+    if count != 0 {
+        changes.push(Change {
+            at: Pointstamp { loc, time },
+            by: count as i64,
+        })?;
+    }
+    Ok(())
+}

@@ -1,0 +1,35 @@
+//! How a worker posts its log.
+ghost use Rattle.std.specs.Prelude.{ℕ};
+ghost use Rattle.mp_refinement.specs.Served.{IsAtHub};
+ghost use Rattle.mp_worker.specs.Exchanging.{Exchanges};
+
+use crate::{Stop, Turn, Worker};
+use mp_board::{Answer, Hub, OutlineOf, PostedLog};
+use mp_model::{Naming, Query};
+use std::snapshot::Snapshot;
+
+impl<'a, Q: Query, J: Naming> Worker<'a, Q, J> {
+    /// Posts the worker's log, and sees what all posted logs show then. `Seen`: the version of the board, which is not the
+    /// one that the worker had seen. `NotNow`: it is, so nothing had changed, and the log that was posted is what it posted
+    /// last. `Busy`: only where the hub says so. `Other`: another worker stopped before. `Memory`: no memory. Only `Seen`
+    /// changes the worker and what the hub has of it.
+    pub(crate) fn exchange<H: Hub<OutlineOf<Q, J>>>(&mut self, hub: &mut H) -> Result<Turn, Stop>
+        requires at_hub { IsAtHub H.serves H.posted H.version self.old hub.old }
+        ensures exchanges { Exchanges H.after H.kept H.shows H.goes_on H.was_stopped H.was_busy self.old self.new hub.old hub.new result }
+        ensures at_hub { IsAtHub H.serves H.posted H.version self.new hub.new }
+        ensures still_serves { (w : ℕ) → H.serves hub.old w → H.serves hub.new w }
+    {
+        let posted = PostedLog::of(self.alloc, &self.log)?;
+        let seen = match hub.exchange(self.number, posted)? {
+            Answer::Got(seen) => seen,
+            Answer::Busy => return Ok(Turn::Busy),
+        };
+        let version = seen.version();
+        if version == self.seen.version() {
+            return Ok(Turn::NotNow);
+        }
+        self.seen = seen;
+        self.posted = Snapshot::of(&self.log);
+        Ok(Turn::Seen(version))
+    }
+}

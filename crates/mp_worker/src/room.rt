@@ -1,0 +1,91 @@
+//! Room for what a message may bring. All of it is made before one is taken, as nothing may be refused after that.
+ghost use Rattle.std.specs.Prelude.{◌≡◌, ◌≤◌, ◌<◌, ◌+◌, ◌^◌, [], All, OnOk};
+ghost use Rattle.std.specs.Vec.{vec_capacity};
+ghost use Rattle.mp_worker.specs.Rooms.{SameHosts, SameMovers};
+
+use mp_bins::Owners;
+use mp_handoff::Movers;
+use mp_host::Host;
+use mp_model::{Naming, Query, Time};
+use mp_output::Rows;
+use mp_rows::{Change, Log};
+use std::alloc::{AllocError, Global};
+
+/// What a packet that is taken changes: how many groups of each time begin to wait, and the changes at the counts. A
+/// worker keeps these lists, so that a message takes memory only the first time.
+#[derive(Drop)]
+pub(crate) struct PacketLists {
+    /// How many groups of each time begin to wait.
+    pub(crate) numbers: Vec<(Time, u64)>,
+    /// At the counts of outstanding work.
+    pub(crate) changes: Vec<Change>,
+}
+
+impl PacketLists {
+    /// Empty lists, with no room.
+    pub(crate) fn new(alloc: Global) -> PacketLists {
+        PacketLists {
+            numbers: Vec::new(alloc),
+            changes: Vec::new(alloc),
+        }
+    }
+
+    /// Empties the lists and makes room for a packet whose wakes are of so many times. `AllocError`: no memory.
+    pub(crate) fn make_room(&mut self, times: usize) -> Result<(), AllocError>
+        requires { times + 2 < 2 ^ 64 }
+        ensures empty { (self.new.numbers.items ≡ []) × (self.new.changes.items ≡ []) }
+        ensures room { OnOk result ((times ≤ vec_capacity self.new.numbers) × (times + 1 ≤ vec_capacity self.new.changes)) }
+    {
+        self.numbers.clear();
+        self.changes.clear();
+        self.numbers.reserve(times)?;
+        self.changes.reserve(times + 1)
+    }
+}
+
+/// Makes room for one message, whatever it holds, where a packet's wakes are of so many times. `AllocError`: no memory, and
+/// nothing but rooms changes.
+pub(crate) fn make_room_to_take<Q: Query, J: Naming>(
+    times: usize,
+    log: &mut Log<Q, J>,
+    rows: &mut Rows<Q, J>,
+    owners: &mut Owners,
+) -> Result<(), AllocError>
+    requires { times + 2 < 2 ^ 64 }
+    ensures same_log { (log.new.worker ≡ log.old.worker) × (log.new.log ≡ log.old.log) }
+    ensures same_rows { rows.new.rows ≡ rows.old.rows }
+    ensures same_owners { (owners.new.shape ≡ owners.old.shape) × (owners.new.noted ≡ owners.old.noted) }
+    ensures log { OnOk result ((1 ≤ log.new.room_for_names) × (times + 2 ≤ log.new.room_for_changes)) }
+    ensures rows { OnOk result (1 ≤ rows.new.room) }
+    ensures owners { OnOk result (1 ≤ owners.new.room) }
+{
+    log.make_room(times as u64 + 2)?;
+    rows.make_room(1)?;
+    owners.make_room(1)
+}
+
+/// Makes room in each host for a record and for a bin. `AllocError`: no memory, and nothing but rooms changes.
+pub(crate) fn make_room_in_hosts<'a, Q: Query, J: Naming>(
+    hosts: &mut [Host<'a, Q, J>],
+) -> Result<(), AllocError>
+    ensures same { SameHosts hosts.old hosts.new }
+    ensures room { OnOk result (All (λ h. (1 ≤ h.room) × (1 ≤ h.room_for_bins)) hosts.new) }
+{
+    for host in hosts {
+        host.make_room(1)?;
+    }
+    Ok(())
+}
+
+/// Makes room in the movers of each stage for a note. `AllocError`: no memory, and nothing but rooms changes.
+pub(crate) fn make_room_in_movers<Q: Query, J: Naming>(
+    movers: &mut [Movers<Q, J>],
+) -> Result<(), AllocError>
+    ensures same { SameMovers movers.old movers.new }
+    ensures room { OnOk result (All (λ m. 1 ≤ m.room) movers.new) }
+{
+    for one in movers {
+        one.make_room(1)?;
+    }
+    Ok(())
+}

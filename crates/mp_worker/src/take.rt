@@ -1,0 +1,199 @@
+//! How the parts of a worker take control records, records, bins that come to it, and answer rows.
+ghost use Rattle.std.specs.Prelude.{◌≡◌, ◌<◌, ◌≤◌, ◌+◌, ◌^◌, false, [], All, IsOk, length, vec_len};
+ghost use Rattle.std.specs.Vec.{vec_capacity};
+ghost use Rattle.mp_names.specs.declared.names.Name.{Name};
+ghost use Rattle.mp_names.specs.declared.names.Name.TheVariants.{Ctrl, Packet as PacketName, Row as RowName, Written};
+ghost use Rattle.mp_names.specs.Logs.{LogIsLegal, with_took};
+ghost use Rattle.mp_names.specs.Names.{has};
+ghost use Rattle.mp_names.specs.Outlines.{IsOwedTo};
+ghost use Rattle.mp_bins.specs.Notes.{with_note};
+ghost use Rattle.mp_count_laws.specs.Changes.{packet_taken_at};
+ghost use Rattle.mp_job.specs.Legal.{JobIsLegal};
+ghost use Rattle.mp_job.specs.Times.{times_of};
+ghost use Rattle.mp_outline.specs.JobOutline.{name_of_record, outline_of};
+ghost use Rattle.mp_msg.specs.Contents.{IsControlOf, IsPacketOf, IsRecordOf, IsRowOf};
+ghost use Rattle.mp_output.specs.Holding.{HoldsUnwritten};
+ghost use Rattle.mp_worker_invariant.specs.Parts.{AreMoversAt, AreTaken, IsHostAt};
+
+use crate::room::PacketLists;
+use mp_bins::Owners;
+use mp_handoff::Movers;
+use mp_host::Host;
+use mp_model::{Fields, Naming, Query, Rec, Time};
+use mp_msg::BinState;
+use mp_names::{Control, Loc, Name, Tag};
+use mp_output::Rows;
+use mp_parts::{one_less, one_more};
+use mp_rows::{Change, Log, LogList, Pointstamp};
+use std::alloc::AllocError;
+
+/// Takes a control record that is owed to this worker: it is noted, and its time is to be settled from now on. There is room
+/// for it.
+pub(crate) fn take_control<Q: Query, J: Naming>(
+    log: &mut Log<Q, J>,
+    owners: &mut Owners,
+    movers: &mut Movers<Q, J>,
+    index: u32,
+    control: Control,
+) -> Result<(), AllocError>
+    requires job { JobIsLegal (Q.facts J.job.rules) J.job }
+    requires control { IsControlOf J.job index log.old.worker control }
+    requires fresh { has log.old.log.took (Ctrl index log.old.worker) ≡ false }
+    requires notes { AreTaken J.job log.old.worker log.old.log owners.old }
+    requires movers { AreMoversAt (Q.facts J.job.rules) J.job log.old.worker log.old.log control.stage movers.old }
+    requires room { (1 ≤ log.old.room_for_names) × (2 ≤ log.old.room_for_changes) × (1 ≤ owners.old.room) × (1 ≤ movers.old.room) }
+
+    ensures never_refused { IsOk result }
+    ensures log { (log.new.worker ≡ log.old.worker) × (log.new.log ≡ with_took log.old.log (Ctrl index log.old.worker)) }
+    ensures notes { owners.new ≡ record owners.old { noted = with_note owners.old.noted (record { index = index; control = control }); room = owners.new.room } }
+    ensures movers { AreMoversAt (Q.facts J.job.rules) J.job log.old.worker (with_took log.old.log (Ctrl index log.old.worker)) control.stage movers.new }
+{
+    let time = control.time;
+    let name = Name::Ctrl {
+        index,
+        to: log.worker(),
+    };
+    let changes = [
+        one_less(Loc::CtlMail, time),
+        one_more(Loc::Move(control.stage), time),
+    ];
+    // A time that is noted already is counted as one to be settled.
+    let count = if movers.unsettled(time) { 1 } else { 2 };
+    log.push(LogList::Took, name, &changes[..count])?;
+    owners.note(index, control)?;
+    movers.note(time)
+}
+
+/// What a packet holds.
+#[derive(Drop)]
+pub struct Packet<C: Drop> {
+    /// From 0.
+    pub stage: u32,
+    /// From 0.
+    pub bin: u32,
+    /// In units of the event file.
+    pub time: Time,
+    /// Its cells and wakes.
+    pub state: BinState<C>,
+}
+
+/// Takes a packet that is owed to this worker: its state is in hand from now on. There is room for it.
+pub(crate) fn take_packet<'a, Q: Query, J: Naming>(
+    log: &mut Log<Q, J>,
+    host: &mut Host<'a, Q, J>,
+    packet: Packet<Q::Cell>,
+    lists: &mut PacketLists,
+) -> Result<(), AllocError>
+    requires job { JobIsLegal (Q.facts J.job.rules) J.job }
+    requires state { IsPacketOf (Q.facts J.job.rules) J.job packet.stage packet.bin packet.time packet.state }
+    requires owed { IsOwedTo (outline_of (Q.facts J.job.rules) J.job) log.old.worker (PacketName packet.stage packet.bin packet.time) }
+    requires fresh { has log.old.log.took (PacketName packet.stage packet.bin packet.time) ≡ false }
+    requires legal { LogIsLegal (outline_of (Q.facts J.job.rules) J.job) log.old.worker log.old.log }
+    requires host { IsHostAt (Q.facts J.job.rules) J.job log.old.worker log.old.log packet.stage host.old }
+    requires empty { (lists.old.numbers.items ≡ []) × (lists.old.changes.items ≡ []) }
+    requires lists { let times = length (times_of (Q.facts J.job.rules) J.job.events J.job.controls) in
+        (times ≤ vec_capacity lists.old.numbers) × (times + 1 ≤ vec_capacity lists.old.changes) × (times + 1 ≤ log.old.room_for_changes) }
+    requires room { (1 ≤ log.old.room_for_names) × (1 ≤ host.old.room_for_bins) }
+
+    ensures never_refused { IsOk result }
+    ensures log { (log.new.worker ≡ log.old.worker) × (log.new.log ≡ with_took log.old.log (PacketName packet.stage packet.bin packet.time)) }
+    ensures host { IsHostAt (Q.facts J.job.rules) J.job log.old.worker (with_took log.old.log (PacketName packet.stage packet.bin packet.time)) packet.stage host.new }
+{
+    let Packet {
+        stage,
+        bin,
+        time,
+        state,
+    } = packet;
+    host.coming(&state, &mut lists.numbers);
+    list_coming(&mut lists.changes, stage, time, lists.numbers.as_slice())?;
+    let name = Name::Packet { stage, bin, time };
+    let Ok(()) = log.push(LogList::Took, name, lists.changes.as_slice()) else {
+        unreachable!()
+    };
+    host.install(bin, time, state);
+    Ok(())
+}
+
+// Lists what a packet that is taken changes at the counts: it is on its way no longer, and so many groups of each time wait.
+// The list is empty and has room for them.
+fn list_coming(
+    changes: &mut Vec<Change>,
+    stage: u32,
+    time: Time,
+    numbers: &[(Time, u64)],
+) -> Result<(), AllocError>
+    requires empty { changes.old.items ≡ [] }
+    requires room { length numbers.now + 1 ≤ vec_capacity changes.old }
+    requires few { All (λ n. n.1 < 2 ^ 63) numbers.now }
+    ensures done { IsOk result }
+    ensures changes { changes.new.items ≡ packet_taken_at stage time numbers.now }
+{
+    changes.push(one_less(Loc::State(stage), time))?;
+    for (at, number) in numbers {
+        changes.push(Change {
+            at: Pointstamp {
+                loc: Loc::Host(stage),
+                time: *at,
+            },
+            by: *number as i64,
+        })?;
+    }
+    Ok(())
+}
+
+/// Takes a record that is owed to this worker to its host. There is room for it.
+pub(crate) fn take_record<'a, Q: Query, J: Naming>(
+    log: &mut Log<Q, J>,
+    host: &mut Host<'a, Q, J>,
+    name: Name,
+    stage: u32,
+    rec: Rec,
+) -> Result<(), AllocError>
+    requires job { JobIsLegal (Q.facts J.job.rules) J.job }
+    requires record { IsRecordOf (Q.facts J.job.rules) J.job stage rec }
+    requires name { name ≡ name_of_record stage rec }
+    requires owed { IsOwedTo (outline_of (Q.facts J.job.rules) J.job) log.old.worker name }
+    requires fresh { has log.old.log.took name ≡ false }
+    requires legal { LogIsLegal (outline_of (Q.facts J.job.rules) J.job) log.old.worker log.old.log }
+    requires host { IsHostAt (Q.facts J.job.rules) J.job log.old.worker log.old.log stage host.old }
+    requires room { (1 ≤ log.old.room_for_names) × (2 ≤ log.old.room_for_changes) × (1 ≤ host.old.room) }
+
+    ensures never_refused { IsOk result }
+    ensures log { (log.new.worker ≡ log.old.worker) × (log.new.log ≡ with_took log.old.log name) }
+    ensures host { IsHostAt (Q.facts J.job.rules) J.job log.old.worker (with_took log.old.log name) stage host.new }
+{
+    let time = rec.time;
+    let changes = [
+        one_less(Loc::Mail(stage), time),
+        one_more(Loc::Host(stage), time),
+    ];
+    // A group that waits already is counted at the host.
+    let count = if host.waits(time, rec.key) { 1 } else { 2 };
+    log.push(LogList::Took, name, &changes[..count])?;
+    host.receive(rec)
+}
+
+/// Takes an answer row that is owed to this worker to those that are to be written. There is room for it.
+pub(crate) fn take_row<Q: Query, J: Naming>(
+    log: &mut Log<Q, J>,
+    rows: &mut Rows<Q, J>,
+    name: Name,
+    time: Time,
+    tag: Tag,
+    fields: Fields,
+) -> Result<(), AllocError>
+    requires row { IsRowOf (Q.facts J.job.rules) J.job time tag fields }
+    requires name { name ≡ RowName time tag }
+    requires fresh { has log.old.log.took name ≡ false }
+    requires not_written { has log.old.log.settled (Written time) ≡ false }
+    requires rows { HoldsUnwritten log.old.log rows.old.rows }
+    requires room { (1 ≤ log.old.room_for_names) × (2 ≤ log.old.room_for_changes) × (1 ≤ rows.old.room) }
+
+    ensures never_refused { IsOk result }
+    ensures log { (log.new.worker ≡ log.old.worker) × (log.new.log ≡ with_took log.old.log name) }
+    ensures rows { HoldsUnwritten (with_took log.old.log name) rows.new.rows }
+{
+    log.push(LogList::Took, name, &[one_less(Loc::OutMail, time)])?;
+    rows.receive(time, tag, fields)
+}
