@@ -1,5 +1,5 @@
 //! The answer's way into its file.
-ghost use Rattle.std.specs.Prelude.{◌≡◌, IfErr, OnErr, OnOk};
+ghost use Rattle.std.specs.Prelude.{◌≡◌, IfErr, IfOk, OnErr, OnOk};
 ghost use Rattle.mp_model.specs.Answers.{one_thread_answer};
 ghost use Rattle.mp_model.specs.Legal.{EventsAreLegal};
 ghost use Rattle.mp_output.specs.Rows.{GivesRows};
@@ -8,6 +8,9 @@ ghost use Rattle.mp_outside.specs.Files.{with_file};
 ghost use Rattle.mp_words.specs.Limits.{AreWithinLimits};
 ghost use Rattle.mp_words.specs.Values.{options_in};
 ghost use Rattle.mp_job.specs.Legal.{ControlsFit};
+ghost use Rattle.mp_job.specs.Parts.{job_of};
+ghost use Rattle.mp_outline.specs.JobOutline.{outline_of};
+ghost use Rattle.mp_drive.specs.Schedule.{EndsAfter};
 ghost use Rattle.mp_cli.specs.Config.{shape_of};
 ghost use Rattle.mp_cli.specs.Outcome.{StopsAnswer};
 ghost use Rattle.mp_cli.specs.Queries.{answer_of, stages_of};
@@ -89,9 +92,40 @@ fn run_query<'a, D: Depot, Q: Query, G: Gate>(
     ensures failed { IfErr result (λ r. EndsAs r 7
         → Rose (D.write_faults depot.old) (D.write_faults depot.new)) }
 {
+    run_asked(alloc, depot, query, options, events, controls, gate)?;
+    Ok(())
+}
+
+/// Runs a query on these events, with bins moved by these control records, and makes the file hold its
+/// answer: how many steps the workers made, which are those of the schedule of the command's seed, at its depth,
+/// for the job of its shape and these control records.
+fn run_asked<'a, D: Depot, Q: Query, G: Gate>(
+    alloc: Global,
+    depot: &mut D,
+    query: Q,
+    options: &RunOptions<'a>,
+    events: Vec<Event>,
+    controls: Vec<Control>,
+    gate: &G,
+) -> Result<u64, Refusal<'a>>
+    requires options { AreWithinLimits options.now }
+    requires events { EventsAreLegal events.items }
+    requires controls { ControlsFit (shape_of (options_in options.now)) controls.items }
+    requires stages { stages_of options.now.query ≡ Q.STAGES }
+    requires rows { GivesRows (Q.facts (Q.rules query)) }
+    ensures made { let job = job_of (Q.rules query) events.items controls.items (shape_of (options_in options.now)) in
+        IfOk result (λ n. EndsAfter (outline_of (Q.facts (Q.rules query)) job) options.now.depth options.now.seed n) }
+    ensures whole { let answer = one_thread_answer (Q.facts (Q.rules query)) events.items in
+        OnOk result (D.files depot.new ≡ with_file (D.files depot.old) options.now.out.now answer) }
+    ensures part { let answer = one_thread_answer (Q.facts (Q.rules query)) events.items in
+        OnErr result (HoldsPart (D.files depot.old) (D.files depot.new) options.now.out.now answer) }
+    ensures refused { IfErr result (λ r. StopsAnswer (outcome_of r)) }
+
+    ensures failed { IfErr result (λ r. EndsAs r 7
+        → Rose (D.write_faults depot.old) (D.write_faults depot.new)) }
+{
     let job = Job::new(alloc, query, events, controls, shape_of(options))?;
     depot.begin(options.out)?;
     let mut sink = DepotSink::new(depot, options.out);
-    replay::<Q, Brand, _, _>(alloc, &job, options.depth, options.seed, gate, &mut sink)?;
-    Ok(())
+    Ok(replay::<Q, Brand, _, _>(alloc, &job, options.depth, options.seed, gate, &mut sink)?)
 }

@@ -6,25 +6,44 @@ use Rattle.mp_names.specs.declared.names.Name.{Name}
 use Rattle.mp_names.specs.declared.names.Name.TheVariants.{Packet}
 use Rattle.mp_names.specs.Logs.{Log, LogIsLegal}
 use Rattle.mp_names.specs.Names.{Distinct, In}
-use Rattle.mp_names.specs.Outlines.{IsMove, OutlineIsSound, owner_before}
+use Rattle.mp_names.specs.Outlines.{IsMove, Outline, OutlineIsSound, owner_before}
 use Rattle.mp_machine.specs.Promises.{LogIsFull}
 use Rattle.mp_machine.specs.Runs.{run_of_machine}
-use Rattle.mp_machine.proofs.Full.{full_where_known}
+use Rattle.mp_machine.proofs.Full.{full_at_end, full_where_known}
 use Rattle.mp_machine.proofs.Worlds.{run_right}
 use Rattle.mp_model.specs.Facts.{JobFacts, QueryFacts}
 use Rattle.mp_outline.specs.JobOutline.{outline_of}
 use Rattle.mp_parts.specs.declared.tally.Tally.{Tally}
 use Rattle.mp_refinement.specs.State.{WorkerState}
 use Rattle.mp_refinement.specs.SystemState.{KnowsTheEnd, SystemState}
-use Rattle.mp_drive.specs.Driven.{AllKnowTheEnd, AreReached}
+use Rattle.mp_drive.specs.Driven.{AllAreFull, AllKnowTheEnd, AreComplete, AreReached}
 use Rattle.mp_drive.specs.Tallies.{IsTallyOf, TellsLog}
 use Rattle.mp_drive.proofs.Ended.{finished}
 use Rattle.mp_drive.proofs.Opened.{push_all}
 use Rattle.mp_drive.proofs.Tallied.{applied_are_owned, sent_packets_are_distinct, sent_packets_are_moves}
 
 -- within a list there is an item
-some_at : {X : Type 0} (xs : List X) (w : ℕ) → w < length xs → (x : X) × (slice_get xs w ≡ Some x)
+pub some_at : {X : Type 0} (xs : List X) (w : ℕ) → w < length xs → (x : X) × (slice_get xs w ≡ Some x)
 some_at {X} xs w l = ⊎_elim (λ (h : (x : X) × (w < length xs) × (slice_get xs w ≡ Some x) × (get_or xs w x ≡ x)). (h.0, h.2)) (λ (h : (length xs ≤ w) × (slice_get xs w ≡ None)). absurd (omega (arith, h.0))) (slice_get_cases xs w).1
+
+module _ (o : Outline) (ok : OutlineIsSound o) (t : SystemState) where
+  -- where each worker knows the end, each log is full
+  pub full_where_all_know : AreReached o t → AllKnowTheEnd o t → AllAreFull o t
+  full_where_all_know reached all w s at =
+      let world = run_of_machine o t.post.depth reached.0 in
+      let inside = slice_get_within t.workers w s at in
+      let each = reached.1.all_workers in
+      let is = reached.1.workers w s at in
+      let know = subst (KnowsTheEnd o) (get_or_from_slice_get t.workers w s s at) (all w s inside) in
+      subst (LogIsFull o w) (sym is.log) (full_where_known o ok t.post.depth world (run_right o ok t.post.depth reached.0) w (omega arith) (finished o world w s is know))
+
+  -- and so it is where all is over
+  pub full_where_complete : AreComplete o t → AllAreFull o t
+  full_where_complete over w s at =
+      let world = run_of_machine o t.post.depth over.0 in
+      let inside = slice_get_within t.workers w s at in
+      let each = over.1.all_workers in
+      subst (LogIsFull o w) (sym (over.1.workers w s at).log) (full_at_end o ok t.post.depth world (run_right o ok t.post.depth over.0) over.2 w (omega arith))
 
 module _ {Cell : Type 0} (q : QueryFacts Cell) (job : JobFacts) where
   -- what the tallies tell of the workers' logs
@@ -51,20 +70,22 @@ module _ {Cell : Type 0} (q : QueryFacts Cell) (job : JobFacts) where
           keys = tells.keys;
         }
 
-    -- at the end all tallies are the job's
-    pub tallied_at_the_end : (t : SystemState) → AreReached (outline_of q job) t → AllKnowTheEnd (outline_of q job) t → (tallies : List Tally) → AllTell t.workers tallies → length tallies ≡ job.shape.workers → (w : ℕ) (u : Tally) → slice_get tallies w ≡ Some u → IsTallyOf q job w u
-    tallied_at_the_end t reached all tallies tell many w u at =
+    -- where all logs are full all tallies are the job's
+    tallied_where_full : (t : SystemState) → AreReached (outline_of q job) t → AllAreFull (outline_of q job) t → (tallies : List Tally) → AllTell t.workers tallies → length tallies ≡ job.shape.workers → (w : ℕ) (u : Tally) → slice_get tallies w ≡ Some u → IsTallyOf q job w u
+    tallied_where_full t reached full tallies tell many w u at =
         let o = outline_of q job in
-        let depth = t.post.depth in
-        let world = run_of_machine o depth reached.0 in
-        let right = run_right o ok depth reached.0 in
         let below = slice_get_within tallies w u at in
         let each = reached.1.all_workers in
         let inside : w < length t.workers = omega arith in
         let here : w < job.shape.workers = omega arith in
         let some = some_at t.workers w inside in
-        let s = some.0 in
-        let is = reached.1.workers w s some.1 in
-        let know = subst (KnowsTheEnd o) (get_or_from_slice_get t.workers w s s some.1) (all w s inside) in
-        let full = full_where_known o ok depth world right w here (finished o world w s is know) in
-        full_is_tallied w s.log u (subst (LogIsLegal o w) (sym is.log) (right.logs w here)) (subst (LogIsFull o w) (sym is.log) full) (tell w s u some.1 at)
+        let is = reached.1.workers w some.0 some.1 in
+        full_is_tallied w some.0.log u (subst (LogIsLegal o w) (sym is.log) ((run_right o ok t.post.depth reached.0).logs w here)) (full w some.0 some.1) (tell w some.0 u some.1 at)
+
+    -- at the end all tallies are the job's
+    pub tallied_at_the_end : (t : SystemState) → AreReached (outline_of q job) t → AllKnowTheEnd (outline_of q job) t → (tallies : List Tally) → AllTell t.workers tallies → length tallies ≡ job.shape.workers → (w : ℕ) (u : Tally) → slice_get tallies w ≡ Some u → IsTallyOf q job w u
+    tallied_at_the_end t reached all tallies tell many w u at = tallied_where_full t reached (full_where_all_know (outline_of q job) ok t reached all) tallies tell many w u at
+
+    -- and so they are where all is over
+    pub tallied_where_complete : (t : SystemState) → AreComplete (outline_of q job) t → (tallies : List Tally) → AllTell t.workers tallies → length tallies ≡ job.shape.workers → (w : ℕ) (u : Tally) → slice_get tallies w ≡ Some u → IsTallyOf q job w u
+    tallied_where_complete t over tallies tell many w u at = tallied_where_full t (over.0, over.1) (full_where_complete (outline_of q job) ok t over) tallies tell many w u at

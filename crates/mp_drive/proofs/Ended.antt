@@ -1,5 +1,5 @@
 -- Where each worker knows that all is over, worker 0 has written the one-thread answer.
-use Rattle.std.proofs.Common.{◌≡◌, ℕ, ◌<◌, Bool, true, false, length, List, [], ◌∷◌, All, Some, take, sym, ap, ◌∙◌, subst, arith}
+use Rattle.std.proofs.Common.{◌≡◌, ⊎_elim, ℕ, ◌<◌, Bool, true, false, length, List, [], ◌∷◌, All, Some, take, sym, ap, ◌∙◌, subst, arith}
 use Rattle.std.specs.Bool.{MatchBool}
 use Rattle.std.specs.List.{AllWithin, HoldsAt}
 use Rattle.std.specs.Option.{option_map_or}
@@ -7,6 +7,8 @@ use Rattle.std.specs.Prelude.{◌↔◌, IsTrue, Option, slice_get}
 use Rattle.std.proofs.lemmas.Bool.{false≢true}
 use Rattle.std.proofs.lemmas.Iterator.Search.{true_from_All}
 use Rattle.std.proofs.lemmas.List.Elements.{All-from_all_within, All-head}
+use Rattle.mp_names.specs.declared.kinds.Kind.{Kind}
+use Rattle.mp_names.specs.declared.kinds.Kind.TheVariants.{Write}
 use Rattle.mp_names.specs.declared.names.Name.TheVariants.{Row, Written}
 use Rattle.mp_names.specs.Logs.{Log, empty_log}
 use Rattle.mp_names.specs.Names.{In}
@@ -24,7 +26,7 @@ use Rattle.mp_refinement.specs.State.{WorkerState}
 use Rattle.mp_refinement.specs.SystemState.{IsWorkerOf, KnowsTheEnd, SystemState}
 use Rattle.mp_answer_laws.specs.Lines.{written_lines}
 use Rattle.mp_answer_laws.proofs.Written.{full_logs_answer, written_lines_begin}
-use Rattle.mp_drive.specs.Driven.{AllKnowTheEnd, AreReached, HasBegun, HasWritten, first_log}
+use Rattle.mp_drive.specs.Driven.{AllKnowTheEnd, AreReached, HasBegun, HasKept, HasWritten, first_log}
 use Rattle.mp_drive.proofs.Written.{first_legal, some_first}
 
 -- a worker that knows the end is finished as the machine has it
@@ -61,6 +63,10 @@ module _ {Cell : Type 0} (q : QueryFacts Cell) (job : JobFacts) (ok : OutlineIsS
   -- and so it is in a sink
   pub has_begun : (before now : Option (List ℕ)) → HasWritten q job.events before t now → HasBegun q job.events before now
   has_begun before now has = (lines_begin.0, has ∙ ap (grown before) lines_begin.1)
+
+  pub kept_has_begun : (made : Kind) (before now : Option (List ℕ)) → HasKept q job.events made before t now → HasBegun q job.events before now
+  kept_has_begun made before now kept =
+      ⊎_elim (λ (h : HasWritten q job.events before t now). has_begun before now h) (λ (h : (made ≡ Write) × HasBegun q job.events before now). h.1) kept
 
   first_full : AllKnowTheEnd o t → LogIsFull o 0 (first_log t)
   first_full all =

@@ -1,15 +1,13 @@
--- Steps that lead on, one after another, and how many of them are made.
-use Rattle.std.proofs.Common.{◌≡◌, ℕ, ◌+◌, ◌*◌, ◌≤◌, cond, Bool, true, List, [], ◌∷◌, ◌++◌, refl, sym, ◌∙◌, ap, subst, arith}
+-- Steps that lead on, one after another.
+use Rattle.std.proofs.Common.{◌≡◌, ℕ, List, [], ◌∷◌, ◌++◌, refl, sym, ◌∙◌, ap, subst}
 use Rattle.std.proofs.lemmas.List.{append-nil, append_assoc}
-use Rattle.std.proofs.lemmas.List.Sums.{sum_by-append}
 use Rattle.mp_names.specs.declared.kinds.Kind.{Kind}
-use Rattle.mp_names.specs.Outlines.{Outline, OutlineIsSound, name_count}
+use Rattle.mp_names.specs.Outlines.{Outline}
 use Rattle.mp_machine.specs.Worlds.{World, start_of_machine}
-use Rattle.mp_machine.specs.Runs.{Turn, NotNow, after_turn, is_made, made_count, run_of_machine, step_of_machine, turn_of_machine, turns_of, world_after}
-use Rattle.mp_machine.proofs.Bounds.{steps_bounded}
+use Rattle.mp_machine.specs.Runs.{Turn, NotNow, after_turn, run_of_machine, step_of_machine, turn_of_machine, turns_of, world_after}
 use Rattle.mp_machine.proofs.Worlds.{after_more, turns_more}
 use Rattle.mp_refinement.specs.SystemState.{Refines, SystemState}
-use Rattle.mp_drive.specs.Driven.{AreAfter, AreReached, LeadsOn, MakesStep, MakesSteps}
+use Rattle.mp_drive.specs.Driven.{AreAfter, LeadsOn}
 
 module _ (o : Outline) where
   -- the state of a run, at the depth that the workers' mailboxes had before
@@ -23,7 +21,7 @@ module _ (o : Outline) where
     depth = refl;
   }
 
-  run_more : (depth : ℕ) (before steps : List (ℕ × Kind)) → world_after o depth (run_of_machine o depth before) steps ≡ run_of_machine o depth (before ++ steps)
+  pub run_more : (depth : ℕ) (before steps : List (ℕ × Kind)) → world_after o depth (run_of_machine o depth before) steps ≡ run_of_machine o depth (before ++ steps)
   run_more depth before steps = sym (after_more o depth before steps (start_of_machine o))
 
   pub leads_further : (a b : List (ℕ × Kind)) (t u : List Turn) (old mid new : SystemState) → LeadsOn o a t old mid → LeadsOn o b u mid new → LeadsOn o (a ++ b) (t ++ u) old new
@@ -43,10 +41,14 @@ module _ (o : Outline) where
       both : (a b c d : List Turn) → a ≡ b → c ≡ d → a ++ c ≡ b ++ d
       both a b c d e f = cc
 
+  -- the turn of one step
+  pub turn_is : (s : ℕ × Kind) (turn : Turn) (old new : SystemState) → LeadsOn o (s ∷ []) (turn ∷ []) old new → (before : List (ℕ × Kind)) → AreAfter o before old → turn_of_machine o old.post.depth (run_of_machine o old.post.depth before) s.0 s.1 ≡ turn
+  turn_is s turn old new lead before are = let e = lead.turns_are before are in cc
+
   -- a step that can't be made now leads nowhere else
   module _ (s : ℕ × Kind) (old new : SystemState) (lead : LeadsOn o (s ∷ []) (NotNow ∷ []) old new) where
     pub was_not_now : (before : List (ℕ × Kind)) → AreAfter o before old → turn_of_machine o old.post.depth (run_of_machine o old.post.depth before) s.0 s.1 ≡ NotNow
-    was_not_now before are = let e = lead.turns_are before are in cc
+    was_not_now before are = turn_is s NotNow old new lead before are
 
     same_world : (depth : ℕ) (world : World) → turn_of_machine o depth world s.0 s.1 ≡ NotNow → step_of_machine o depth world s.0 s.1 ≡ world
     unfolding step_of_machine
@@ -70,49 +72,3 @@ module _ (o : Outline) where
 
         back : (d : ℕ) (steps : List (ℕ × Kind)) → d ≡ new.post.depth → Refines o d new (run_of_machine o d steps) → AreAfter o steps new
         back d steps e are = subst (λ (n : ℕ). Refines o n new (run_of_machine o n steps)) e are
-
--- some steps lead on, of which so many are made
-pub record LeadsBy (o : Outline) (n : ℕ) (old new : SystemState) : Type 0 where
-  pub steps : List (ℕ × Kind)
-  pub turns : List Turn
-  pub lead : LeadsOn o steps turns old new
-  pub count : made_count turns ≡ n
-
-made_more : (a b : List Turn) → made_count (a ++ b) ≡ made_count a + made_count b
-made_more a b = sum_by-append (λ t. cond (is_made t) 1 0) a b
-
-one_made : (t : Turn) → is_made t ≡ true → made_count (t ∷ []) ≡ 1
-one_made t e = let here : made_count (t ∷ []) ≡ 0 + cond (is_made t) 1 0 = refl in here ∙ ap (λ (made : Bool). 0 + cond made 1 0) e
-
-module _ (o : Outline) where
-  pub begins_by_none : (t : SystemState) → LeadsBy o 0 t t
-  begins_by_none t = record { steps = []; turns = []; lead = still_there o t; count = refl }
-
-  pub leads_by_one_more : (n : ℕ) (old mid new : SystemState) → LeadsBy o n old mid → MakesStep o mid new → LeadsBy o (n + 1) old new
-  leads_by_one_more n old mid new by made = record {
-    steps = by.steps ++ made.step ∷ [];
-    turns = by.turns ++ made.turn ∷ [];
-    lead = leads_further o by.steps (made.step ∷ []) by.turns (made.turn ∷ []) old mid new by.lead made.lead;
-    count =
-        let m = made_more by.turns (made.turn ∷ []) in
-        let k = one_made made.turn made.made in
-        let e = by.count in
-        omega arith;
-  }
-
-  -- what is made from here on is a part of what is made from the start
-  few : (n : ℕ) (old new : SystemState) → OutlineIsSound o → AreReached o old → LeadsBy o n old new → n ≤ (o.workers + 2) * name_count o
-  few n old new ok reached by =
-      let d = old.post.depth in
-      let before = reached.0 in
-      let later = turns_of o d (run_of_machine o d before) by.steps in
-      let all : made_count (turns_of o d (start_of_machine o) (before ++ by.steps)) ≤ (o.workers + 1) * name_count o = steps_bounded o ok d (before ++ by.steps) in
-      let parts : made_count (turns_of o d (start_of_machine o) (before ++ by.steps)) ≡ made_count (turns_of o d (start_of_machine o) before) + made_count later = ap made_count (turns_more o d before by.steps (start_of_machine o)) ∙ made_more (turns_of o d (start_of_machine o) before) later in
-      let same : n ≡ made_count later = sym by.count ∙ ap made_count (by.lead.turns_are before reached.1) in
-      looser o.workers (name_count o) n (omega arith)
-    where
-      looser : (w m n : ℕ) → n ≤ (w + 1) * m → n ≤ (w + 2) * m
-      looser w m n h = grind arith
-
-  pub makes_steps : (n : ℕ) (old new : SystemState) → OutlineIsSound o → AreReached o old → LeadsBy o n old new → MakesSteps o n old new
-  makes_steps n old new ok reached by = record { steps = by.steps; turns = by.turns; lead = by.lead; count = by.count; few = few n old new ok reached by }

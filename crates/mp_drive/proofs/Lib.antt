@@ -1,10 +1,14 @@
 pub mod Answered
 pub mod Counted
 pub mod Ended
+pub mod Followed
 pub mod Leading
 pub mod Listed
 pub mod Numbered
 pub mod Opened
+pub mod Owned
+pub mod Picked
+pub mod Refusing
 pub mod Tallied
 pub mod Tried
 pub mod Turned

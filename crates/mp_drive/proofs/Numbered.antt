@@ -16,12 +16,12 @@ last_or_not i n l = grind arith
 
 -- Lists behind one another
 
-in_front : {X : Type 0} (xs ys : List X) (i : ℕ) (x : X) → slice_get xs i ≡ Some x → slice_get (xs ++ ys) i ≡ Some x
+pub in_front : {X : Type 0} (xs ys : List X) (i : ℕ) (x : X) → slice_get xs i ≡ Some x → slice_get (xs ++ ys) i ≡ Some x
 in_front [] ys i x h = absurd (cc)
 in_front (y ∷ xs) ys zero x h = h
 in_front (y ∷ xs) ys (suc i) x h = in_front xs ys i x h
 
-behind : {X : Type 0} (xs ys : List X) (i k : ℕ) (x : X) → i ≡ length xs + k → slice_get ys k ≡ Some x → slice_get (xs ++ ys) i ≡ Some x
+pub behind : {X : Type 0} (xs ys : List X) (i k : ℕ) (x : X) → i ≡ length xs + k → slice_get ys k ≡ Some x → slice_get (xs ++ ys) i ≡ Some x
 behind [] ys i k x e h = let f : i ≡ k = omega arith in subst (λ (n : ℕ). slice_get ys n ≡ Some x) (sym f) h
 behind (y ∷ xs) ys zero k x e h = absurd (omega arith)
 behind (y ∷ xs) ys (suc i) k x e h = behind xs ys i k x (omega arith) h

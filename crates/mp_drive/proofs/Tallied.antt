@@ -1,13 +1,13 @@
 -- What a full log holds: the groups that its worker owns, and the packets of the moves from it.
-use Rattle.std.proofs.Common.{◌≡◌, ℕ, Bool, true, false, List, length, filter, sym, subst, refl}
+use Rattle.std.proofs.Common.{◌≡◌, ℕ, Bool, true, List, [], ◌∷◌, ◌++◌, length, filter, sym, subst, refl}
 use Rattle.std.specs.Prelude.{◌↔◌}
-use Rattle.std.proofs.lemmas.Bool.{false≢true, eqb-true, eq-eqb}
+use Rattle.std.proofs.lemmas.Bool.{false≢true, eqb-true, eq-eqb, both_ways, false_from_ne_true}
 use Rattle.mp_names.specs.declared.names.Name.{Name}
 use Rattle.mp_names.specs.declared.names.Name.TheVariants.{Packet, Group}
-use Rattle.mp_names.specs.Names.{has, In, Distinct, joined_below, is_group, is_packet}
+use Rattle.mp_names.specs.Names.{has, In, Distinct, IsPrefix, joined_below, is_group, is_packet}
 use Rattle.mp_names.specs.Outlines.{Outline, OutlineIsSound, owner_before, IsMove, groups_of}
 use Rattle.mp_names.specs.Logs.{Log, LogIsLegal, IsReadyGroup, is_owned, owned_groups}
-use Rattle.mp_names.proofs.Lists.{In_filter, filter_In, In_joined, joined_In, Distinct_filter, Distinct_joined}
+use Rattle.mp_names.proofs.Lists.{In_filter, In_left, filter_In, In_joined, joined_In, Distinct_filter, Distinct_joined}
 use Rattle.mp_names.proofs.Orders.{ascending_once, filter_ascends}
 use Rattle.mp_names.proofs.Owners.{move_in_shape}
 use Rattle.mp_names.proofs.Listed.{groups_are, groups_ascend}
@@ -23,6 +23,14 @@ packet_stage : (j : ℕ) (x : Name) → is_packet j x ≡ true → stage_in x �
 packet_stage j (Packet i b t) e = eqb-true i j e
 packet_stage j _ e = absurd (false≢true e)
 
+-- the front of a list of names that stand once
+prefix_once : (xs ys : List Name) → IsPrefix xs ys → Distinct ys → Distinct xs
+prefix_once xs ys p d = go xs (subst Distinct (sym p.1) d)
+  where
+    go : (xs : List Name) → Distinct (xs ++ p.0) → Distinct xs
+    go [] h = tt
+    go (x ∷ xs) h = (false_from_ne_true (has xs x) (λ i. both_ways (has (xs ++ p.0) x) h.0 (In_left x xs p.0 i)), go xs h.1)
+
 module _ (o : Outline) (ok : OutlineIsSound o) (w : ℕ) where
   all_owned : List Name
   all_owned = joined_below o.stages (owned_groups o w)
@@ -35,14 +43,16 @@ module _ (o : Outline) (ok : OutlineIsSound o) (w : ℕ) where
   all_owned_once =
       Distinct_joined o.stages (owned_groups o w) stage_in (λ j l. owned_once j) (λ j x l i. group_stage j x (groups_are o ok j x (In_filter (is_owned o w) x (groups_of o j) i).0).1)
 
-  module _ (log : Log) (legal : LogIsLegal o w log) (full : LogIsFull o w log) where
-    applied_once : Distinct log.applied
+  module _ (log : Log) (legal : LogIsLegal o w log) where
+    -- no group is applied twice
+    pub applied_once : Distinct log.applied
     applied_once = once_by_tests log.applied (λ x i. test x (legal.applied_ready x i))
       where
         test : (x : Name) → IsReadyGroup o w log x → (p : Name → Bool) × (p x ≡ true) × Distinct (filter p log.applied)
-        test (Group j t k) r = (is_group j, eq-eqb j j refl, subst Distinct (sym (full.applied j r.0)) (owned_once j))
+        test (Group j t k) r = (is_group j, eq-eqb j j refl, prefix_once (filter (is_group j) log.applied) (owned_groups o w j) (legal.applied_in_order j r.0) (owned_once j))
         test _ r = absurd r
 
+  module _ (log : Log) (legal : LogIsLegal o w log) (full : LogIsFull o w log) where
     applied_within : (x : Name) → In x log.applied → In x all_owned
     unfolding all_owned
     applied_within x i = form x i (legal.applied_ready x i)
@@ -62,7 +72,7 @@ module _ (o : Outline) (ok : OutlineIsSound o) (w : ℕ) where
     -- as many groups are applied as the worker owns
     pub applied_are_owned : length log.applied ≡ length (joined_below o.stages (owned_groups o w))
     unfolding all_owned
-    applied_are_owned = length_equal log.applied all_owned applied_once all_owned_once applied_within all_applied
+    applied_are_owned = length_equal log.applied all_owned (applied_once log legal) all_owned_once applied_within all_applied
 
 -- the packets that a log has sent, by stage
 abbrev sent_packets : Outline → Log → List Name

@@ -20,6 +20,7 @@ use Rattle.mp_machine.proofs.Worlds.{run_right}
 use Rattle.mp_refinement.specs.State.{WorkerState}
 use Rattle.mp_refinement.specs.SystemState.{Refines, KnowsTheEnd, SystemState}
 use Rattle.mp_drive.specs.Driven.{AllKnowTheEnd, AreAfter, AreReached, LeadsOn, turn_in}
+use Rattle.mp_drive.specs.Schedule.{AreFinished}
 use Rattle.mp_worker.specs.declared.turn.Turn.{Turn as Answered}
 use Rattle.mp_worker.specs.declared.turn.Turn.TheVariants as worker
 use Rattle.mp_drive.proofs.Leading.{was_not_now}
@@ -80,15 +81,19 @@ module _ (o : Outline) (t : SystemState) where
             subst (λ (log : Log). In (Written u) log.settled) (sym it.log) (finished.written first u g taken);
       }
 
+  -- where each worker is finished each knows the end
+  pub know_where_finished : (before : List (ℕ × Kind)) → AreAfter o before t → AreFinished o (run_of_machine o t.post.depth before) → AllKnowTheEnd o t
+  know_where_finished before are finished k d m =
+      let all = are.all_workers in
+      knows t.post.depth (run_of_machine o t.post.depth before) k (slice_index_or t.workers k d) are (slice_get-get_or t.workers k d m) (finished k (omega arith))
+
   -- where no step is made now, each worker knows that all is over
   pub all_know : OutlineIsSound o → 0 < t.post.depth → AreReached o t → (start : ℕ) → start < length (places o) → NoneOf o t start (length (places o)) → AllKnowTheEnd o t
   all_know ok deep reached start l none =
       let depth = t.post.depth in
       let world = run_of_machine o depth reached.0 in
       let over = all_over o ok depth deep world (run_right o ok depth reached.0) (λ w kind is. none_of_any start l none w kind is reached.0 reached.1) in
-      λ k d m.
-      let all = reached.1.all_workers in
-      knows depth world k (slice_index_or t.workers k d) reached.1 (slice_get-get_or t.workers k d m) (over.1 k (omega arith))
+      know_where_finished reached.0 reached.1 over.1
 
   -- one place more was tried, in a state to which nothing has led on
   pub none_more : (start tried : ℕ) (p : ℕ × Kind) (mid new : SystemState) → NoneOf o t start tried → LeadsOn o [] [] t mid → slice_get (places o) ((start + tried) % length (places o)) ≡ Some p → LeadsOn o (p ∷ []) (NotNow ∷ []) mid new → NoneOf o t start (tried + 1)

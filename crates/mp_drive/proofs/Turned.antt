@@ -1,5 +1,5 @@
 -- What a worker says of its step leads the workers on by one turn of the machine, or leaves them where they are.
-use Rattle.std.proofs.Common.{◌≡◌, ◌⊎◌, ℕ, ◌<◌, List, [], ◌∷◌, ◌++◌, None, Some, Ok, Err, get_or, length, refl, sym, ap, ◌∙◌, subst, inl, inr, ⊎_elim, append-nil, arith}
+use Rattle.std.proofs.Common.{◌≡◌, ◌⊎◌, ℕ, ◌<◌, ◌≤◌, List, [], ◌∷◌, ◌++◌, None, Some, Ok, Err, get_or, length, refl, sym, ap, ◌∙◌, subst, inl, inr, ⊎_elim, append-nil, arith}
 use Rattle.std.specs.Prelude.{IfOk, OnErr, slice_get, slice_set}
 use Rattle.std.specs.declared.result.Result.{Result}
 use Rattle.std.proofs.lemmas.Option.{slice_get_read}
@@ -13,7 +13,8 @@ use Rattle.mp_stamps.specs.declared.seen.Seen.{Seen}
 use Rattle.mp_mailbox.specs.Queues.{HadRoom, Queues, WasEmpty, WasFull}
 use Rattle.mp_machine.specs.Worlds.{World, start_of_machine}
 use Rattle.mp_machine.specs.Runs.{Did, NotNow, Saw, Turn, after_turn, run_of_machine, step_of_machine, turn_of_machine}
-use Rattle.mp_machine.proofs.Worlds.{after_more, run_right}
+use Rattle.mp_machine.proofs.Turns.{not_now_from}
+use Rattle.mp_machine.proofs.Worlds.{after_more, exchange_place, run_right}
 use Rattle.mp_board.specs.Boards.{Posted, ShowsFrontiers, exchanged, version_with}
 use Rattle.mp_refinement.specs.Ends.{PostMatchesLog, FollowsLog}
 use Rattle.mp_refinement.specs.Laws.{MailFollows, StepsMayBeAsked}
@@ -36,8 +37,8 @@ use Rattle.mp_drive.specs.Driven.{AreAfter, AreReached, LeadsOn, turn_in}
 
 -- What a worker may be asked for where a run leads to the workers' state
 
-pub placed : (o : Outline) (t : SystemState) → AreReached o t → (w : ℕ) (s : WorkerState) → w < o.workers → s ≡ get_or t.workers w s → slice_get t.workers w ≡ Some s
-placed o t reached w s l e = let all = reached.1.all_workers in slice_get_read t.workers (length t.workers) w s refl (omega arith) e
+pub placed : (t : SystemState) (w : ℕ) (s : WorkerState) → w < length t.workers → s ≡ get_or t.workers w s → slice_get t.workers w ≡ Some s
+placed t w s l e = slice_get_read t.workers (length t.workers) w s refl l e
 
 module _ (o : Outline) (ok : OutlineIsSound o) (t : SystemState) (reached : AreReached o t) (w : ℕ) (s : WorkerState) (was : slice_get t.workers w ≡ Some s) where
   asked : StepsMayBeAsked o t
@@ -215,6 +216,22 @@ still : (o : Outline) (depth : ℕ) (world : World) (w : ℕ) (kind : Kind) → 
 unfolding step_of_machine
 still o depth world w kind e = sym (ap (after_turn o world w kind) e)
 
+outside_not_now : (o : Outline) (depth : ℕ) (world : World) (w : ℕ) (kind : Kind) → OutlineIsSound o → o.workers ≤ w → turn_of_machine o depth world w kind ≡ NotNow
+unfolding turn_of_machine
+outside_not_now o depth world w kind ok past =
+    not_now_from o depth world w ok kind (λ x can. let l = can.0.0 in absurd (omega arith)) (λ can. let l = exchange_place o world w kind can in absurd (omega arith))
+
+-- of a worker that the outline hasn't, no step is made
+pub leads_on_outside : (o : Outline) (ok : OutlineIsSound o) (t : SystemState) (w : ℕ) (kind : Kind) → AreReached o t → length t.workers ≤ w → LeadsOn o ((w, kind) ∷ []) (NotNow ∷ []) t t
+leads_on_outside o ok t w kind reached l =
+    let all = reached.1.all_workers in
+    let past : o.workers ≤ w = omega arith in
+    goes_on o t w kind NotNow t refl
+    (λ before are.
+    let world = run_of_machine o t.post.depth before in
+    let turn = outside_not_now o t.post.depth world w kind ok past in
+    (turn, subst (Refines o t.post.depth t) (still o t.post.depth world w kind turn) are))
+
 module _ (o : Outline) (ok : OutlineIsSound o) (t : SystemState) (w : ℕ) (kind : Kind) (s new : WorkerState) (after : Posted) (left : Queues Name) (was : slice_get t.workers w ≡ Some s) where
   abbrev Told : Result Answered Stop → ℕ → Type 0
   Told r n = Says o kind t.board after t.post left s new r n
@@ -323,6 +340,16 @@ module _ (o : Outline) (ok : OutlineIsSound o) (t : SystemState) (w : ℕ) (kind
   pub leads_nowhere_on_err : (r : Result Answered Stop) (given : Result Answered DriveStop) → Passes r given → Told r s.number → OnErr given (LeadsOn o [] [] t next)
   leads_nowhere_on_err (Ok turn) given is says = subst (λ (g : Result Answered DriveStop). OnErr g (LeadsOn o [] [] t next)) (sym is) tt
   leads_nowhere_on_err (Err stop) given is says = subst (λ (g : Result Answered DriveStop). OnErr g (LeadsOn o [] [] t next)) (sym is.1) (leads_nowhere stop says)
+
+  pub not_busy_if_ok : (r : Result Answered Stop) (given : Result Answered DriveStop) → Passes r given → Told r s.number → IfOk given (λ turn. turn ≡ worker.Busy → ⊥)
+  not_busy_if_ok (Ok turn) given is says = subst (λ (g : Result Answered DriveStop). IfOk g (λ turn. turn ≡ worker.Busy → ⊥)) (sym is) (not_busy turn says)
+    where
+      not_busy : (turn : Answered) → Told (Ok turn) s.number → turn ≡ worker.Busy → ⊥
+      not_busy worker.Busy says e = says.busy.1
+      not_busy (worker.Did x) says e = cc
+      not_busy (worker.Seen version) says e = cc
+      not_busy worker.NotNow says e = cc
+  not_busy_if_ok (Err stop) given is says = subst (λ (g : Result Answered DriveStop). IfOk g (λ turn. turn ≡ worker.Busy → ⊥)) (sym is.1) tt
 
   -- a run leads to where the workers are then
   pub still_reached : (r : Result Answered Stop) → Told r s.number → AreReached o t → AreReached o next

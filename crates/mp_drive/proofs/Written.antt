@@ -26,15 +26,15 @@ use Rattle.mp_refinement.specs.SystemState.{Refines, SystemState, with_worker}
 use Rattle.mp_refinement.proofs.Asked.{may_be_asked}
 use Rattle.mp_refinement.proofs.Steps as steps
 use Rattle.mp_answer_laws.specs.Lines.{lines_of_time, written_lines}
-use Rattle.mp_answer_laws.proofs.Written.{others_write_nothing, parts_of_lines_begin, writing_adds_lines, written_lines_begin}
+use Rattle.mp_answer_laws.proofs.Written.{others_write_nothing, parts_of_lines_begin, writing_adds_lines}
 use Rattle.mp_worker.specs.declared.turn.Stop.{Stop}
 use Rattle.mp_worker.specs.declared.turn.Turn.{Turn as Answered}
 use Rattle.mp_worker.specs.declared.turn.Turn.TheVariants as worker
 use Rattle.mp_worker.specs.declared.turn.Stop.TheVariants as stop
 use Rattle.mp_worker.specs.Writing.{WritesInTurn, WritesPart}
 use Rattle.mp_drive.specs.declared.stop.DriveStop.{DriveStop}
-use Rattle.mp_drive.specs.Driven.{HasBegun, HasWritten, first_log}
-use Rattle.mp_drive.proofs.Answered.{IfDid, IfNotNow}
+use Rattle.mp_drive.specs.Driven.{HasKept, HasWritten, first_log}
+use Rattle.mp_drive.proofs.Answered.{IfDid, IfNotMade, IfNotNow}
 use Rattle.mp_drive.proofs.Turned.{Passes, Says, left_with}
 
 is_write : (kind : Kind) → (kind ≡ Write) ⊎ (kind ≡ Write → ⊥)
@@ -171,12 +171,13 @@ module _ {Cell : Type 0} (q : QueryFacts Cell) (job : JobFacts) where
       written_on_ok (Err stop) given is told says = subst (λ (g : Result Answered DriveStop). OnOk g (HasWritten q job.events before next now)) (sym is.1) tt
 
     module _ (depth : ℕ) (made : List (ℕ × Kind)) (are : Refines o depth t (run_of_machine o depth made)) where
-      begun_on : (stop : Stop) → Writes kind s written now (Err stop) → HasBegun q job.events before now
-      begun_on stop says =
+      kept_on : (stop : Stop) → new ≡ s → Writes kind s written now (Err stop) → HasKept q job.events kind before next now
+      kept_on stop unchanged says =
+          let same : lines new.log ≡ lines s.log = ap (λ (n : WorkerState). lines n.log) unchanged in
           ⊎_elim
-          (λ (same : now ≡ written).
-          let b = written_lines_begin q job (first_log t) (first_legal o ok t depth made are) in
-          (b.0, same ∙ has ∙ ap (grown before) b.1))
+          (λ (e : kind ≡ Write).
+          ⊎_elim
+          (λ (quiet : now ≡ written). inl (silent quiet same))
           (λ (p : WritesPart q job s written now).
           let zeroth : w ≡ 0 = sym number ∙ p.2.next.0 in
           let first : slice_get t.workers 0 ≡ Some s = subst (λ (n : ℕ). slice_get t.workers n ≡ Some s) zeroth was in
@@ -184,9 +185,11 @@ module _ {Cell : Type 0} (q : QueryFacts Cell) (job : JobFacts) where
           let b = parts_of_lines_begin q job s.log p.0 p.1 legal in
           let part = take p.1 (answer_at q job.events p.0) in
           let all : lines (first_log t) ++ part ≡ take b.0 (one_thread_answer q job.events) = ap (λ (r : Option WorkerState). lines (log_of r) ++ part) first ∙ b.1 in
-          (b.0, p.3 ∙ ap (λ (b : Option (List ℕ)). grown b part) has ∙ grown-grown before (lines (first_log t)) part ∙ ap (grown before) all))
-          says.part
+          inr (e, (b.0, p.3 ∙ ap (λ (b : Option (List ℕ)). grown b part) has ∙ grown-grown before (lines (first_log t)) part ∙ ap (grown before) all)))
+          says.part)
+          (λ (n : kind ≡ Write → ⊥). inl (silent (says.others n) same))
+          (is_write kind)
 
-      pub begun_on_err : (r : Result Answered Stop) (given : Result Answered DriveStop) → Passes r given → Writes kind s written now r → OnErr given (HasBegun q job.events before now)
-      begun_on_err (Ok turn) given is says = subst (λ (g : Result Answered DriveStop). OnErr g (HasBegun q job.events before now)) (sym is) tt
-      begun_on_err (Err stop) given is says = subst (λ (g : Result Answered DriveStop). OnErr g (HasBegun q job.events before now)) (sym is.1) (begun_on stop says)
+      pub kept_on_err : (r : Result Answered Stop) (given : Result Answered DriveStop) → Passes r given → IfNotMade r (new ≡ s) → Writes kind s written now r → OnErr given (HasKept q job.events kind before next now)
+      kept_on_err (Ok turn) given is unchanged says = subst (λ (g : Result Answered DriveStop). OnErr g (HasKept q job.events kind before next now)) (sym is) tt
+      kept_on_err (Err stop) given is unchanged says = subst (λ (g : Result Answered DriveStop). OnErr g (HasKept q job.events kind before next now)) (sym is.1) (kept_on stop unchanged says)

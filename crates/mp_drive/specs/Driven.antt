@@ -1,14 +1,17 @@
 -- What driving workers on one thread does: a run of the machine, and the lines of the answer in a sink.
-use Rattle.std.specs.Prelude.{◌≡◌, ◌≤◌, ℕ, ◌+◌, ◌*◌, true, List, [], ◌∷◌, ◌++◌, All, Option, take, slice_get}
+use Rattle.std.specs.Prelude.{◌≡◌, ◌⊎◌, ℕ, List, ◌++◌, All, Option, Some, take, slice_get}
 use Rattle.std.specs.Option.{option_map_or}
 use Rattle.mp_names.specs.declared.kinds.Kind.{Kind}
-use Rattle.mp_names.specs.Outlines.{Outline, name_count}
+use Rattle.mp_names.specs.declared.kinds.Kind.TheVariants.{Write}
+use Rattle.mp_names.specs.Outlines.{Outline}
 use Rattle.mp_names.specs.Logs.{Log, empty_log}
 use Rattle.mp_outside.specs.Sink.{grown}
 use Rattle.mp_model.specs.declared.record.Event.{Event}
 use Rattle.mp_model.specs.Answers.{one_thread_answer}
 use Rattle.mp_model.specs.Facts.{QueryFacts}
-use Rattle.mp_machine.specs.Runs.{Turn, Did, NotNow, Saw, is_made, made_count, run_of_machine, turns_of}
+use Rattle.mp_machine.specs.Promises.{LogIsFull}
+use Rattle.mp_machine.specs.Runs.{Turn, Did, IsFinished, NotNow, Saw, run_of_machine, turns_of}
+use Rattle.mp_refinement.specs.State.{WorkerState}
 use Rattle.mp_refinement.specs.SystemState.{Refines, KnowsTheEnd, SystemState}
 use Rattle.mp_answer_laws.specs.Lines.{written_lines}
 use Rattle.mp_worker.specs.declared.turn.Turn.{Turn as Answered}
@@ -18,7 +21,7 @@ use Rattle.mp_worker.specs.declared.turn.Turn.TheVariants as worker
 abbrev pub Steps : Type 0
 Steps = List (ℕ × Kind)
 
--- what a worker answers, as the machine's turn
+-- what a worker answers, as the machine's turn; `Busy`, which is none of its turns, never comes here
 abbrev pub turn_in : Answered → Turn
 turn_in (worker.Did x) = Did x
 turn_in (worker.Seen version) = Saw version
@@ -39,16 +42,17 @@ pub record LeadsOn (o : Outline) (steps : Steps) (turns : List Turn) (old new : 
   pub state_is : (before : Steps) → AreAfter o before old → AreAfter o (before ++ steps) new
   pub depth : new.post.depth ≡ old.post.depth
 
--- One step leads on, and it is made
-pub record MakesStep (o : Outline) (old new : SystemState) : Type 0 where
-  pub step : ℕ × Kind
-  pub turn : Turn
-  pub lead : LeadsOn o (step ∷ []) (turn ∷ []) old new
-  pub made : is_made turn ≡ true
-
 -- each worker knows that all is over
 abbrev pub AllKnowTheEnd : Outline → SystemState → Type 0
 AllKnowTheEnd o t = All (KnowsTheEnd o) t.workers
+
+-- each worker's log is full: all that it has to do is done
+abbrev pub AllAreFull : Outline → SystemState → Type 0
+AllAreFull o t = (w : ℕ) (s : WorkerState) → slice_get t.workers w ≡ Some s → LogIsFull o w s.log
+
+-- a run of the machine leads to the state of the workers, and all is over after it
+abbrev pub AreComplete : Outline → SystemState → Type 0
+AreComplete o t = (steps : Steps) × AreAfter o steps t × IsFinished o (run_of_machine o t.post.depth steps)
 
 -- the log of worker 0
 abbrev pub first_log : SystemState → Log
@@ -63,10 +67,6 @@ module _ {Cell : Type 0} (q : QueryFacts Cell) (events : List Event) where
   abbrev pub HasBegun : Option (List ℕ) → Option (List ℕ) → Type 0
   HasBegun before now = (k : ℕ) × (now ≡ grown before (take k (one_thread_answer q events)))
 
--- Some steps lead on, of which so many are made, which is no more than the machine can make in all
-pub record MakesSteps (o : Outline) (n : ℕ) (old new : SystemState) : Type 0 where
-  pub steps : Steps
-  pub turns : List Turn
-  pub lead : LeadsOn o steps turns old new
-  pub count : made_count turns ≡ n
-  pub few : n ≤ (o.workers + 2) * name_count o
+  -- what stands in a sink after a step of this kind was refused: the lines that worker 0 has written; only a write may have begun the next ones
+  abbrev pub HasKept : Kind → Option (List ℕ) → SystemState → Option (List ℕ) → Type 0
+  HasKept kind before t now = HasWritten before t now ⊎ ((kind ≡ Write) × HasBegun before now)

@@ -2,4 +2,7 @@
 pub mod Draws
 pub mod Driven
 pub mod Kept
+pub mod Ownership
+pub mod Refused
+pub mod Schedule
 pub mod Tallies

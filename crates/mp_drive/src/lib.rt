@@ -6,6 +6,7 @@
 
 mod draws;
 mod list;
+mod ownership;
 mod places;
 mod plain;
 mod run;

@@ -1,9 +1,11 @@
 //! Driving by a list of steps.
-ghost use Rattle.std.specs.Prelude.{◌≡◌, ◌<◌, ◌≤◌, ℕ, All, Err, IfOk, List, OnErr, OnOk, Option, map};
+ghost use Rattle.std.specs.Prelude.{◌≡◌, ◌≢◌, ◌≤◌, ℕ, All, Err, IfErr, IfOk, List, OnErr, OnOk, Option, map};
 ghost use Rattle.mp_outside.specs.Fault.{Rose};
 ghost use Rattle.mp_outline.specs.JobOutline.{outline_of};
+ghost use Rattle.mp_worker.specs.declared.turn.Turn.TheVariants.{Busy};
 ghost use Rattle.mp_drive.specs.declared.stop.DriveStop.TheVariants.{Write};
 ghost use Rattle.mp_drive.specs.Driven.{HasBegun, HasWritten, LeadsOn, turn_in};
+ghost use Rattle.mp_drive.specs.Refused.{KeepsSteps};
 
 use crate::{DriveStop, Plain};
 use mp_model::{Naming, Query};
@@ -13,18 +15,20 @@ use mp_worker::Turn;
 use std::alloc::Global;
 
 impl<'a, Q: Query, J: Naming> Plain<'a, Q, J> {
-    /// Makes the steps of a list, each a worker and a kind, in order: what each answered. The room for the
-    /// answers is taken before the first step. `Memory` and `Write` are those of the step that answered them;
-    /// the steps before it stay.
+    /// Makes the steps of a list, each a worker and a kind, in order: what each answered, which is never
+    /// `Busy`. The room for the answers is taken before the first step; `Memory` where there is none. Else
+    /// `Memory` and `Write` are those of the step that answered them, and the steps before it stay.
     pub fn drive_list<S: Sink>(
         &mut self,
         alloc: Global,
         steps: &[(u32, Kind)],
         sink: &mut S,
     ) -> Result<Vec<Turn>, DriveStop>
-        requires workers { All (λ step. step.0 < J.job.shape.workers) steps.now }
         ensures turns { let o = outline_of (Q.facts J.job.rules) J.job in
             IfOk result (λ turns. LeadsOn o steps.now (map turn_in turns.items) self.old self.new) }
+        ensures not_busy { IfOk result (λ turns. All (λ turn. turn ≢ Busy) turns.items) }
+        ensures kept { IfErr result (λ why. KeepsSteps (Q.facts J.job.rules) J.job steps.now why
+            self.old self.new (S.written sink.old) (S.written sink.new)) }
 
         ensures written { let q = Q.facts J.job.rules in
             (before : Option (List ℕ)) → HasWritten q J.job.events before self.old (S.written sink.old)

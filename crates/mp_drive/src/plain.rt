@@ -1,6 +1,7 @@
 //! The workers of a job on one thread.
-ghost use Rattle.std.specs.Prelude.{◌≡◌, ◌<◌, ◌≤◌, ◌↔◌, ◌∷◌, [], ℕ, Err, IfOk, IsTrue, List, OnErr, OnOk};
+ghost use Rattle.std.specs.Prelude.{◌≡◌, ◌≢◌, ◌≤◌, ◌↔◌, ◌∷◌, [], ℕ, Err, IfOk, IsTrue, List, OnErr, OnOk};
 ghost use Rattle.std.specs.Prelude.{Option, Some, length, replicate, slice_get, take};
+ghost use Rattle.mp_names.specs.declared.kinds.Kind.TheVariants.{Write};
 ghost use Rattle.mp_names.specs.Logs.{empty_log};
 ghost use Rattle.mp_outside.specs.Fault.{Rose};
 ghost use Rattle.mp_model.specs.Answers.{one_thread_answer};
@@ -12,8 +13,9 @@ ghost use Rattle.mp_refinement.specs.Laws.{IsNewWorker};
 ghost use Rattle.mp_refinement.specs.State.{WorkerState};
 ghost use Rattle.mp_refinement.specs.SystemState.{Refines};
 ghost use Rattle.mp_answer_laws.specs.Lines.{written_lines};
-ghost use Rattle.mp_drive.specs.declared.stop.DriveStop.TheVariants.{Write};
-ghost use Rattle.mp_drive.specs.Driven.{AllKnowTheEnd, HasBegun, HasWritten, LeadsOn, first_log, turn_in};
+ghost use Rattle.mp_worker.specs.declared.turn.Turn.TheVariants.{Busy};
+ghost use Rattle.mp_drive.specs.declared.stop.DriveStop.TheVariants as stop;
+ghost use Rattle.mp_drive.specs.Driven.{AllKnowTheEnd, HasKept, HasWritten, LeadsOn, first_log, turn_in};
 
 use crate::DriveStop;
 use mp_board::{Board, OutlineOf};
@@ -83,18 +85,20 @@ impl<'a, Q: Query, J: Naming> Plain<'a, Q, J> {
         self.board.seen()
     }
 
-    /// One step of a worker. `Memory`: no memory; `Write`: a write failed, which comes only of a write, where
-    /// the sink's count of faults rose in this call or stands at its last value, 2^64 - 1. With either no
-    /// step is made, and a part of the lines of the next time, from their front, may be written.
+    /// One step of a worker. It answers `NotNow` where the step can't be made now, as that of a worker, stage
+    /// or sender that the job hasn't, and never `Busy`. `Memory`: no memory; `Write`: a write failed, which
+    /// comes only of a write, where the sink's count of faults rose in this call or stands at its last value,
+    /// 2^64 - 1. With either no step is made; where it is a write, a part of the lines of the next time, from
+    /// their front, may be written.
     pub fn step<S: Sink>(
         &mut self,
         worker: u32,
         kind: Kind,
         sink: &mut S,
     ) -> Result<Turn, DriveStop>
-        requires worker { worker < J.job.shape.workers }
         ensures turn { let o = outline_of (Q.facts J.job.rules) J.job in
             IfOk result (λ turn. LeadsOn o ((worker, kind) ∷ []) (turn_in turn ∷ []) self.old self.new) }
+        ensures not_busy { IfOk result (λ turn. turn ≢ Busy) }
         ensures unchanged { let o = outline_of (Q.facts J.job.rules) J.job in
             OnErr result (LeadsOn o [] [] self.old self.new) }
 
@@ -103,11 +107,14 @@ impl<'a, Q: Query, J: Naming> Plain<'a, Q, J> {
             → OnOk result (HasWritten q J.job.events before self.new (S.written sink.new)) }
         ensures part { let q = Q.facts J.job.rules in
             (before : Option (List ℕ)) → HasWritten q J.job.events before self.old (S.written sink.old)
-            → OnErr result (HasBegun q J.job.events before (S.written sink.new)) }
-        ensures failed { result ≡ Err Write → Rose (S.faults sink.old) (S.faults sink.new) }
+            → OnErr result (HasKept q J.job.events kind before self.new (S.written sink.new)) }
+        ensures failed { result ≡ Err stop.Write → (kind ≡ Write) × Rose (S.faults sink.old) (S.faults sink.new) }
         ensures frame { S.frame sink.new ≡ S.frame sink.old }
         ensures writes { S.faults sink.old ≤ S.faults sink.new }
     {
+        if worker as usize >= self.workers.len() {
+            return Ok(Turn::NotNow);
+        }
         let worker = &mut self.workers[worker as usize];
         match worker.step(kind, &mut self.post, &mut self.board, sink) {
             Ok(turn) => Ok(turn),

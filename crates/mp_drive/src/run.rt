@@ -3,9 +3,11 @@ ghost use Rattle.std.specs.Prelude.{◌≡◌, ◌<◌, ◌≤◌, ◌^◌, [], 
 ghost use Rattle.mp_outside.specs.Fault.{Rose};
 ghost use Rattle.mp_outside.specs.Sink.{grown};
 ghost use Rattle.mp_model.specs.Answers.{one_thread_answer};
+ghost use Rattle.mp_outline.specs.JobOutline.{outline_of};
 ghost use Rattle.mp_output.specs.Rows.{GivesRows};
 ghost use Rattle.mp_drive.specs.declared.stop.DriveStop.TheVariants.{Write};
 ghost use Rattle.mp_drive.specs.Driven.{HasBegun};
+ghost use Rattle.mp_drive.specs.Schedule.{EndsAfter};
 
 use crate::{DriveStop, Plain};
 use mp_gate::Gate;
@@ -30,6 +32,7 @@ pub fn replay<Q: Query, J: Naming, S: Sink, G: Gate>(
     requires job { job.now ≡ J.job }
     requires rows { GivesRows (Q.facts J.job.rules) }
     requires depth { 0 < depth }
+    ensures made { IfOk result (λ n. EndsAfter (outline_of (Q.facts J.job.rules) J.job) depth seed n) }
     ensures answer { let q = Q.facts J.job.rules in
         OnOk result (S.written sink.new ≡ grown (S.written sink.old) (one_thread_answer q J.job.events)) }
     ensures part { let q = Q.facts J.job.rules in

@@ -1,15 +1,13 @@
 //! Driving by the seeded schedule.
-ghost use Rattle.std.specs.Prelude.{◌≡◌, ◌<◌, ◌≤◌, ℕ, length, Err, IfOk, List, OnErr, OnOk, Option};
-ghost use Rattle.mp_names.specs.declared.kinds.Kind.{Kind};
-ghost use Rattle.mp_names.specs.Outlines.{name_count};
-ghost use Rattle.mp_machine.specs.Runs.{Turn, made_count};
+ghost use Rattle.std.specs.Prelude.{◌≡◌, ◌<◌, ◌≤◌, ℕ, [], Err, IfErr, IfOk, List, OnErr, OnOk, Option};
 ghost use Rattle.mp_outside.specs.Fault.{Rose};
 ghost use Rattle.mp_outside.specs.Sink.{grown};
 ghost use Rattle.mp_model.specs.Answers.{one_thread_answer};
 ghost use Rattle.mp_outline.specs.JobOutline.{outline_of};
 ghost use Rattle.mp_drive.specs.declared.stop.DriveStop.TheVariants.{Write};
-ghost use Rattle.mp_drive.specs.Driven.{AllKnowTheEnd, HasBegun, HasWritten, MakesStep, MakesSteps};
-ghost use Rattle.mp_machine.specs.Places.{places};
+ghost use Rattle.mp_drive.specs.Driven.{AllAreFull, AllKnowTheEnd, HasBegun, HasWritten, LeadsOn};
+ghost use Rattle.mp_drive.specs.Refused.{KeepsSchedule, RefusesDraw};
+ghost use Rattle.mp_drive.specs.Schedule.{FollowsSchedule, MakesPick};
 
 use crate::places::{count_of_places, place_at};
 use crate::{Draws, DriveStop, Plain};
@@ -32,10 +30,12 @@ impl<'a, Q: Query, J: Naming> Plain<'a, Q, J> {
         sink: &mut S,
     ) -> Result<u64, DriveStop>
         requires depth { 0 < self.old.post.depth }
-        ensures finished { let o = outline_of (Q.facts J.job.rules) J.job in
-            IfOk result (λ _. AllKnowTheEnd o self.new) }
         ensures made { let o = outline_of (Q.facts J.job.rules) J.job in
-            IfOk result (λ n. MakesSteps o n self.old self.new) }
+            IfOk result (λ n. FollowsSchedule o seed n self.old self.new) }
+        ensures finished { OnOk result (AllKnowTheEnd (outline_of (Q.facts J.job.rules) J.job) self.new) }
+        ensures full { OnOk result (AllAreFull (outline_of (Q.facts J.job.rules) J.job) self.new) }
+        ensures kept { IfErr result (λ why. KeepsSchedule (Q.facts J.job.rules) J.job seed why
+            self.old self.new (S.written sink.old) (S.written sink.new)) }
 
         ensures answer { let q = Q.facts J.job.rules in
             (before : Option (List ℕ)) → HasWritten q J.job.events before self.old (S.written sink.old)
@@ -47,32 +47,34 @@ impl<'a, Q: Query, J: Naming> Plain<'a, Q, J> {
         ensures frame { S.frame sink.new ≡ S.frame sink.old }
         ensures writes { S.faults sink.old ≤ S.faults sink.new }
     {
-        let places = count_of_places(self.job.shape());
+        // From here on the invariant is known: a run of the machine leads to where the workers are.
+        let _ = &self.job;
         let mut draws = Draws::of(seed);
         let mut made: u64 = 0;
         while !self.is_finished() {
             let Some(counted) = made.checked_add(1) else {
                 return Err(DriveStop::Memory);
             };
-            self.step_from(draws.draw() % places, gate, sink)?;
+            self.step_from(draws.draw(), gate, sink)?;
             made = counted;
         }
         Ok(made)
     }
 
-    // Makes one step: of the places upward from this one, wrapping round, that of the first whose step can be
-    // made now. There is one, since some worker doesn't know the end.
+    // Makes the step that this draw picks: of the places upward from its own, wrapping round, that of the
+    // first whose step can be made now. There is one, since some worker doesn't know the end.
     fn step_from<S: Sink, G: Gate>(
         &mut self,
-        start: u64,
+        draw: u64,
         gate: &G,
         sink: &mut S,
     ) -> Result<(), DriveStop>
         requires depth { 0 < self.old.post.depth }
         requires unfinished { AllKnowTheEnd (outline_of (Q.facts J.job.rules) J.job) self.old → ⊥ }
-        requires start { start < length (places (outline_of (Q.facts J.job.rules) J.job)) }
-        ensures made { let o = outline_of (Q.facts J.job.rules) J.job in
-            IfOk result (λ _. MakesStep o self.old self.new) }
+        ensures made { OnOk result (MakesPick (outline_of (Q.facts J.job.rules) J.job) draw self.old self.new) }
+        ensures still { OnErr result (LeadsOn (outline_of (Q.facts J.job.rules) J.job) [] [] self.old self.new) }
+        ensures refused { IfErr result (λ why. RefusesDraw (Q.facts J.job.rules) J.job draw why []
+            self.old self.new (S.written sink.old) (S.written sink.new)) }
 
         ensures written { let q = Q.facts J.job.rules in
             (before : Option (List ℕ)) → HasWritten q J.job.events before self.old (S.written sink.old)
@@ -86,6 +88,7 @@ impl<'a, Q: Query, J: Naming> Plain<'a, Q, J> {
     {
         let shape = self.job.shape();
         let places = count_of_places(shape);
+        let start = draw % places;
         for tried in 0..places {
             let (worker, kind) = place_at(shape, (start + tried) % places);
             gate.pass(worker, kind);

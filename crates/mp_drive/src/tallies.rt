@@ -3,7 +3,7 @@ ghost use Rattle.std.specs.Prelude.{◌≡◌, ℕ, IfOk, Some, length, slice_ge
 ghost use Rattle.mp_outline.specs.JobOutline.{outline_of};
 ghost use Rattle.mp_parts.specs.declared.tally.Tally.{Tally as Told};
 ghost use Rattle.mp_refinement.specs.State.{WorkerState};
-ghost use Rattle.mp_drive.specs.Driven.{AllKnowTheEnd};
+ghost use Rattle.mp_drive.specs.Driven.{AllKnowTheEnd, AreComplete};
 ghost use Rattle.mp_drive.specs.Tallies.{IsTallyOf, TellsLog};
 
 use crate::Plain;
@@ -12,8 +12,8 @@ use mp_parts::Tally;
 use std::alloc::{AllocError, Global};
 
 impl<'a, Q: Query, J: Naming> Plain<'a, Q, J> {
-    /// What each worker has done so far, by the workers' numbers. Where each knows that all is over, these
-    /// are the job's tallies. `AllocError`: no memory.
+    /// What each worker has done so far, by the workers' numbers. Where all is over, which comes before each
+    /// worker knows it, these are the job's tallies. `AllocError`: no memory.
     pub fn tallies(&self, alloc: Global) -> Result<Vec<Tally>, AllocError>
         ensures all { IfOk result (λ tallies. length tallies.items ≡ J.job.shape.workers) }
         ensures told { let q = Q.facts J.job.rules in
@@ -22,6 +22,9 @@ impl<'a, Q: Query, J: Naming> Plain<'a, Q, J> {
             → TellsLog q J.job s.log t) }
         ensures at_the_end { let q = Q.facts J.job.rules in
             IfOk result (λ tallies. (w : ℕ) (t : Told) → AllKnowTheEnd (outline_of q J.job) self.now
+            → slice_get tallies.items w ≡ Some t → IsTallyOf q J.job w t) }
+        ensures complete { let q = Q.facts J.job.rules in
+            IfOk result (λ tallies. (w : ℕ) (t : Told) → AreComplete (outline_of q J.job) self.now
             → slice_get tallies.items w ≡ Some t → IsTallyOf q J.job w t) }
     {
         let mut tallies = Vec::with_capacity(alloc, self.workers.len())?;

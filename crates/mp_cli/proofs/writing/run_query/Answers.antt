@@ -1,28 +1,13 @@
--- The name holds what the run wrote, since it was begun.
-use Rattle.std.proofs.Common.{ap, inr, rules}
+-- What is said of the run is said where its number of steps is dropped.
 use Rattle.std.proofs.lemmas.Result.{err_from_is_err_and}
-use Rattle.mp_outside.proofs.FileLemmas.{there_begun}
-use Rattle.mp_cli.proofs.Written.{written_from_begun}
 use Rattle.mp_cli.proofs.writing.run_query.Goals as goal
 
-pub new-sink-requires : goal.new-sink-requires
-new-sink-requires g c = there_begun _ _ _ _ c.in_ok-begin.ensures.begun
+pub returns-in_err-run_asked-clause-part : goal.returns-in_err-run_asked-clause-part
+returns-in_err-run_asked-clause-part g c =
+    let p = err_from_is_err_and c.from_residual.result c.from_residual.ensures.1 in
+    rw p.1 c.in_err-run_asked.ensures.part
 
-pub replay-requires-clause-rows : goal.replay-requires-clause-rows
-replay-requires-clause-rows g c κs within = rw c.in_ok-job.ensures c.requires.rows
-
-pub returns-in_err-replay-clause-part : goal.returns-in_err-replay-clause-part
-returns-in_err-replay-clause-part g c =
-    let part = c.in_err-replay.ensures.part in
-    let frame = rw (c.new-sink.ensures.depot, c.new-sink.ensures.name) at c.replay.ensures.frame in
-    let here = rw (c.new-sink.ensures.depot, c.new-sink.ensures.name, c.in_ok-job.ensures) at part.1 in
-    let made = written_from_begun _ _ _ _ _ _ c.in_ok-begin.ensures.begun (ap (λ b. b.name) frame) here (ap (λ b. b.others) frame) in
-    let p = err_from_is_err_and c.from_residual-in_err-replay.result c.from_residual-in_err-replay.ensures.1 in
-    rw p.1 (inr (part.0, search rules))
-
-pub returns-clause-whole : goal.returns-clause-whole
-returns-clause-whole g c =
-    let frame = rw (c.new-sink.ensures.depot, c.new-sink.ensures.name) at c.replay.ensures.frame in
-    let here = rw (c.new-sink.ensures.depot, c.new-sink.ensures.name, c.in_ok-job.ensures) at c.in_ok-replay.ensures.answer in
-    let made = written_from_begun _ _ _ _ _ _ c.in_ok-begin.ensures.begun (ap (λ b. b.name) frame) here (ap (λ b. b.others) frame) in
-    search rules
+pub returns-in_err-run_asked-clause-failed : goal.returns-in_err-run_asked-clause-failed
+returns-in_err-run_asked-clause-failed g c =
+    let p = err_from_is_err_and c.from_residual.result c.from_residual.ensures.1 in
+    rw (p.1, p.2) c.in_err-run_asked.ensures.failed

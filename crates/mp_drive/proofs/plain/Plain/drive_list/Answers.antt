@@ -1,23 +1,62 @@
-use Rattle.std.proofs.Common.{[], ◌∷◌, length, ◌∙◌, ap, subst, sym, arith, length-append}
+use Rattle.std.proofs.Common.{◌≡◌, [], ◌∷◌, ◌++◌, Err, length, take, ◌∙◌, ap, subst, sym, arith, length-append}
+use Rattle.std.proofs.Math.Seq.{drop-cons}
+use Rattle.std.proofs.lemmas.List.Elements.{All-push}
+use Rattle.std.proofs.lemmas.Result.{err_from_is_err_and}
+use Rattle.std.specs.Prelude.{All}
+use Rattle.mp_names.specs.Outlines.{OutlineIsSound}
+use Rattle.mp_job.specs.Legal.{JobIsLegal}
 use Rattle.mp_outline.specs.JobOutline.{outline_of}
 use Rattle.mp_outline.proofs.Soundness.{outline_is_sound}
-use Rattle.mp_refinement.specs.SystemState.{SystemState}
-use Rattle.mp_drive.specs.Driven.{HasWritten}
-use Rattle.mp_drive.specs.Kept.{together}
-use Rattle.mp_drive.proofs.Ended.{has_begun}
+use Rattle.mp_worker.specs.declared.turn.Turn.TheVariants.{Busy}
+use Rattle.mp_drive.specs.declared.stop.DriveStop.TheVariants.{Memory}
+use Rattle.mp_drive.specs.Driven.{AreReached}
+use Rattle.mp_drive.specs.Refused.{KeepsSteps}
+use Rattle.mp_drive.proofs.Ended.{has_begun, kept_has_begun}
 use Rattle.mp_drive.proofs.Listed.{one_more, whole}
+use Rattle.mp_drive.proofs.Refusing.{handed_on, keeps_none, keeps_steps}
+use Rattle.mp_drive.proofs.plain.Plain.drive_list.Given as given
 use Rattle.mp_drive.proofs.plain.Plain.drive_list.Goals as goal
+
+sound : (g : given.Over) → let job = g.J.Naming.job in let q = g.Q.Query.facts job.rules in JobIsLegal q job → OutlineIsSound (outline_of q job)
+sound g legal =
+    let laws = g.met.Q.Query g.world.𝓛 g.world.𝓜 g.world.𝓡 ((λ s x. x), (λ x. x), (λ x. x), λ x. x) in
+    let job = g.J.Naming.job in
+    outline_is_sound (g.Q.Query.facts job.rules) (laws.has_stages job.rules) (laws.posts_are_later job.rules) (laws.later_stages_post_nothing job.rules) job legal
+
+pub returns-in_default-clause-kept : goal.returns-in_default-clause-kept
+returns-in_default-clause-kept g c =
+    let job = g.J.Naming.job in
+    keeps_none (g.Q.Query.facts job.rules) job c.args.steps.now Memory c.args.self.now (g.S.Sink.written c.args.sink.now) (λ e. cc)
 
 pub returns-in_default-clause-part : goal.returns-in_default-clause-part
 returns-in_default-clause-part g c = λ before has.
-    let laws = g.met.Q.Query g.world.𝓛 g.world.𝓜 g.world.𝓡 ((λ s x. x), (λ x. x), (λ x. x), λ x. x) in
     let job = g.J.Naming.job in
     let q = g.Q.Query.facts job.rules in
-    let kept = c.self.invariant in
-    let sound = outline_is_sound q (laws.has_stages job.rules) (laws.posts_are_later job.rules) (laws.later_stages_post_nothing job.rules) job kept.legal in
-    let t = together c.self.inside.workers.items c.self.inside.board c.self.inside.post in
-    let now = g.S.Sink.written c.args.sink.now in
-    has_begun q job sound t kept.reached before now (subst (λ (u : SystemState). HasWritten q job.events before u now) (sym c.self.view_is) has)
+    has_begun q job (sound g c.self.invariant.legal) c.args.self.now (subst (AreReached (outline_of q job)) c.self.view_is c.self.invariant.reached) before (g.S.Sink.written c.args.sink.now) has
+
+pub returns-in_err-turn-clause-kept : goal.returns-in_err-turn-clause-kept
+returns-in_err-turn-clause-kept g c =
+    let job = g.J.Naming.job in
+    let q = g.Q.Query.facts job.rules in
+    let steps = c.args.steps.now in
+    let i = c.loop-worker.worker-index in
+    let e = c.in_err-turn.ensures in
+    let why = c.in_err-turn.field-0.0 in
+    let had = g.S.Sink.written c.args.sink.now in
+    let has = g.S.Sink.written c.step.new.sink in
+    let p = err_from_is_err_and c.from_residual.result c.from_residual.ensures.1 in
+    handed_on (λ why. KeepsSteps q job steps why c.args.self.now c.step.new.self had has) c.from_residual.result why p.0 p.1 p.2
+    (keeps_steps q job steps i _ why _ c.args.self.now c.loop-worker.self c.step.new.self had has (drop-cons steps i _ c.loop-worker-test.true) c.loop-worker.invariant.lead e.unchanged (λ f. (e.failed (ap Err f)).0) (λ before h. e.part before (c.loop-worker.invariant.written before h)))
+
+pub returns-in_err-turn-clause-part : goal.returns-in_err-turn-clause-part
+returns-in_err-turn-clause-part g c = λ before had.
+    let job = g.J.Naming.job in
+    let q = g.Q.Query.facts job.rules in
+    let p = err_from_is_err_and c.from_residual.result c.from_residual.ensures.1 in
+    let reached = subst (AreReached (outline_of q job)) c.self.view_is c.self.invariant.reached in
+    let e = c.in_err-turn.ensures in
+    let here : AreReached (outline_of q job) c.step.new.self = ((reached.0 ++ take c.loop-worker.worker-index c.args.steps.now) ++ [], e.unchanged.state_is (reached.0 ++ take c.loop-worker.worker-index c.args.steps.now) (c.loop-worker.invariant.lead.state_is reached.0 reached.1)) in
+    rw p.1 (kept_has_begun q job (sound g c.self.invariant.legal) c.step.new.self here _ before (g.S.Sink.written c.step.new.sink) (e.part before (c.loop-worker.invariant.written before had)))
 
 pub loop-worker-preserved : goal.loop-worker-preserved
 loop-worker-preserved g c =
@@ -31,6 +70,7 @@ loop-worker-preserved g c =
       room = omega (arith, i.room, pushed.capacity);
       many = omega (arith, ap length pushed.items, length-append turns (turn ∷ []), i.many);
       lead = one_more o c.args.self.now c.loop-worker.self c.step.new.self c.args.steps.now c.loop-worker.worker-index _ turns c.push_reserved.new.self.items turn c.loop-worker-test.true pushed.items i.lead next.turn;
+      not_busy = subst (All (λ turn. turn ≡ Busy → ⊥)) (sym pushed.items) (All-push (λ turn. turn ≡ Busy → ⊥) turns turn i.not_busy next.not_busy);
       written = λ before has. next.written before (i.written before has);
       frame = next.frame ∙ i.frame;
       faults = omega (arith, i.faults, next.writes);
@@ -40,3 +80,6 @@ pub returns-clause-turns : goal.returns-clause-turns
 returns-clause-turns g c =
     let o = outline_of (g.Q.Query.facts g.J.Naming.job.rules) g.J.Naming.job in
     whole o c.args.self.now c.loop-worker.self c.args.steps.now c.loop-worker.worker-index _ c.loop-worker-test.false c.loop-worker.invariant.lead
+
+pub returns-clause-not_busy : goal.returns-clause-not_busy
+returns-clause-not_busy g c = c.loop-worker.invariant.not_busy

@@ -1,5 +1,6 @@
-use Rattle.std.proofs.Common.{◌≡◌, ◌≤◌, ℕ, List, Option, length, map, take, vec_capacity}
+use Rattle.std.proofs.Common.{◌≡◌, ◌≤◌, ℕ, All, List, Option, length, map, take, vec_capacity}
 use Rattle.mp_outline.specs.JobOutline.{outline_of}
+use Rattle.mp_worker.specs.declared.turn.Turn.TheVariants.{Busy}
 use Rattle.mp_drive.specs.Driven.{HasWritten, LeadsOn, turn_in}
 use Rattle.mp_drive.proofs.plain.Plain.drive_list.Given as goal
 
@@ -8,6 +9,7 @@ invariant-loop-worker g l = let job = g.J.Naming.job in let q = g.Q.Query.facts 
   room : length l.steps ≤ vec_capacity l.turns;
   many : length l.turns.items ≡ l.worker-index;
   lead : LeadsOn (outline_of q job) (take l.worker-index l.steps) (map turn_in l.turns.items) l.initial.self l.self;
+  not_busy : All (λ turn. turn ≡ Busy → ⊥) l.turns.items;
   written : (before : Option (List ℕ)) → HasWritten q job.events before l.initial.self (g.S.Sink.written l.initial.sink) → HasWritten q job.events before l.self (g.S.Sink.written l.sink);
   frame : g.S.Sink.frame l.sink ≡ g.S.Sink.frame l.initial.sink;
   faults : g.S.Sink.faults l.initial.sink ≤ g.S.Sink.faults l.sink;

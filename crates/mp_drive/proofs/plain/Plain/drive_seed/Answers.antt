@@ -1,23 +1,34 @@
-use Rattle.std.proofs.Common.{◌≡◌, ◌+◌, ◌<◌, ◌%◌, ◌∙◌, ℕ, refl, sym, arith, subst, Err, ap}
-use Rattle.std.proofs.Math.Nat.{mod-lt}
+use Rattle.std.proofs.Common.{◌≡◌, ◌+◌, ◌++◌, ◌∙◌, [], ℕ, suc, refl, sym, arith, subst, Err, ap, inl}
 use Rattle.std.proofs.lemmas.Result.{err_from_is_err_and}
-use Rattle.mp_names.specs.declared.controls.Shape.{Shape}
+use Rattle.mp_names.specs.Outlines.{OutlineIsSound}
 use Rattle.mp_outside.specs.Sink.{grown}
 use Rattle.mp_outside.proofs.SinkLemmas.{rose_later}
-use Rattle.mp_model.specs.Facts.{JobFacts}
+use Rattle.mp_job.specs.Legal.{JobIsLegal}
 use Rattle.mp_outline.specs.JobOutline.{outline_of}
 use Rattle.mp_outline.proofs.Soundness.{outline_is_sound}
 use Rattle.mp_drive.specs.declared.stop.DriveStop.TheVariants.{Write}
-use Rattle.mp_drive.specs.Driven.{AreReached}
-use Rattle.mp_drive.proofs.Leading.{LeadsBy, begins_by_none, leads_by_one_more, makes_steps}
-use Rattle.mp_drive.proofs.Numbered.{some_places}
+use Rattle.mp_drive.specs.Draws.{draw_of, next_state, state_after}
+use Rattle.mp_drive.specs.Driven.{AllKnowTheEnd, AreReached}
+use Rattle.mp_drive.specs.Refused.{KeepsSchedule, RefusesDraw}
+use Rattle.mp_drive.specs.Schedule.{MakesPick}
+use Rattle.mp_drive.proofs.Counted.{full_where_all_know}
+use Rattle.mp_drive.proofs.Followed.{LeadsBy, begins_by_none, follows, leads_by_one_more, stays_by}
+use Rattle.mp_drive.proofs.Refusing.{handed_on, refuses_later}
+use Rattle.mp_drive.proofs.plain.Plain.drive_seed.Given as given
 use Rattle.mp_drive.proofs.plain.Plain.drive_seed.Goals as goal
+
+sound : (g : given.Over) → let job = g.J.Naming.job in let q = g.Q.Query.facts job.rules in JobIsLegal q job → OutlineIsSound (outline_of q job)
+sound g legal =
+    let laws = g.met.Q.Query g.world.𝓛 g.world.𝓜 g.world.𝓡 ((λ s x. x), (λ x. x), (λ x. x), λ x. x) in
+    let job = g.J.Naming.job in
+    outline_is_sound (g.Q.Query.facts job.rules) (laws.has_stages job.rules) (laws.posts_are_later job.rules) (laws.later_stages_post_nothing job.rules) job legal
 
 pub loop-draws-init : goal.loop-draws-init
 loop-draws-init g c =
     let o = outline_of (g.Q.Query.facts g.J.Naming.job.rules) g.J.Naming.job in
     record {
-      by = begins_by_none o c.args.self.now;
+      by = begins_by_none o c.args.seed c.args.self.now;
+      drawn = c.of-draws.ensures;
       written = λ before had. had;
       frame = refl;
       writes = omega arith;
@@ -34,27 +45,11 @@ returns-in_default-clause-frame g c = c.loop-draws.invariant.frame
 pub returns-in_default-clause-writes : goal.returns-in_default-clause-writes
 returns-in_default-clause-writes g c = c.loop-draws.invariant.writes
 
-pub nonzero_rem-draw : goal.nonzero_rem-draw
-nonzero_rem-draw g c =
-    let o = outline_of (g.Q.Query.facts g.J.Naming.job.rules) g.J.Naming.job in
-    let shape : c.shape.result ≡ g.J.Naming.job.shape = c.shape.ensures.shape ∙ ap (λ (job : JobFacts). job.shape) c.self.invariant.same in
-    let count = c.count_of_places-places.ensures.count o (ap (λ (s : Shape). s.workers) (sym shape)) (ap (λ (s : Shape). s.stages) (sym shape)) in
-    let some = some_places o c.self.invariant.legal.shape.some_worker in
-    omega arith
-
 pub step_from-requires-clause-depth : goal.step_from-requires-clause-depth
 step_from-requires-clause-depth g c κs within =
     let same = c.loop-draws.invariant.by.lead.depth in
     let deep = c.requires.depth in
     omega arith
-
-pub step_from-requires-clause-start : goal.step_from-requires-clause-start
-step_from-requires-clause-start g c κs within =
-    let o = outline_of (g.Q.Query.facts g.J.Naming.job.rules) g.J.Naming.job in
-    let shape : c.shape.result ≡ g.J.Naming.job.shape = c.shape.ensures.shape ∙ ap (λ (job : JobFacts). job.shape) c.self.invariant.same in
-    let count = c.count_of_places-places.ensures.count o (ap (λ (s : Shape). s.workers) (sym shape)) (ap (λ (s : Shape). s.stages) (sym shape)) in
-    let some = some_places o c.self.invariant.legal.shape.some_worker in
-    subst (λ (n : ℕ). c.draw.result % c.count_of_places-places.result < n) count (mod-lt c.draw.result (omega arith))
 
 pub returns-in_err-step_from-clause-part : goal.returns-in_err-step_from-clause-part
 returns-in_err-step_from-clause-part g c = λ before had.
@@ -77,14 +72,50 @@ returns-in_err-step_from-clause-writes g c =
     let here = c.in_err-step_from.ensures.writes in
     omega arith
 
+pub returns-in_default-clause-kept : goal.returns-in_default-clause-kept
+returns-in_default-clause-kept g c =
+    let o = outline_of (g.Q.Query.facts g.J.Naming.job.rules) g.J.Naming.job in
+    let i = c.loop-draws.invariant in
+    record {
+      n = c.loop-draws.made;
+      follows = follows o c.args.seed c.loop-draws.made c.args.self.now c.loop-draws.self (sound g c.self.invariant.legal) (subst (AreReached o) c.self.view_is c.self.invariant.reached) i.by;
+      refused = record { write = λ e. absurd (cc); lines = λ before h. inl (i.written before h) };
+    }
+
+pub returns-in_err-step_from-clause-kept : goal.returns-in_err-step_from-clause-kept
+returns-in_err-step_from-clause-kept g c =
+    let job = g.J.Naming.job in
+    let q = g.Q.Query.facts job.rules in
+    let o = outline_of q job in
+    let i = c.loop-draws.invariant in
+    let n = c.loop-draws.made in
+    let e = c.in_err-step_from.ensures in
+    let why = c.in_err-step_from.field-0.0 in
+    let had = g.S.Sink.written c.args.sink.now in
+    let has = g.S.Sink.written c.step_from.new.sink in
+    let drawn : c.draw.result ≡ draw_of c.args.seed n = c.draw.ensures.draw ∙ ap next_state i.drawn in
+    let p = err_from_is_err_and c.from_residual.result c.from_residual.ensures.1 in
+    handed_on (λ why. KeepsSchedule q job c.args.seed why c.args.self.now c.step_from.new.self had has) c.from_residual.result why p.0 p.1 p.2
+    (record {
+      n = n;
+      follows = follows o c.args.seed n c.args.self.now c.step_from.new.self (sound g c.self.invariant.legal) (subst (AreReached o) c.self.view_is c.self.invariant.reached) (stays_by o c.args.seed n c.args.self.now c.loop-draws.self c.step_from.new.self i.by e.still);
+      refused = refuses_later q job (draw_of c.args.seed n) why i.by.steps i.by.turns c.args.self.now c.loop-draws.self c.step_from.new.self had (g.S.Sink.written c.loop-draws.sink) has i.by.lead i.written
+          (subst (λ (d : ℕ). RefusesDraw q job d why [] c.loop-draws.self c.step_from.new.self (g.S.Sink.written c.loop-draws.sink) has) drawn e.refused);
+    })
+
 pub loop-draws-preserved : goal.loop-draws-preserved
 loop-draws-preserved g c =
     let o = outline_of (g.Q.Query.facts g.J.Naming.job.rules) g.J.Naming.job in
     let counted : c.in-Some.counted ≡ c.loop-draws.made + 1 = c.in-Some.ensures.1 in
+    let unfinished : AllKnowTheEnd o c.loop-draws.self → ⊥ = λ all. let known = c.is_finished.ensures.known.1 all in absurd (cc) in
+    let one_more : c.in-Some.counted ≡ suc c.loop-draws.made = omega (arith, counted) in
+    let drawn : c.draw.result ≡ draw_of c.args.seed c.loop-draws.made = c.draw.ensures.draw ∙ ap next_state c.loop-draws.invariant.drawn in
     let before = c.loop-draws.invariant.writes in
     let here = c.in_ok-step_from.ensures.writes in
     record {
-      by = subst (λ (n : ℕ). LeadsBy o n c.args.self.now c.step_from.new.self) (sym counted) (leads_by_one_more o c.loop-draws.made c.args.self.now c.loop-draws.self c.step_from.new.self c.loop-draws.invariant.by c.in_ok-step_from.ensures.made);
+      by = subst (λ (n : ℕ). LeadsBy o c.args.seed n c.args.self.now c.step_from.new.self) (sym counted)
+          (leads_by_one_more o c.args.seed c.loop-draws.made c.args.self.now c.loop-draws.self c.step_from.new.self c.loop-draws.invariant.by unfinished (subst (λ (d : ℕ). MakesPick o d c.loop-draws.self c.step_from.new.self) drawn c.in_ok-step_from.ensures.made));
+      drawn = c.draw.ensures.state ∙ drawn ∙ ap (state_after c.args.seed) (sym one_more);
       written = λ before had. c.in_ok-step_from.ensures.written before (c.loop-draws.invariant.written before had);
       frame = c.in_ok-step_from.ensures.frame ∙ c.loop-draws.invariant.frame;
       writes = omega arith;
@@ -92,12 +123,15 @@ loop-draws-preserved g c =
 
 pub returns-clause-made : goal.returns-clause-made
 returns-clause-made g c =
-    let q = g.Q.Query.facts g.J.Naming.job.rules in
-    let o = outline_of q g.J.Naming.job in
-    let laws = g.met.Q.Query g.world.𝓛 g.world.𝓜 g.world.𝓡 ((λ s x. x), (λ x. x), (λ x. x), λ x. x) in
-    let sound = outline_is_sound q (laws.has_stages g.J.Naming.job.rules) (laws.posts_are_later g.J.Naming.job.rules) (laws.later_stages_post_nothing g.J.Naming.job.rules) g.J.Naming.job c.self.invariant.legal in
+    let o = outline_of (g.Q.Query.facts g.J.Naming.job.rules) g.J.Naming.job in
+    follows o c.args.seed c.loop-draws.made c.args.self.now c.loop-draws.self (sound g c.self.invariant.legal) (subst (AreReached o) c.self.view_is c.self.invariant.reached) c.loop-draws.invariant.by
+
+pub returns-clause-full : goal.returns-clause-full
+returns-clause-full g c =
+    let o = outline_of (g.Q.Query.facts g.J.Naming.job.rules) g.J.Naming.job in
     let reached = subst (AreReached o) c.self.view_is c.self.invariant.reached in
-    makes_steps o c.loop-draws.made c.args.self.now c.loop-draws.self sound reached c.loop-draws.invariant.by
+    let by = c.loop-draws.invariant.by in
+    full_where_all_know o (sound g c.self.invariant.legal) c.loop-draws.self (reached.0 ++ by.steps, by.lead.state_is reached.0 reached.1) (c.loop-draws-test.ensures.known.0 refl)
 
 pub returns-clause-answer : goal.returns-clause-answer
 returns-clause-answer g c = λ before had.

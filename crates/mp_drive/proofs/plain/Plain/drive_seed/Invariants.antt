@@ -1,14 +1,16 @@
 use Rattle.std.proofs.Common.{◌≡◌, ◌≤◌, ◌-◌, ◌^◌, ℕ, List, Option}
 use Rattle.mp_outline.specs.JobOutline.{outline_of}
 use Rattle.mp_drive.specs.Driven.{HasWritten}
-use Rattle.mp_drive.proofs.Leading.{LeadsBy}
+use Rattle.mp_drive.specs.Draws.{state_after}
+use Rattle.mp_drive.proofs.Followed.{LeadsBy}
 use Rattle.mp_drive.proofs.plain.Plain.drive_seed.Given as goal
 
 abbrev pub invariant-loop-draws : goal.invariant-loop-draws
 invariant-loop-draws g l =
     let q = g.Q.Query.facts g.J.Naming.job.rules in
     record {
-      by : LeadsBy (outline_of q g.J.Naming.job) l.made l.fn.self l.self;
+      by : LeadsBy (outline_of q g.J.Naming.job) l.seed l.made l.fn.self l.self;
+      drawn : l.draws ≡ state_after l.seed l.made;
       written : (before : Option (List ℕ)) → HasWritten q g.J.Naming.job.events before l.fn.self (g.S.Sink.written l.fn.sink) → HasWritten q g.J.Naming.job.events before l.self (g.S.Sink.written l.sink);
       frame : g.S.Sink.frame l.sink ≡ g.S.Sink.frame l.fn.sink;
       writes : g.S.Sink.faults l.fn.sink ≤ g.S.Sink.faults l.sink;

@@ -1,14 +1,15 @@
-use Rattle.std.proofs.Common.{◌≡◌, Some, sym, ap, ◌∙◌, subst}
+use Rattle.std.proofs.Common.{◌≡◌, [], ◌∷◌, Some, arith, sym, ap, ◌∙◌, subst}
 use Rattle.std.specs.Prelude.{slice_get}
 use Rattle.mp_names.specs.Outlines.{OutlineIsSound}
 use Rattle.mp_job.specs.Legal.{JobIsLegal}
 use Rattle.mp_outline.specs.JobOutline.{outline_of}
 use Rattle.mp_outline.proofs.Soundness.{outline_is_sound}
 use Rattle.mp_refinement.specs.SystemState.{SystemState}
-use Rattle.mp_drive.specs.Driven.{HasWritten}
+use Rattle.mp_machine.specs.Runs.{NotNow}
+use Rattle.mp_drive.specs.Driven.{HasWritten, LeadsOn}
 use Rattle.mp_drive.specs.Kept.{together}
-use Rattle.mp_drive.proofs.Turned.{Passes, Says, at_hub, at_post, leads_nowhere_on_err, leads_on_if_ok, number_is, placed, same_cause, says, still_reached}
-use Rattle.mp_drive.proofs.Written.{Writes, begun_on_err, says_of_sink, written_on_ok}
+use Rattle.mp_drive.proofs.Turned.{Passes, Says, at_hub, at_post, leads_nowhere_on_err, leads_on_if_ok, leads_on_outside, not_busy_if_ok, number_is, placed, same_cause, says, still_reached}
+use Rattle.mp_drive.proofs.Written.{Writes, kept_on_err, says_of_sink, written_on_ok}
 use Rattle.mp_drive.proofs.plain.Plain.step.Given as given
 use Rattle.mp_drive.proofs.plain.Plain.step.Goals as goal
 use Rattle.mp_drive.proofs.plain.Plain.step.Goals.{in-Ok, in-Err-Write, in-Err-Memory}
@@ -25,7 +26,7 @@ step-requires-clause-at_post g c κs within =
     let kept = c.self.invariant in
     let t = together c.self.inside.workers.items c.self.inside.board c.self.inside.post in
     let s = c.index_mut-worker.result.now in
-    at_post o (sound g kept.legal) t kept.reached c.args.worker s (placed o t kept.reached c.args.worker s c.requires.worker c.index_mut-worker.ensures.value)
+    at_post o (sound g kept.legal) t kept.reached c.args.worker s (placed t c.args.worker s (omega (arith, c.len.ensures, c.if-worker-len.false)) c.index_mut-worker.ensures.value)
 
 pub step-requires-clause-at_hub : goal.step-requires-clause-at_hub
 step-requires-clause-at_hub g c κs within =
@@ -33,13 +34,12 @@ step-requires-clause-at_hub g c κs within =
     let kept = c.self.invariant in
     let t = together c.self.inside.workers.items c.self.inside.board c.self.inside.post in
     let s = c.index_mut-worker.result.now in
-    at_hub o (sound g kept.legal) t kept.reached c.args.worker s (placed o t kept.reached c.args.worker s c.requires.worker c.index_mut-worker.ensures.value)
+    at_hub o (sound g kept.legal) t kept.reached c.args.worker s (placed t c.args.worker s (omega (arith, c.len.ensures, c.if-worker-len.false)) c.index_mut-worker.ensures.value)
 
 was : (g : given.Over) (c : goal.Joined-step g) → slice_get c.self.inside.workers.items c.args.worker ≡ Some c.index_mut-worker.result.now
 was g c =
-    let o = outline_of (g.Q.Query.facts g.J.Naming.job.rules) g.J.Naming.job in
     let t = together c.self.inside.workers.items c.self.inside.board c.self.inside.post in
-    placed o t c.self.invariant.reached c.args.worker c.index_mut-worker.result.now c.requires.worker c.index_mut-worker.ensures.value
+    placed t c.args.worker c.index_mut-worker.result.now (omega (arith, c.len.ensures, c.if-worker-len.false)) c.index_mut-worker.ensures.value
 
 told : (g : given.Over) (c : goal.Joined-step g) → let o = outline_of (g.Q.Query.facts g.J.Naming.job.rules) g.J.Naming.job in let s = c.index_mut-worker.result.now in
     Says o c.args.kind c.self.inside.board c.step.new.hub c.self.inside.post c.step.new.post s c.step.new.self c.step.result s.number
@@ -114,4 +114,16 @@ returns-clause-part g c = λ before has.
     let ok = sound g kept.legal in
     let number = number_is o ok t kept.reached c.args.worker s (was g c) in
     let here = subst (λ (u : SystemState). HasWritten q job.events before u (g.S.Sink.written c.args.sink.now)) (sym c.self.view_is) has in
-    begun_on_err q job ok t c.args.worker c.args.kind s c.step.new.self c.step.new.hub c.step.new.post (was g c) number (g.S.Sink.written c.args.sink.now) (g.S.Sink.written c.step.new.sink) before here c.self.inside.post.depth kept.reached.0 kept.reached.1 c.step.result c.match-step.result (passes g c) (writes g c)
+    kept_on_err q job ok t c.args.worker c.args.kind s c.step.new.self c.step.new.hub c.step.new.post (was g c) number (g.S.Sink.written c.args.sink.now) (g.S.Sink.written c.step.new.sink) before here c.self.inside.post.depth kept.reached.0 kept.reached.1 c.step.result c.match-step.result (passes g c) c.step.ensures.unchanged (writes g c)
+
+pub returns-clause-not_busy : goal.returns-clause-not_busy
+returns-clause-not_busy g c =
+    let o = outline_of (g.Q.Query.facts g.J.Naming.job.rules) g.J.Naming.job in
+    let t = together c.self.inside.workers.items c.self.inside.board c.self.inside.post in
+    not_busy_if_ok o (sound g c.self.invariant.legal) t c.args.worker c.args.kind c.index_mut-worker.result.now c.step.new.self c.step.new.hub c.step.new.post (was g c) c.step.result c.match-step.result (passes g c) (told g c)
+
+pub returns-then-worker-len-clause-turn : goal.returns-then-worker-len-clause-turn
+returns-then-worker-len-clause-turn g c =
+    let o = outline_of (g.Q.Query.facts g.J.Naming.job.rules) g.J.Naming.job in
+    let t = together c.self.inside.workers.items c.self.inside.board c.self.inside.post in
+    subst (λ (u : SystemState). LeadsOn o ((c.args.worker, c.args.kind) ∷ []) (NotNow ∷ []) u u) c.self.view_is (leads_on_outside o (sound g c.self.invariant.legal) t c.args.worker c.args.kind c.self.invariant.reached (omega (arith, c.len.ensures, c.if-worker-len.true)))

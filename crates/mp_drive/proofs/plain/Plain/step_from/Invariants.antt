@@ -1,5 +1,6 @@
-use Rattle.std.proofs.Common.{◌≡◌, ◌≤◌, ℕ, List, [], Option}
+use Rattle.std.proofs.Common.{◌≡◌, ◌≤◌, ◌%◌, ℕ, List, [], Option, length}
 use Rattle.mp_outline.specs.JobOutline.{outline_of}
+use Rattle.mp_machine.specs.Places.{places}
 use Rattle.mp_drive.specs.Driven.{HasWritten, LeadsOn}
 use Rattle.mp_drive.proofs.Tried.{NoneOf}
 use Rattle.mp_drive.proofs.plain.Plain.step_from.Given as goal
@@ -10,7 +11,7 @@ invariant-loop-tried g l =
     let o = outline_of q g.J.Naming.job in
     record {
       still : LeadsOn o [] [] l.fn.self l.self;
-      none : NoneOf o l.fn.self l.start l.tried;
+      none : NoneOf o l.fn.self (l.draw % length (places o)) l.tried;
       written : (before : Option (List ℕ)) → HasWritten q g.J.Naming.job.events before l.fn.self (g.S.Sink.written l.fn.sink) → HasWritten q g.J.Naming.job.events before l.self (g.S.Sink.written l.sink);
       frame : g.S.Sink.frame l.sink ≡ g.S.Sink.frame l.fn.sink;
       writes : g.S.Sink.faults l.fn.sink ≤ g.S.Sink.faults l.sink;

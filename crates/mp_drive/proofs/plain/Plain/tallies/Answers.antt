@@ -4,7 +4,7 @@ use Rattle.mp_outline.proofs.Soundness.{outline_is_sound}
 use Rattle.mp_refinement.specs.State.{WorkerState}
 use Rattle.mp_refinement.specs.SystemState.{SystemState}
 use Rattle.mp_drive.specs.Driven.{AreReached}
-use Rattle.mp_drive.proofs.Counted.{one_more_tells, tallied_at_the_end}
+use Rattle.mp_drive.proofs.Counted.{one_more_tells, tallied_at_the_end, tallied_where_complete}
 use Rattle.mp_drive.proofs.plain.Plain.tallies.Goals as goal
 
 pub loop-worker-preserved : goal.loop-worker-preserved
@@ -43,3 +43,11 @@ returns-clause-at_the_end g c = λ w t all at.
     let sound = outline_is_sound q (laws.has_stages job.rules) (laws.posts_are_later job.rules) (laws.later_stages_post_nothing job.rules) job kept.legal in
     let reached = subst (AreReached (outline_of q job)) c.self.view_is kept.reached in
     tallied_at_the_end q job sound c.args.self.now reached all c.loop-worker.tallies.items c.loop-worker.invariant.told (returns-clause-all g c) w t at
+
+pub returns-clause-complete : goal.returns-clause-complete
+returns-clause-complete g c = λ w t over at.
+    let laws = g.met.Q.Query g.world.𝓛 g.world.𝓜 g.world.𝓡 ((λ s x. x), (λ x. x), (λ x. x), λ x. x) in
+    let job = g.J.Naming.job in
+    let q = g.Q.Query.facts job.rules in
+    let sound = outline_is_sound q (laws.has_stages job.rules) (laws.posts_are_later job.rules) (laws.later_stages_post_nothing job.rules) job c.self.invariant.legal in
+    tallied_where_complete q job sound c.args.self.now over c.loop-worker.tallies.items c.loop-worker.invariant.told (returns-clause-all g c) w t at

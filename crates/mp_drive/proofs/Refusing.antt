@@ -1,0 +1,94 @@
+-- What stands where a step was refused.
+use Rattle.std.proofs.Common.{◌≡◌, ℕ, suc, ◌+◌, ◌%◌, ◌<◌, List, [], ◌∷◌, ◌++◌, Option, Some, Err, drop, length, take, refl, sym, subst, inl, inr, ⊎_elim, append-nil}
+use Rattle.std.specs.Prelude.{IfErr, slice_get}
+use Rattle.std.specs.declared.result.Result.{Result}
+use Rattle.std.proofs.lemmas.List.{take-append-drop}
+use Rattle.mp_names.specs.declared.kinds.Kind.{Kind}
+use Rattle.mp_names.specs.declared.kinds.Kind.TheVariants as kind
+use Rattle.mp_names.specs.Outlines.{Outline}
+use Rattle.mp_machine.specs.Places.{places}
+use Rattle.mp_machine.specs.Runs.{Turn, run_of_machine}
+use Rattle.mp_model.specs.Facts.{JobFacts, QueryFacts}
+use Rattle.mp_outline.specs.JobOutline.{outline_of}
+use Rattle.mp_refinement.specs.SystemState.{SystemState}
+use Rattle.mp_drive.specs.declared.stop.DriveStop.{DriveStop}
+use Rattle.mp_drive.specs.declared.stop.DriveStop.TheVariants as stop
+use Rattle.mp_drive.specs.Driven.{HasBegun, HasKept, HasWritten, LeadsOn}
+use Rattle.mp_drive.specs.Refused.{IsWriteNext, IsWriteTried, KeepsSteps, RefusesDraw}
+use Rattle.mp_drive.specs.Schedule.{IsTried}
+use Rattle.mp_drive.proofs.Leading.{leads_further, still_there}
+use Rattle.mp_drive.proofs.Picked.{tries}
+use Rattle.mp_drive.proofs.Tried.{NoneOf}
+
+-- what holds of a reason holds of it where it is handed on
+pub handed_on : {T E : Type 0} (K : E → Type 0) (r : Result T E) (x y : E) → r ≡ Err y → y ≡ x → K x → IfErr r K
+handed_on K r x y e f k = subst (λ (g : Result _ _). IfErr g K) (sym e) (subst K (sym f) k)
+
+-- a write that is tried for a draw
+pub write_tried : (o : Outline) (t : SystemState) (draw tried : ℕ) (place : ℕ × Kind) → 0 < length (places o) → tried < length (places o) → NoneOf o t (draw % length (places o)) tried → slice_get (places o) ((draw % length (places o) + tried) % length (places o)) ≡ Some place
+    → place.1 ≡ kind.Write → IsWriteTried o draw [] t
+write_tried o t draw tried place some l none is write = (
+  place.0,
+  λ before are.
+      subst (λ (steps : List (ℕ × Kind)). IsTried o t.post.depth (run_of_machine o t.post.depth steps) draw (place.0, kind.Write)) (sym (append-nil before))
+      (subst (λ (k : Kind). IsTried o t.post.depth (run_of_machine o t.post.depth before) draw (place.0, k)) write (tries o t draw tried place some l none is before are)),
+)
+
+module _ {Cell : Type 0} (q : QueryFacts Cell) (job : JobFacts) where
+  abbrev o : Outline
+  o = outline_of q job
+
+  -- a step of a draw is refused
+  pub refuses_draw : (draw : ℕ) (made : Kind) (why : DriveStop) (t new : SystemState) (had has : Option (List ℕ)) → (made ≡ kind.Write → IsWriteTried o draw [] t) → (why ≡ stop.Write → made ≡ kind.Write)
+      → ((before : Option (List ℕ)) → HasWritten q job.events before t had → HasKept q job.events made before new has) → RefusesDraw q job draw why [] t new had has
+  refuses_draw draw made why t new had has tried failed lines = record {
+    write = λ e. tried (failed e);
+    lines = λ before h. ⊎_elim (λ (k : HasWritten q job.events before new has). inl k) (λ (k : (made ≡ kind.Write) × HasBegun q job.events before has). inr (tried k.0, k.1)) (lines before h);
+  }
+
+  -- and that draw comes after others
+  pub refuses_later : (draw : ℕ) (why : DriveStop) (made : List (ℕ × Kind)) (turns : List Turn) (t mid new : SystemState) (had then_has has : Option (List ℕ)) → LeadsOn o made turns t mid
+      → ((before : Option (List ℕ)) → HasWritten q job.events before t had → HasWritten q job.events before mid then_has) → RefusesDraw q job draw why [] mid new then_has has → RefusesDraw q job draw why made t new had has
+  refuses_later draw why made turns t mid new had then_has has lead written refused = record {
+    write = λ e. later (refused.write e);
+    lines = λ before h.
+        ⊎_elim (λ (k : HasWritten q job.events before new has). inl k) (λ (k : IsWriteTried o draw [] mid × HasBegun q job.events before has). inr (later k.0, k.1)) (refused.lines before (written before h));
+  }
+    where
+      later : IsWriteTried o draw [] mid → IsWriteTried o draw made t
+      later w = (
+        w.0,
+        λ before are.
+            subst (λ (d : ℕ). IsTried o d (run_of_machine o d (before ++ made)) draw (w.0, kind.Write)) lead.depth
+            (subst (λ (steps : List (ℕ × Kind)). IsTried o mid.post.depth (run_of_machine o mid.post.depth steps) draw (w.0, kind.Write)) (append-nil (before ++ made)) (w.1 (before ++ made) (lead.state_is before are))),
+      )
+
+  -- no step of a list is made, and none is refused
+  pub keeps_none : (steps : List (ℕ × Kind)) (why : DriveStop) (t : SystemState) (has : Option (List ℕ)) → (why ≡ stop.Write → ⊥) → KeepsSteps q job steps why t t has has
+  keeps_none steps why t has not_write = record {
+    kept = [];
+    left = steps;
+    turns = [];
+    parts = refl;
+    lead = still_there o t;
+    refused = inl refl;
+    write = λ e. absurd (not_write e);
+    lines = λ before h. inl h;
+  }
+
+  -- a step of a list is refused, after those before it
+  pub keeps_steps : (steps : List (ℕ × Kind)) (i : ℕ) (step : ℕ × Kind) (why : DriveStop) (turns : List Turn) (t mid new : SystemState) (had has : Option (List ℕ)) → drop i steps ≡ step ∷ drop (suc i) steps → LeadsOn o (take i steps) turns t mid → LeadsOn o [] [] mid new
+      → (why ≡ stop.Write → step.1 ≡ kind.Write) → ((before : Option (List ℕ)) → HasWritten q job.events before t had → HasKept q job.events step.1 before new has) → KeepsSteps q job steps why t new had has
+  keeps_steps steps i step why turns t mid new had has here lead still failed lines = record {
+    kept = take i steps;
+    left = drop i steps;
+    turns = turns ++ [];
+    parts = sym (take-append-drop i steps);
+    lead = subst (λ (made : List (ℕ × Kind)). LeadsOn o made (turns ++ []) t new) (append-nil (take i steps)) (leads_further o (take i steps) [] turns [] t mid new lead still);
+    refused = inr (step, drop (suc i) steps, here);
+    write = λ e. write (failed e);
+    lines = λ before h. ⊎_elim (λ (k : HasWritten q job.events before new has). inl k) (λ (k : (step.1 ≡ kind.Write) × HasBegun q job.events before has). inr (write k.0, k.1)) (lines before h);
+  }
+    where
+      write : step.1 ≡ kind.Write → IsWriteNext (drop i steps)
+      write e = subst IsWriteNext (sym here) e
