@@ -114,7 +114,7 @@ returns-clause-part g c = λ before has.
     let ok = sound g kept.legal in
     let number = number_is o ok t kept.reached c.args.worker s (was g c) in
     let here = subst (λ (u : SystemState). HasWritten q job.events before u (g.S.Sink.written c.args.sink.now)) (sym c.self.view_is) has in
-    kept_on_err q job ok t c.args.worker c.args.kind s c.step.new.self c.step.new.hub c.step.new.post (was g c) number (g.S.Sink.written c.args.sink.now) (g.S.Sink.written c.step.new.sink) before here c.self.inside.post.depth kept.reached.0 kept.reached.1 c.step.result c.match-step.result (passes g c) c.step.ensures.unchanged (writes g c)
+    kept_on_err q job ok t c.args.worker c.args.kind s c.step.new.self c.step.new.hub c.step.new.post (was g c) number (g.S.Sink.written c.args.sink.now) (g.S.Sink.written c.step.new.sink) before here c.self.inside.post.depth kept.reached.0 kept.reached.1 c.step.result c.match-step.result (passes g c) (told g c).unchanged (writes g c)
 
 pub returns-clause-not_busy : goal.returns-clause-not_busy
 returns-clause-not_busy g c =
