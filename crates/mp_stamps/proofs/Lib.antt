@@ -1,5 +1,5 @@
 pub mod Places
-pub mod Updating
-pub mod Opening
 pub mod Paths
+pub mod Firsts
+pub mod Tables
 pub mod Seeing

@@ -6,15 +6,14 @@ use Rattle.mp_names.specs.declared.locations.Frontier.{Frontier}
 use Rattle.mp_names.specs.declared.locations.Frontier.TheVariants.{Done}
 use Rattle.mp_names.specs.declared.locations.Loc.{Loc}
 use Rattle.mp_names.specs.Frontiers.{IsFrontierOf}
-use Rattle.mp_names.specs.declared.pointstamps.Count.{Count}
-use Rattle.mp_stamps.specs.Counts.{count_in}
-use Rattle.mp_stamps.specs.Seen.{place_of}
+use Rattle.mp_stamps.specs.Counts.{CountTable, count_in}
+use Rattle.mp_stamps.specs.Places.{place_of}
 
 -- the frontiers of the locations before the place are found
-abbrev pub AreFound : List Count → List Frontier → ℕ → Type 0
+abbrev pub AreFound : CountTable → List Frontier → ℕ → Type 0
 AreFound cs fs n = (at : Loc) → place_of at < n → IsFrontierOf (count_in cs) at (get_or fs (place_of at) Done)
 
-pub found_next : (cs : List Count) (fs : List Frontier) (n : ℕ) (loc : Loc) (f : Frontier) → n < length fs → ((at : Loc) → place_of at ≡ n → at ≡ loc) → IsFrontierOf (count_in cs) loc f → AreFound cs fs n → AreFound cs (set fs n f) (n + 1)
+pub found_next : (cs : CountTable) (fs : List Frontier) (n : ℕ) (loc : Loc) (f : Frontier) → n < length fs → ((at : Loc) → place_of at ≡ n → at ≡ loc) → IsFrontierOf (count_in cs) loc f → AreFound cs fs n → AreFound cs (set fs n f) (n + 1)
 found_next cs fs n loc f l here found before at k =
     ⊎_elim
     (λ (m : place_of at < n). subst (IsFrontierOf (count_in cs) at) (sym (get_or-set_other fs n (place_of at) f Done (λ e. absurd (omega arith)))) (before at m))

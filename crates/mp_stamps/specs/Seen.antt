@@ -1,27 +1,14 @@
 -- What a worker saw of the frontiers.
-use Rattle.std.specs.Prelude.{ℕ, ◌+◌, ◌*◌, get_or}
+use Rattle.std.specs.Prelude.{ℕ, get_or}
 use Rattle.mp_names.specs.declared.locations.Loc.{Loc}
-use Rattle.mp_names.specs.declared.locations.Loc.TheVariants.{Ctl, CtlMail, Source, Route, Mail, Move, State, Host, OutRoute, OutMail}
 use Rattle.mp_names.specs.declared.locations.Frontier.{Frontier}
 use Rattle.mp_names.specs.declared.locations.Frontier.TheVariants.{Done}
 use Rattle.mp_names.specs.Frontiers.{HasPassed, IsClosedForOne}
 use Rattle.mp_names.specs.Locations.{IsLocation}
 use Rattle.mp_names.specs.Logs.{Log}
 use Rattle.mp_names.specs.Outlines.{Outline}
+use Rattle.mp_stamps.specs.Places.{place_of}
 use Rattle.mp_stamps.specs.declared.seen.Seen.{Seen}
-
--- where the location's frontier stands: first those without a stage, then five for each stage
-abbrev pub place_of : Loc → ℕ
-place_of Ctl = 0
-place_of CtlMail = 1
-place_of Source = 2
-place_of OutRoute = 3
-place_of OutMail = 4
-place_of (Route j) = 5 * j + 5
-place_of (Mail j) = 5 * j + 6
-place_of (Move j) = 5 * j + 7
-place_of (State j) = 5 * j + 8
-place_of (Host j) = 5 * j + 9
 
 -- the frontier of a location that was seen
 abbrev pub seen_at : Seen → Loc → Frontier

@@ -1,72 +1,93 @@
 //! Counts by location and time.
-ghost use Rattle.std.specs.Prelude.{◌≡◌, ℕ, pos, ◌+ℤ◌, OnOk, OnErr, min, FitsSigned, position};
-ghost use Rattle.std.specs.Int.{w64};
-ghost use Rattle.std.specs.List.{reduce};
+ghost use Rattle.std.specs.Prelude.{◌≡◌, ◌<◌, ◌≤◌, ℕ, pos, ◌+ℤ◌, Contains, IfOk, OnOk, FitsSigned, List, length};
+ghost use Rattle.std.specs.Int.{w128};
+ghost use Rattle.std.specs.List.Sorted.{IsStrictlyIncreasing};
 ghost use Rattle.mp_names.specs.Frontiers.{IsFrontierOf};
+ghost use Rattle.mp_names.specs.Limits.{most_stages_seen};
 ghost use Rattle.mp_names.specs.declared.locations.Loc.{Loc};
-ghost use Rattle.mp_stamps.specs.Counts.{count_in, is_of, is_open, open_times};
+ghost use Rattle.mp_stamps.specs.Counts.{AreZeroRows, IsCounted, IsFirstFor, SamePlaces, count_in};
+ghost use Rattle.mp_stamps.specs.Places.{places_of};
 
+use crate::place::{loc_at, place_of};
 use crate::reaching::reaches;
-use crate::stamps::is_stamp;
-use mp_names::{Count, Frontier, Loc, Pointstamp, Time};
+use crate::row::Row;
+use mp_names::{Frontier, Loc, Time};
 use std::alloc::{AllocError, Global};
 use std::marker::Model;
 
-/// How much work is outstanding at each location and time, as in Naiad's progress tracking. A count may
-/// be negative: what is taken may be known before it is known to be sent.
+/// How much work is outstanding at each location and time, as in Naiad's progress tracking: one number for each location of
+/// a job and each of a list of times. A count may be negative: what is taken may be known before it is known to be sent.
+/// Contracts see a `CountTable`.
 #[derive(Drop)]
 pub struct Counts {
-    // One for each location and time.
-    entries: Vec<Count>,
+    stages: u32,
+    // Ascending, each once.
+    times: Vec<Time>,
+    // By the places of locations, and in each by time.
+    rows: Vec<Row>,
 }
 
 impl Model for Counts {
-    ghost use Rattle.std.specs.Prelude.{List};
-    ghost use Rattle.mp_names.specs.declared.pointstamps.Count.{Count};
-    ghost use Rattle.mp_stamps.specs.Counts.{NoneIsHidden};
+    ghost use Rattle.mp_stamps.specs.Counts.{CountTable};
 
-    ghost Value = { List Count };
+    ghost Value = { CountTable };
 
-    ghost view = { λ c. c.entries.items };
+    ghost use Rattle.mp_stamps.specs.Counts.{IsTable};
 
-    ghost invariant = { λ c. NoneIsHidden c.entries.items };
+    ghost view = { λ c. record { stages = c.stages; times = c.times.items; rows = c.rows.items } };
+
+    ghost invariant = { λ c. IsTable (record { stages = c.stages; times = c.times.items; rows = c.rows.items }) };
 }
 
 impl Counts {
-    /// Counts that are all 0.
-    pub fn new(alloc: Global) -> Counts
-        ensures { (at : Loc) (t : ℕ) → count_in result at t ≡ pos 0 }
+    /// Counts of the locations of a job of so many stages at these times, all of them 0. The times ascend, each once; there
+    /// are at most `MAX_STAGES_SEEN` stages. `AllocError`: no memory.
+    pub fn over(alloc: Global, stages: u32, times: &[Time]) -> Result<Counts, AllocError>
+        requires stages { stages ≤ most_stages_seen }
+        requires rising { IsStrictlyIncreasing times.now }
+        ensures none { IfOk result (λ counts. (at : Loc) (t : ℕ) → count_in counts at t ≡ pos 0) }
+        ensures stages { IfOk result (λ counts. counts.stages ≡ stages) }
+        ensures times { IfOk result (λ counts. counts.times ≡ times.now) }
     {
-        Counts {
-            entries: Vec::new(alloc),
-        }
+        let mut own = Vec::with_capacity(alloc, times.len())?;
+        own.extend_from_slice(times)?;
+        let rows = zero_rows(alloc, 5 * stages + 5, times.len())?;
+        Ok(Counts {
+            stages,
+            times: own,
+            rows,
+        })
     }
 
-    /// Adds to the count of a location at a time. The sum fits an `i64`. `AllocError`: no memory, and
-    /// nothing changes.
-    pub fn add(&mut self, loc: Loc, time: Time, by: i64) -> Result<(), AllocError>
-        requires { FitsSigned w64 (count_in self.old loc time +ℤ by) }
-        ensures counted { OnOk result (count_in self.new loc time ≡ count_in self.old loc time +ℤ by) }
-        ensures others { OnOk result ((at : Loc) (t : ℕ) → ¬ ((at ≡ loc) × (t ≡ time)) → count_in self.new at t ≡ count_in self.old at t) }
-        ensures unchanged { OnErr result (self.new ≡ self.old) }
+    /// Adds to the count of a location at a time. What is added where no count is kept is dropped: at a location that the
+    /// job hasn't, or a time that isn't in the list. The sum fits an `i128`.
+    pub fn add(&mut self, loc: Loc, time: Time, by: i64)
+        requires { IsCounted self.old loc time → FitsSigned w128 (count_in self.old loc time +ℤ by) }
+        ensures counted { IsCounted self.old loc time → count_in self.new loc time ≡ count_in self.old loc time +ℤ by }
+        ensures others { (at : Loc) (t : ℕ) → ¬ ((at ≡ loc) × (t ≡ time)) → count_in self.new at t ≡ count_in self.old at t }
+        ensures same { SamePlaces self.old self.new }
     {
-        match index_of(&self.entries, loc, time) {
-            Some(index) => self.entries[index].count += by,
-            None => self.entries.push(Count {
-                at: Pointstamp { loc, time },
-                count: by,
-            })?,
+        let place = place_of(loc);
+        if place >= self.rows.len() {
+            return;
         }
-        Ok(())
+        let Ok(index) = self.times.binary_search(&time) else {
+            return;
+        };
+        self.rows[place].add(index, by);
     }
 
-    /// The count of a location at a time.
-    pub fn at(&self, loc: Loc, time: Time) -> i64
+    /// The count of a location at a time, 0 where none is kept.
+    pub fn at(&self, loc: Loc, time: Time) -> i128
         ensures { result ≡ count_in self.now loc time }
     {
-        match index_of(&self.entries, loc, time) {
-            Some(index) => self.entries[index].count,
-            None => 0,
+        let place = place_of(loc);
+        if place >= self.rows.len() {
+            return 0;
+        }
+        match self.times.binary_search(&time) {
+            Ok(index) => self.rows[place].at(index),
+            Err(_) => 0,
         }
     }
 
@@ -75,35 +96,34 @@ impl Counts {
     pub fn frontier(&self, loc: Loc) -> Frontier
         ensures { IsFrontierOf (count_in self.now) loc result }
     {
-        match earliest_open(&self.entries, loc) {
-            Some(time) => Frontier::At(time),
+        match self.times.get(self.first_open(loc)) {
+            Some(time) => Frontier::At(*time),
             None => Frontier::Done,
         }
     }
+
+    // The index of the least time of work that is outstanding and could result in something at the location, or the
+    // number of times.
+    fn first_open(&self, loc: Loc) -> usize
+        ensures { IsFirstFor self.now loc (places_of self.now.stages) result }
+    {
+        let mut first = self.times.len();
+        for place in 0..5 * self.stages + 5 {
+            if reaches(loc_at(place), loc) {
+                first = first.min(self.rows[place as usize].first());
+            }
+        }
+        first
+    }
 }
 
-// The index of the entry of a location and time.
-fn index_of(entries: &[Count], loc: Loc, time: Time) -> Option<usize>
-    ensures { result ≡ position (is_of loc time) entries.now }
+// Rows of counts that are all 0.
+fn zero_rows(alloc: Global, places: u32, times: usize) -> Result<Vec<Row>, AllocError>
+    ensures { IfOk result (λ rows. AreZeroRows places times rows.items) }
 {
-    entries
-        .iter()
-        .position(|entry| is_stamp(entry.at, loc, time))
-}
-
-// The least time of work that is outstanding and could result in something at the location.
-fn earliest_open(entries: &[Count], loc: Loc) -> Option<u64>
-    ensures { result ≡ reduce min (open_times loc entries.now) }
-{
-    entries
-        .iter()
-        .filter(|entry| is_open(entry, loc))
-        .map(|entry| entry.at.time)
-        .min()
-}
-
-fn is_open(entry: &Count, loc: Loc) -> bool
-    ensures { result ≡ is_open loc entry.now }
-{
-    entry.count != 0 && reaches(entry.at.loc, loc)
+    let mut rows = Vec::new(alloc);
+    for _ in 0..places {
+        rows.push(Row::zeros(alloc, times)?)?;
+    }
+    Ok(rows)
 }

@@ -6,7 +6,9 @@
 
 mod counts;
 mod frontiers;
+mod place;
 mod reaching;
+mod row;
 mod seen;
 mod stamps;
 

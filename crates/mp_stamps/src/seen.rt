@@ -1,13 +1,14 @@
 //! What a worker saw at its last exchange.
-ghost use Rattle.std.specs.Prelude.{◌≡◌, ◌≤◌, ◌<◌, ◌+◌, ◌*◌};
+ghost use Rattle.std.specs.Prelude.{◌≡◌, ◌≤◌};
 ghost use Rattle.mp_names.specs.Frontiers.{IsFrontierOf};
 ghost use Rattle.mp_names.specs.Limits.{most_stages_seen};
 ghost use Rattle.mp_names.specs.declared.locations.Loc.{Loc};
 ghost use Rattle.mp_names.specs.Locations.{IsLocation};
 ghost use Rattle.mp_stamps.specs.Counts.{count_in};
-ghost use Rattle.mp_stamps.specs.Seen.{place_of, seen_at};
+ghost use Rattle.mp_stamps.specs.Seen.{seen_at};
 
 use crate::counts::Counts;
+use crate::place::{loc_at, place_of};
 use mp_names::{Frontier, Loc};
 
 // Five locations have no stage, and five are of each stage.
@@ -63,60 +64,5 @@ impl Seen {
             Some(frontier) => *frontier,
             None => Frontier::Done,
         }
-    }
-}
-
-// Where the frontier of a location stands.
-fn place_of(loc: Loc) -> usize
-    ensures { result ≡ place_of loc }
-{
-    match loc {
-        Loc::Ctl => 0,
-        Loc::CtlMail => 1,
-        Loc::Source => 2,
-        Loc::OutRoute => 3,
-        Loc::OutMail => 4,
-        Loc::Route(stage) => 5 * stage as usize + 5,
-        Loc::Mail(stage) => 5 * stage as usize + 6,
-        Loc::Move(stage) => 5 * stage as usize + 7,
-        Loc::State(stage) => 5 * stage as usize + 8,
-        Loc::Host(stage) => 5 * stage as usize + 9,
-    }
-}
-
-// The location whose frontier stands at a place.
-fn loc_at(place: u32) -> Loc
-    ensures { (at : Loc) → place_of at ≡ place → at ≡ result }
-{
-    if place < 5 {
-        without_stage(place)
-    } else {
-        of_stage((place - 5) / 5, (place - 5) % 5)
-    }
-}
-
-fn without_stage(place: u32) -> Loc
-    requires { place < 5 }
-    ensures { place_of result ≡ place }
-{
-    match place {
-        0 => Loc::Ctl,
-        1 => Loc::CtlMail,
-        2 => Loc::Source,
-        3 => Loc::OutRoute,
-        _ => Loc::OutMail,
-    }
-}
-
-fn of_stage(stage: u32, kind: u32) -> Loc
-    requires { kind < 5 }
-    ensures { place_of result ≡ 5 * stage + kind + 5 }
-{
-    match kind {
-        0 => Loc::Route(stage),
-        1 => Loc::Mail(stage),
-        2 => Loc::Move(stage),
-        3 => Loc::State(stage),
-        _ => Loc::Host(stage),
     }
 }

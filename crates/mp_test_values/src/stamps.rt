@@ -1,20 +1,30 @@
 //! The worked values, with ample memory.
+use mp_names::Time;
 use mp_names::limits::MAX_STAGES_SEEN;
 use mp_stamps::{Counts, Frontier, Loc, Seen, passed, reaches};
+use std::process::Abort;
 use std::test::Fail;
 
+// Adds to a small count.
+fn add(rt: &impl Abort, counts: &mut Counts, loc: Loc, time: Time, by: i64) {
+    let before = counts.at(loc, time);
+    assert!(rt; -9 < before && before < 9);
+    assert!(rt; -9 < by && by < 9);
+    counts.add(loc, time, by);
+}
+
 #[test]
-fn frontier_of_counts_of_both_signs(rt: HostRuntime) -> Result<(), Fail> {
-    let mut counts = Counts::new(rt.alloc());
+fn frontier_of_dense_counts(rt: HostRuntime) -> Result<(), Fail> {
+    let mut counts = Counts::over(rt.alloc(), 1, &[5, 9])?;
     assert_eq!(rt; counts.frontier(Loc::Host(0)), Frontier::Done);
-    counts.add(Loc::Mail(0), 9, 1)?;
-    counts.add(Loc::Mail(0), 5, -1)?;
+    add(&rt, &mut counts, Loc::Mail(0), 9, 1);
+    add(&rt, &mut counts, Loc::Mail(0), 5, -1);
     assert_eq!(rt; counts.frontier(Loc::Host(0)), Frontier::At(5));
     assert_eq!(rt; counts.frontier(Loc::State(0)), Frontier::Done);
-    counts.add(Loc::Mail(0), 5, 1)?;
+    add(&rt, &mut counts, Loc::Mail(0), 5, 1);
     assert_eq!(rt; counts.at(Loc::Mail(0), 5), 0);
     assert_eq!(rt; counts.frontier(Loc::Host(0)), Frontier::At(9));
-    counts.add(Loc::Mail(0), 9, -1)?;
+    add(&rt, &mut counts, Loc::Mail(0), 9, -1);
     assert_eq!(rt; counts.frontier(Loc::Host(0)), Frontier::Done);
     Ok(())
 }
@@ -30,9 +40,10 @@ fn passed_at_the_boundary(rt: HostRuntime) {
 
 #[test]
 fn seen_at_each_location(rt: HostRuntime) -> Result<(), Fail> {
-    let mut counts = Counts::new(rt.alloc());
-    counts.add(Loc::Host(3), 7, 1)?;
-    counts.add(Loc::Move(1), 4, 2)?;
+    let mut counts = Counts::over(rt.alloc(), MAX_STAGES_SEEN, &[4, 7])?;
+    add(&rt, &mut counts, Loc::Host(3), 7, 1);
+    add(&rt, &mut counts, Loc::Move(1), 4, 2);
+    add(&rt, &mut counts, Loc::Move(1), 5, 1);
     let seen = Seen::of(MAX_STAGES_SEEN, 9, &counts);
     assert_eq!(rt; seen.version(), 9);
     assert_eq!(rt; seen.stages(), 4);
@@ -43,7 +54,7 @@ fn seen_at_each_location(rt: HostRuntime) -> Result<(), Fail> {
     assert_eq!(rt; seen.frontier(Loc::Host(3)), Frontier::At(4));
     assert_eq!(rt; seen.frontier(Loc::OutMail), Frontier::At(4));
     assert_eq!(rt; seen.frontier(Loc::Host(u32::MAX)), Frontier::Done);
-    let none = Seen::of(1, 0, &Counts::new(rt.alloc()));
+    let none = Seen::of(1, 0, &Counts::over(rt.alloc(), 1, &[])?);
     assert_eq!(rt; none.frontier(Loc::Host(0)), Frontier::Done);
     Ok(())
 }

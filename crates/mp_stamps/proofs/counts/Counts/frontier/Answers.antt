@@ -1,21 +1,23 @@
-use Rattle.std.proofs.Common.{List, ap, subst}
+use Rattle.std.proofs.Common.{◌≡◌, ◌<◌, ◌≤◌, ℕ, get_or, length, rules, subst, sym}
+use Rattle.mp_names.specs.declared.locations.Frontier.TheVariants.{At}
 use Rattle.mp_names.specs.Frontiers.{IsFrontierOf}
-use Rattle.mp_names.specs.declared.locations.Frontier.TheVariants.{At, Done}
-use Rattle.mp_names.specs.declared.pointstamps.Count.{Count}
-use Rattle.mp_stamps.specs.Counts.{count_in, open_times}
-use Rattle.mp_stamps.proofs.Opening.{frontier_at, frontier_done}
+use Rattle.mp_stamps.specs.Counts.{IsTable, count_in}
+use Rattle.mp_stamps.proofs.Tables.{frontier_at, frontier_done}
 use Rattle.mp_stamps.proofs.counts.Counts.frontier.Goals as goal
 
 pub returns-in-Some : goal.returns-in-Some
 returns-in-Some c =
-    let at = c.args.loc in
-    let cs = c.self.inside.entries.items in
-    let e = ap (λ (ds : List Count). open_times at ds) c.deref.ensures.value in
-    subst (λ (ds : List Count). IsFrontierOf (count_in ds) at (At c.in-Some.time)) c.self.view_is (frontier_at cs at c.in-Some.time (open_times at c.deref.result.now) c.self.invariant e c.in-Some.ensures)
+    let table = c.args.self.now in
+    let first = c.first_open.result in
+    let h : IsTable table = subst IsTable c.self.view_is c.self.invariant in
+    let inside : first < length table.times = search rules in
+    let e : c.in-Some.time.now ≡ get_or table.times first 0 = search rules in
+    subst (λ (u : ℕ). IsFrontierOf (count_in table) c.args.loc (At u)) (sym e) (frontier_at table c.args.loc first h c.first_open.ensures inside)
 
 pub returns-in-None : goal.returns-in-None
 returns-in-None c =
-    let at = c.args.loc in
-    let cs = c.self.inside.entries.items in
-    let e = ap (λ (ds : List Count). open_times at ds) c.deref.ensures.value in
-    subst (λ (ds : List Count). IsFrontierOf (count_in ds) at Done) c.self.view_is (frontier_done cs at (open_times at c.deref.result.now) e c.in-None.ensures)
+    let table = c.args.self.now in
+    let first = c.first_open.result in
+    let h : IsTable table = subst IsTable c.self.view_is c.self.invariant in
+    let past : length table.times ≤ first = search rules in
+    frontier_done table c.args.loc first h c.first_open.ensures past
