@@ -1,51 +1,47 @@
--- What stays true of a log's entries and of its room.
-use Rattle.std.proofs.Common.{◌≡◌, ℕ, List, ◌+ℤ◌, ◌-ℤ◌, max, ap, ◌∙◌, arith}
+-- What stays true of a log's changes.
+use Rattle.std.proofs.Common.{◌≡◌, ℕ, ◌+◌, ◌*◌, ◌<◌, ◌≤◌, suc, List, [], ◌∷◌, length, ◌+ℤ◌, ◌-ℤ◌, ℤ, refl, arith}
+use Rattle.std.proofs.lemmas.Int.{ints}
 use Rattle.mp_names.specs.declared.locations.Loc.{Loc}
 use Rattle.mp_names.specs.declared.names.Name.{Name}
 use Rattle.mp_names.specs.declared.pointstamps.Change.{Change}
 use Rattle.mp_names.specs.Frontiers.{contribution}
-use Rattle.mp_names.specs.Logs.{Log}
+use Rattle.mp_names.specs.Laws.{log_size}
+use Rattle.mp_names.specs.Logs.{Log, LogGrows}
 use Rattle.mp_names.specs.Outlines.{Outline}
-use Rattle.mp_model.specs.Facts.{JobFacts, QueryFacts}
-use Rattle.mp_outline.specs.JobOutline.{outline_of}
+use Rattle.mp_names.proofs.Grows.{grows_trans}
+use Rattle.mp_names.proofs.Lists.{prefix_refl}
 use Rattle.mp_rows.specs.declared.lists.LogList.{LogList}
-use Rattle.mp_rows.specs.declared.lists.Lists.{Lists}
-use Rattle.mp_rows.specs.Entries.{AreChanges, AreContributions, sum_at}
+use Rattle.mp_rows.specs.declared.lists.LogList.TheVariants.{Ingested, Sent, Took, Applied, Settled}
+use Rattle.mp_rows.specs.Entries.{AreChanges, sum_at}
+use Rattle.mp_rows.specs.Links.{one_larger}
 use Rattle.mp_rows.specs.Lists.{with_name}
-use Rattle.mp_rows.specs.Room.{HasRoom}
-use Rattle.mp_rows.specs.WorkerLog.{WorkerLog}
-use Rattle.mp_rows.proofs.Sums.{after_changes}
+use Rattle.mp_rows.specs.WorkerLog.{IsUnposted, most_changes, most_names}
 
--- what is added to a list is added to the same one
-pub added_to : (es same new changes : List Change) → same ≡ es → ((loc : Loc) (t : ℕ) → sum_at new loc t ≡ sum_at same loc t +ℤ sum_at changes loc t) → (loc : Loc) (t : ℕ) → sum_at new loc t ≡ sum_at es loc t +ℤ sum_at changes loc t
-added_to es same new changes e f = λ loc t. f loc t ∙ ap (λ (xs : List Change). sum_at xs loc t +ℤ sum_at changes loc t) e
+-- a log grows by a name
+pub one_grows : (list : LogList) (x : Name) (log : Log) → LogGrows log (with_name list x log)
+one_grows Ingested x log =
+    record { ingested = (x ∷ [], refl); sent = prefix_refl log.sent; took = prefix_refl log.took; applied = prefix_refl log.applied; settled = prefix_refl log.settled }
+one_grows Sent x log =
+    record { ingested = prefix_refl log.ingested; sent = (x ∷ [], refl); took = prefix_refl log.took; applied = prefix_refl log.applied; settled = prefix_refl log.settled }
+one_grows Took x log =
+    record { ingested = prefix_refl log.ingested; sent = prefix_refl log.sent; took = (x ∷ [], refl); applied = prefix_refl log.applied; settled = prefix_refl log.settled }
+one_grows Applied x log =
+    record { ingested = prefix_refl log.ingested; sent = prefix_refl log.sent; took = prefix_refl log.took; applied = (x ∷ [], refl); settled = prefix_refl log.settled }
+one_grows Settled x log =
+    record { ingested = prefix_refl log.ingested; sent = prefix_refl log.sent; took = prefix_refl log.took; applied = prefix_refl log.applied; settled = (x ∷ [], refl) }
 
-module _ (o : Outline) where
-  -- the same log and the same entries
-  pub kept : (w : ℕ) (old new : Log) (xs ys : List Change) → new ≡ old → ys ≡ xs → AreContributions o w old xs → AreContributions o w new ys
-  kept w old new xs ys e f h = λ loc t. rw (e, f) (h loc t)
+telescoped : (new old more first second third : ℤ) → new ≡ old +ℤ more → old ≡ second -ℤ first → more ≡ third -ℤ second → new ≡ third -ℤ first
+telescoped new old more first second third e f g = omega (arith, ints)
 
-  -- the same said of what contracts see
-  pub seen : (inside value : WorkerLog) (xs ys : List Change) → inside ≡ value → ys ≡ xs → AreContributions o inside.worker inside.log xs → AreContributions o value.worker value.log ys
-  seen inside value xs ys e f h = λ loc t. rw (f, ← e) (h loc t)
+fewer : (new old more before size next : ℕ) → new ≤ old + more → more ≤ most_changes → old + most_changes * before ≤ most_changes * size → next ≡ suc size → new + most_changes * before ≤ most_changes * next
+fewer new old more before size next a b c e = omega arith
 
-  -- one more name, with its changes
-  pub grown : (inside value : WorkerLog) (list : LogList) (x : Name) (same new : Log) (entries changes ys : List Change) → inside ≡ value → same ≡ inside.log → new ≡ with_name list x same → ((loc : Loc) (t : ℕ) → sum_at ys loc t ≡ sum_at entries loc t +ℤ sum_at changes loc t) → AreChanges o value.worker value.log (with_name list x value.log) changes → AreContributions o inside.worker inside.log entries → AreContributions o inside.worker new ys
-  grown inside value list x same new entries changes ys e f g k c h = λ loc t.
-      let n : new ≡ with_name list x inside.log = g ∙ ap (with_name list x) f in
-      let d : sum_at changes loc t ≡ contribution o inside.worker (with_name list x inside.log) loc t -ℤ contribution o inside.worker inside.log loc t = rw e (c.sums loc t) in
-      rw n (after_changes (sum_at ys loc t) (sum_at entries loc t) (sum_at changes loc t) (contribution o inside.worker inside.log loc t) (contribution o inside.worker (with_name list x inside.log) loc t) (k loc t) (h loc t) d)
-
--- room for the greater number
-pub room_max : (m n : ℕ) (l : Lists) → HasRoom m l → HasRoom n l → HasRoom (max m n) l
-room_max m n l h k = record {
-  ingested = omega (arith, h.ingested, k.ingested);
-  sent = omega (arith, h.sent, k.sent);
-  took = omega (arith, h.took, k.took);
-  applied = omega (arith, h.applied, k.applied);
-  settled = omega (arith, h.settled, k.settled);
-}
-
--- the entries of an empty log, said of the named job
-pub opened : {Cell : Type 0} (facts : List ℕ → QueryFacts Cell) (job named : JobFacts) (w : ℕ) (start log : Log) (xs : List Change) → job ≡ named → log ≡ start → AreContributions (outline_of (facts job.rules) job) w start xs → AreContributions (outline_of (facts named.rules) named) w log xs
-opened facts job named w start log xs e f h = λ loc t. rw (← e, f) (h loc t)
+-- a log with one more name, whose changes are added to those that wait
+pub one_more : (o : Outline) (w : ℕ) (posted log : Log) (list : LogList) (x : Name) (entries changes now : List Change) → IsUnposted o w posted log entries → AreChanges o w log (with_name list x log) changes → ((loc : Loc) (t : ℕ) → sum_at now loc t ≡ sum_at entries loc t +ℤ sum_at changes loc t) → length now ≤ length entries + length changes → length changes ≤ most_changes → log_size log < most_names → IsUnposted o w posted (with_name list x log) now
+one_more o w posted log list x entries changes now h c sums len few room =
+    record {
+      grows = grows_trans posted log (with_name list x log) h.grows (one_grows list x log);
+      pending = λ loc t. telescoped (sum_at now loc t) (sum_at entries loc t) (sum_at changes loc t) (contribution o w posted loc t) (contribution o w log loc t) (contribution o w (with_name list x log) loc t) (sums loc t) (h.pending loc t) (c.sums loc t);
+      few_changes = fewer (length now) (length entries) (length changes) (log_size posted) (log_size log) (log_size (with_name list x log)) len few h.few_changes (one_larger list x log);
+      few_names = omega (arith, one_larger list x log, room);
+    }

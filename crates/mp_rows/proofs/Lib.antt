@@ -6,4 +6,3 @@ pub mod Sources
 pub mod EmptyLog
 pub mod RowTaken
 pub mod Netted
-pub mod Single

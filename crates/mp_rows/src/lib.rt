@@ -1,15 +1,19 @@
 //! Layer: the parts of a worker.
 //!
-//! The log of one worker, with what it adds to the counts of outstanding work.
+//! The log of one worker, with what it adds to the counts of outstanding work. Its names stand in proofs alone.
 #![tactic(auto)]
 
 mod lists;
 mod log;
+mod names;
 mod netting;
 mod opening;
+mod outlined;
 
-pub use lists::{Lists, LogList};
+pub use lists::LogList;
 pub use log::Log;
 pub use mp_job::{Job, Query, Time};
 pub use mp_model::Naming;
 pub use mp_names::{Change, Loc, Name, Pointstamp};
+pub use opening::opening_entries;
+pub use outlined::{OutlineOf, Outlined};

@@ -1,83 +1,106 @@
-//! A log with its contributions.
-ghost use Rattle.std.specs.Prelude.{◌≡◌, ◌-◌, ◌<◌, ◌≤◌, ℕ, IfOk, IsOk, OnErr, OnOk, length, max};
-ghost use Rattle.mp_names.specs.Logs.{empty_log};
-ghost use Rattle.mp_outline.specs.JobOutline.{outline_of};
-ghost use Rattle.mp_rows.specs.Entries.{AreChanges, AreContributions};
-ghost use Rattle.mp_rows.specs.Lists.{names_in, with_name};
+//! A log with the changes that it hasn't posted.
+ghost use Rattle.std.specs.Prelude.{◌≡◌, ◌==◌, ◌+◌, ◌-◌, ◌^◌, ◌<◌, ◌≤◌, IsOk, OnErr, OnOk, length, max};
+ghost use Rattle.mp_names.specs.Laws.{log_size};
+ghost use Rattle.mp_names.specs.Logs.{Log as NamesLog, empty_log};
+ghost use Rattle.mp_names.specs.declared.names.Name.{Name};
+ghost use Rattle.mp_rows.specs.Entries.{AreChanges};
+ghost use Rattle.mp_rows.specs.Lists.{with_name};
+ghost use Rattle.mp_rows.specs.WorkerLog.{IsUnposted};
 
 use crate::Change;
-use crate::lists::{Lists, LogList};
+use crate::lists::LogList;
+use crate::names::{LogNames, no_names, one_more};
 use crate::netting::net_all;
-use crate::opening::opening_entries;
-use mp_job::{Job, Query};
-use mp_model::Naming;
+use crate::outlined::Outlined;
 use mp_names::Name;
 use std::alloc::{AllocError, Global};
 use std::marker::{Model, PhantomData};
+use std::mem;
+use std::snapshot::Snapshot;
 
-/// The log of one worker of the job J: its five lists of names, and what they add to the count of each location at
-/// each time. Contracts see a `WorkerLog`.
+// How many names a log may have, and how many changes may come with one. No run comes near these; with them no sum of
+// counts is past its type.
+const MOST_NAMES: u64 = 1 << 35;
+
+const MOST_CHANGES: u64 = 1 << 24;
+
+/// The log of one worker of a job with this outline: how far its five lists of names have grown, and what that added to
+/// the counts since the log was posted last. The names themselves stand in contracts alone, which see a `WorkerLog`.
 #[derive(Drop)]
-pub struct Log<Q: Query, J: Naming> {
+pub struct Log<O: Outlined> {
     worker: u32,
-    lists: Lists,
-    // Their sum at each location and time is the log's contribution. A change is added to the entry of its location and
-    // time, if there is one, so that the list doesn't grow with each name.
-    contributions: Vec<Change>,
-    // How many more names each list has room for, and how many changes there is room for.
+    // The names, now and as they were posted last; and how many they are.
+    names: Snapshot<LogNames>,
+    posted: Snapshot<Snapshot<LogNames>>,
+    size: u64,
+    posted_size: u64,
+    ingested: u64,
+    applied: u64,
+    // Their sum at each location and time is what the names since then add to the log's contribution.
+    changes: Vec<Change>,
+    // For how many more names and changes there is room.
     room_for_names: u64,
     room_for_changes: u64,
-    of: PhantomData<(Q, J)>,
+    of: PhantomData<O>,
 }
 
-impl<Q: Query, J: Naming> Model for Log<Q, J> {
-    ghost use Rattle.std.specs.Prelude.{◌+◌, ◌≤◌, vec_len};
+impl<O: Outlined> Model for Log<O> {
+    ghost use Rattle.std.specs.Prelude.{◌≡◌, ◌+◌, ◌≤◌, length, vec_len};
     ghost use Rattle.std.specs.Vec.{vec_capacity};
-    ghost use Rattle.mp_outline.specs.JobOutline.{outline_of};
-    ghost use Rattle.mp_rows.specs.Entries.{AreContributions};
-    ghost use Rattle.mp_rows.specs.Room.{HasRoom, log_of};
-    ghost use Rattle.mp_rows.specs.WorkerLog.{WorkerLog};
+    ghost use Rattle.mp_names.specs.Laws.{log_size};
+    ghost use Rattle.mp_rows.specs.WorkerLog.{IsUnposted, WorkerLog, most_changes, most_names};
 
     ghost Value = { WorkerLog };
 
     ghost view = { λ l.
         record {
           worker = l.worker;
-          log = log_of l.lists;
+          log = l.names.value;
+          posted = l.posted.value.value;
           room_for_names = l.room_for_names;
           room_for_changes = l.room_for_changes;
         } };
 
     ghost invariant = { λ l.
-        AreContributions (outline_of (Q.facts J.job.rules) J.job) l.worker (log_of l.lists) l.contributions.items
-        × HasRoom l.room_for_names l.lists
-        × (vec_len l.contributions + l.room_for_changes ≤ vec_capacity l.contributions) };
+        IsUnposted O.outline l.worker l.posted.value.value l.names.value l.changes.items
+        × (l.size ≡ log_size l.names.value)
+        × (l.posted_size ≡ log_size l.posted.value.value)
+        × (l.ingested ≡ length l.names.value.ingested)
+        × (l.applied ≡ length l.names.value.applied)
+        × (l.size + l.room_for_names ≤ most_names)
+        × (l.room_for_changes ≤ most_changes)
+        × (vec_len l.changes + l.room_for_changes ≤ vec_capacity l.changes) };
 }
 
-impl<Q: Query, J: Naming> Log<Q, J> {
-    /// The empty log of a worker. `AllocError`: no memory.
-    pub fn open(alloc: Global, job: &Job<Q>, worker: u32) -> Result<Log<Q, J>, AllocError>
-        requires job { job.now ≡ J.job }
-        requires worker { worker < J.job.shape.workers }
-        ensures worker { IfOk result (λ l. l.worker ≡ worker) }
-        ensures log { IfOk result (λ l. l.log ≡ empty_log) }
+impl<O: Outlined> Log<O> {
+    /// The empty log of a worker, which counts as posted.
+    pub fn open(alloc: Global, worker: u32) -> Log<O>
+        ensures worker { result.worker ≡ worker }
+        ensures log { result.log ≡ empty_log }
+        ensures posted { result.posted ≡ empty_log }
     {
-        let contributions = opening_entries(alloc, job, worker)?;
-        Ok(Log {
+        let names = no_names();
+        let posted = Snapshot::of(&names);
+        Log {
             worker,
-            lists: Lists::new(alloc),
-            contributions,
+            names,
+            posted,
+            size: 0,
+            posted_size: 0,
+            ingested: 0,
+            applied: 0,
+            changes: Vec::new(alloc),
             room_for_names: 0,
             room_for_changes: 0,
             of: PhantomData,
-        })
+        }
     }
 
     /// Adds a name at the end of a list. The changes, each location and time once and none by 0, are what that adds to
-    /// the log's contributions. `AllocError`: no memory, and nothing changes.
+    /// the log's contributions. `AllocError`: no memory, and nothing changes; more than 2^35 names, or 2^24 changes with
+    /// one, count as that.
     pub fn push(&mut self, list: LogList, name: Name, changes: &[Change]) -> Result<(), AllocError>
-        requires changes { let o = outline_of (Q.facts J.job.rules) J.job in
-            AreChanges o self.old.worker self.old.log (with_name list name self.old.log) changes.now }
+        requires changes { AreChanges O.outline self.old.worker self.old.log (with_name list name self.old.log) changes.now }
         ensures pushed { OnOk result (self.new ≡ record self.old {
           log = with_name list name self.old.log;
           room_for_names = self.old.room_for_names - 1;
@@ -86,17 +109,23 @@ impl<Q: Query, J: Naming> Log<Q, J> {
         ensures unchanged { OnErr result (self.new ≡ self.old) }
         ensures ready { 1 ≤ self.old.room_for_names → length changes.now ≤ self.old.room_for_changes → IsOk result }
     {
-        self.lists.reserve(1)?;
-        self.contributions.reserve(changes.len())?;
-        net_all(&mut self.contributions, changes);
-        self.lists.push(list, name);
+        if self.size >= MOST_NAMES || changes.len() as u64 > MOST_CHANGES {
+            return Err(AllocError);
+        }
+        self.changes.reserve(changes.len())?;
+        net_all(&mut self.changes, changes);
+        let before = mem::replace(&mut self.names, no_names());
+        self.names = one_more(before, list, name);
+        self.size += 1;
+        self.ingested = ingested_after(self.ingested, list);
+        self.applied = applied_after(self.applied, list);
         self.room_for_names = self.room_for_names.saturating_sub(1);
         self.room_for_changes = self.room_for_changes.saturating_sub(changes.len() as u64);
         Ok(())
     }
 
     /// Makes room: the next `n` pushes with `n` changes in all then answer `Ok`. `AllocError`: no memory, and nothing
-    /// changes.
+    /// changes; a number past what a log may have counts as that.
     pub fn make_room(&mut self, n: u64) -> Result<(), AllocError>
         ensures made { OnOk result (self.new ≡ record self.old {
           room_for_names = max self.old.room_for_names n;
@@ -104,18 +133,51 @@ impl<Q: Query, J: Naming> Log<Q, J> {
         }) }
         ensures unchanged { OnErr result (self.new ≡ self.old) }
     {
-        self.lists.reserve(n as usize)?;
-        self.contributions.reserve(n as usize)?;
+        if n > MOST_CHANGES || n > MOST_NAMES - self.size {
+            return Err(AllocError);
+        }
+        self.changes.reserve(n as usize)?;
         self.room_for_names = self.room_for_names.max(n);
         self.room_for_changes = self.room_for_changes.max(n);
         Ok(())
     }
 
-    /// The names of a list, in order.
-    pub fn names(&self, list: LogList) -> &[Name]
-        ensures { result.now ≡ names_in list self.now.log }
+    /// Takes the log as posted, once its changes are told. Takes no memory.
+    pub fn post(&mut self)
+        ensures { self.new ≡ record self.old { posted = self.old.log } }
     {
-        self.lists.names(list)
+        self.changes.clear();
+        self.posted = Snapshot::of(&self.names);
+        self.posted_size = self.size;
+    }
+
+    /// What the log adds to the counts since it was posted last: at each location and time the sum of the changes that
+    /// have these.
+    pub fn changes(&self) -> &[Change]
+        ensures { IsUnposted O.outline self.now.worker self.now.posted self.now.log result.now }
+    {
+        self.changes.as_slice()
+    }
+
+    /// Whether no name came since the log was posted last.
+    pub fn is_posted(&self) -> bool
+        ensures { result ≡ log_size self.now.log == log_size self.now.posted }
+    {
+        self.size == self.posted_size
+    }
+
+    /// How many records of its share the worker has ingested.
+    pub fn ingested(&self) -> u64
+        ensures { result ≡ length self.now.log.ingested }
+    {
+        self.ingested
+    }
+
+    /// How many groups it has applied.
+    pub fn applied(&self) -> u64
+        ensures { result ≡ length self.now.log.applied }
+    {
+        self.applied
     }
 
     /// Whose log it is.
@@ -124,12 +186,26 @@ impl<Q: Query, J: Naming> Log<Q, J> {
     {
         self.worker
     }
+}
 
-    /// What the log adds to the counts: at each location and time the sum of the entries that have these.
-    pub fn contributions(&self) -> &[Change]
-        ensures { let o = outline_of (Q.facts J.job.rules) J.job in
-            AreContributions o self.now.worker self.now.log result.now }
-    {
-        self.contributions.as_slice()
+// How many names the list of ingested records has after one more in this list.
+fn ingested_after(ingested: u64, list: LogList) -> u64
+    requires { ingested < 2 ^ 64 - 1 }
+    ensures { (x : Name) (log : NamesLog) → ingested ≡ length log.ingested → result ≡ length (with_name list x log).ingested }
+{
+    match list {
+        LogList::Ingested => ingested + 1,
+        LogList::Sent | LogList::Took | LogList::Applied | LogList::Settled => ingested,
+    }
+}
+
+// How many names the list of applied groups has after one more in this list.
+fn applied_after(applied: u64, list: LogList) -> u64
+    requires { applied < 2 ^ 64 - 1 }
+    ensures { (x : Name) (log : NamesLog) → applied ≡ length log.applied → result ≡ length (with_name list x log).applied }
+{
+    match list {
+        LogList::Applied => applied + 1,
+        LogList::Ingested | LogList::Sent | LogList::Took | LogList::Settled => applied,
     }
 }

@@ -325,11 +325,14 @@ module _ (inside now : CountTable) (t : ℕ) (h : IsTable inside) (is : inside �
       ∙ ap (λ (u : ℕ). count_in inside loc u) here.1
       ∙ ap (λ (table : CountTable). count_in table loc t) is
 
-  pub added_fits : (IsCounted now loc t → SFits w128 (count_in now loc t +ℤ by)) → SFits w128 (count_there row i +ℤ plus)
-  added_fits fits =
+  pub is_counted : IsCounted now loc t
+  is_counted =
       let here = found_time inside t h r i s e in
       let counted : IsCounted inside loc t = (location_placed inside.stages loc (omega (arith, placed, h.each_place)), contains_there inside.times t i here.0 here.1) in
-      rw (was, same) (fits (subst (λ (table : CountTable). IsCounted table loc t) is counted))
+      subst (λ (table : CountTable). IsCounted table loc t) is counted
+
+  pub added_fits : (IsCounted now loc t → SFits w128 (count_in now loc t +ℤ by)) → SFits w128 (count_there row i +ℤ plus)
+  added_fits fits = rw (was, same) (fits is_counted)
 
   module _ (new : List ℤ) (changes : new ≡ set row i (count_there row i +ℤ plus)) where
     abbrev after : CountTable
@@ -353,3 +356,15 @@ module _ (inside now : CountTable) (t : ℕ) (h : IsTable inside) (is : inside �
         ap (λ (table : CountTable). count_in table at u) after_is
         ∙ changed_others inside loc i (count_there row i +ℤ plus) h placed here.0 at u (λ f. n (f.0, f.1 ∙ here.1))
         ∙ ap (λ (table : CountTable). count_in table at u) is
+
+-- a count is kept of a location at a time, or isn't
+pub counted_or_not : (table : CountTable) (at : Loc) (t : ℕ) → IsCounted table at t ⊎ (IsCounted table at t → ⊥)
+counted_or_not table at t =
+    ⊎_elim
+    (λ (p : place_of at < places_of table.stages).
+    ⊎_elim
+    (λ (f : (k : ℕ) × (k < length table.times) × (get_or table.times k 0 ≡ t)). inl (location_placed table.stages at p, contains_there table.times t f.0 f.1 f.2))
+    (λ (m : HasNot table.times t). inr (λ c. has_not_contained table.times t m c.1))
+    (find_time table.times t))
+    (λ (p : places_of table.stages ≤ place_of at). inr (λ c. let q = place_inside table.stages at c.0 in absurd (omega arith)))
+    (cases_lt (place_of at) (places_of table.stages))

@@ -64,6 +64,7 @@ impl Counts {
     pub fn add(&mut self, loc: Loc, time: Time, by: i64)
         requires { IsCounted self.old loc time → FitsSigned w128 (count_in self.old loc time +ℤ by) }
         ensures counted { IsCounted self.old loc time → count_in self.new loc time ≡ count_in self.old loc time +ℤ by }
+        ensures dropped { ¬ IsCounted self.old loc time → count_in self.new loc time ≡ count_in self.old loc time }
         ensures others { (at : Loc) (t : ℕ) → ¬ ((at ≡ loc) × (t ≡ time)) → count_in self.new at t ≡ count_in self.old at t }
         ensures same { SamePlaces self.old self.new }
     {

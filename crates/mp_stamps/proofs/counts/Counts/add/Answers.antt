@@ -1,7 +1,7 @@
 use Rattle.std.proofs.Common.{◌<◌, length, rules, subst, sym, Contains, w64, SFits}
 use Rattle.std.proofs.lemmas.Int.{to_z-of_z}
 use Rattle.mp_stamps.specs.Counts.{CountTable}
-use Rattle.mp_stamps.proofs.Tables.{Searched, added_fits, added_here, added_others, has_not_contained, missed_time, searched_in}
+use Rattle.mp_stamps.proofs.Tables.{Searched, added_fits, added_here, added_others, has_not_contained, is_counted, missed_time, searched_in}
 use Rattle.mp_stamps.proofs.counts.Counts.add.Goals as goal
 
 pub returns-in_default-clause-counted : goal.returns-in_default-clause-counted
@@ -38,3 +38,12 @@ returns-clause-others c =
     let place : c.place_of-place.result < length inside.rows = search rules in
     let by : SFits w64 c.args.by = search rules in
     added_others inside c.args.self.now t c.self.invariant c.self.view_is c.args.loc c.place_of-place.result c.place_of-place.ensures place c.binary_search.result c.in-Ok.index there c.in-Ok.is c.index_mut.result.now c.index_mut.ensures.value _ c.args.by (to_z-of_z w64 c.args.by by) c.add.new.self c.add.ensures
+
+pub returns-clause-dropped : goal.returns-clause-dropped
+returns-clause-dropped c =
+    let inside : CountTable = record { stages = c.self.inside.stages; times = c.self.inside.times.items; rows = c.self.inside.rows.items } in
+    let t = c.args.time in
+    let there : Searched inside t c.self.invariant c.binary_search.result = searched_in c.deref.result.now inside.times t c.binary_search.result c.deref.ensures.value c.binary_search.ensures.position in
+    let place : c.place_of-place.result < length inside.rows = search rules in
+    let by : SFits w64 c.args.by = search rules in
+    λ not. absurd (not (is_counted inside c.args.self.now t c.self.invariant c.self.view_is c.args.loc c.place_of-place.result c.place_of-place.ensures place c.binary_search.result c.in-Ok.index there c.in-Ok.is c.index_mut.result.now c.index_mut.ensures.value _ c.args.by (to_z-of_z w64 c.args.by by)))
