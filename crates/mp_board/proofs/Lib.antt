@@ -1,6 +1,7 @@
--- The lemmas of this crate.
-pub mod Places
-pub mod Sameness
-pub mod Opened
 pub mod Recounted
+pub mod Sameness
+pub mod Adding
+pub mod Elsewhere
 pub mod Posting
+pub mod Timed
+pub mod Opened

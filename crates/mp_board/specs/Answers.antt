@@ -6,7 +6,7 @@ use Rattle.mp_board.specs.declared.causes.Answer.{Answer}
 use Rattle.mp_board.specs.declared.causes.Answer.TheVariants.{Got, Busy}
 use Rattle.mp_board.specs.declared.causes.Cause.{Cause}
 use Rattle.mp_board.specs.declared.causes.HubStop.{HubStop}
-use Rattle.mp_board.specs.declared.causes.HubStop.TheVariants.{NoMemory, Other}
+use Rattle.mp_board.specs.declared.causes.HubStop.TheVariants.{Other}
 
 -- the log was posted, and P holds of what was seen
 abbrev pub IfGot : Result Answer HubStop → (Seen → Type 0) → Type 0
@@ -23,10 +23,9 @@ abbrev pub IfStopped : Result Answer HubStop → (Cause → Type 0) → Type 0
 IfStopped (Err (Other cause)) P = P cause
 IfStopped _ P = Unit {0}
 
--- the board was reached, and no worker had stopped: the log was posted, or there was no memory for it
+-- the board was reached, and no worker had stopped: the log was posted
 abbrev pub IfTried : Result Answer HubStop → Type 0 → Type 0
 IfTried (Ok (Got seen)) P = P
-IfTried (Err NoMemory) P = P
 IfTried _ P = Unit {0}
 
 -- the log wasn't posted

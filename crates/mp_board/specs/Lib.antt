@@ -1,7 +1,6 @@
 -- What the contracts of this crate cite.
 pub mod Answers
 pub mod Boards
-pub mod Posted
-pub mod Recount
+pub mod Opening
 pub mod Soundness
 pub mod Totals

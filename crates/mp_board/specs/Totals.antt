@@ -1,11 +1,13 @@
--- Totals by location and time.
-use Rattle.std.specs.Prelude.{ℕ, List, ℤ, pos}
-use Rattle.std.specs.Map.{lookup}
-use Rattle.std.specs.Option.{unwrap_or}
+-- Room for changes in counts.
+use Rattle.std.specs.Prelude.{◌+◌, ◌*◌, ◌^◌, ℕ, ℤ, pos, ◌+ℤ◌, ◌≤ℤ◌}
 use Rattle.mp_names.specs.declared.locations.Loc.{Loc}
-use Rattle.mp_names.specs.declared.pointstamps.Pointstamp.{Pointstamp}
-use Rattle.mp_stamps.specs.Counts.{is_stamp}
+use Rattle.mp_stamps.specs.Counts.{CountTable, count_in}
 
--- the total of a location and time, 0 where there is none
-abbrev pub total_at : List (Pointstamp × ℤ) → Loc → ℕ → ℤ
-total_at totals loc t = unwrap_or (lookup (is_stamp loc t) totals) (pos 0)
+-- so many changes more, each by an `i64`, leave the count an `i128`
+pub record FitsMore (k : ℕ) (count : ℤ) : Type 0 where
+  pub low : pos (k * 2 ^ 63) ≤ℤ (count +ℤ pos (2 ^ 127))
+  pub high : (count +ℤ pos (k * 2 ^ 63 + 1)) ≤ℤ pos (2 ^ 127)
+
+-- whatever each of them is of
+abbrev pub HasRoomFor : ℕ → CountTable → Type 0
+HasRoomFor k counts = (loc : Loc) (t : ℕ) → FitsMore k (count_in counts loc t)

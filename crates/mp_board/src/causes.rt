@@ -22,8 +22,6 @@ pub enum Answer {
 /// Why an exchange posts nothing, and the worker stops.
 #[derive(Clone, Copy, PartialEq, Eq, Debug)]
 pub enum HubStop {
-    /// There was no memory for it.
-    NoMemory,
     /// Another worker stopped before.
     Other(Cause),
 }

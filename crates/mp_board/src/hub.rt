@@ -3,17 +3,14 @@ ghost use Rattle.std.specs.Prelude.{◌≡◌, ◌⊎◌, ◌<◌, ◌≤◌, �
 ghost use Rattle.mp_names.specs.Frontiers.{log_at};
 ghost use Rattle.mp_stamps.specs.declared.seen.Seen.{Seen};
 ghost use Rattle.mp_board.specs.declared.causes.Cause.{Cause};
-ghost use Rattle.mp_names.specs.Logs.{Log, LogGrows, LogIsLegal};
+ghost use Rattle.mp_names.specs.Logs.{Log, LogIsLegal};
 ghost use Rattle.mp_stamps.specs.Seen.{SeenIsDone};
-ghost use Rattle.mp_rows.specs.Entries.{AreContributions};
 ghost use Rattle.mp_board.specs.Answers.{IfBusy, IfGot, IfNotPosted, IfStopped, IfTried};
-ghost use Rattle.mp_board.specs.Posted.{posted_log};
 ghost use Rattle.mp_board.specs.Boards.{ShowsFrontiers, exchanged};
 
 use crate::board::Board;
 use crate::causes::{Answer, Cause, HubStop};
-use crate::outlined::Outlined;
-use crate::posted::PostedLog;
+use mp_rows::{Log, Outlined};
 use mp_stamps::Seen;
 
 /// Where workers of a job with this outline post their logs: the board itself, or a way to it that may find it held by
@@ -46,22 +43,23 @@ pub trait Hub<O: Outlined> {
     /// Another worker may have held the board.
     ghost was_busy: { Self → Type 0 };
 
-    /// Posts the copy of a worker's log, which has grown from the one that it posted last, and gives what all posted logs show then.
-    /// `Busy` where another worker holds the board. `Other` exactly where a worker had stopped before; `NoMemory` where
-    /// there is no memory for it. Only `Got` changes anything.
-    fn exchange(&mut self, worker: u32, log: PostedLog) -> Result<Answer, HubStop>
+    /// Posts a worker's log, which has grown from the one that it posted last, and gives what all posted logs show then.
+    /// `Busy` where another worker holds the board. `Other` exactly where a worker had stopped before. Only `Got` changes
+    /// anything. Takes no memory.
+    fn exchange(&mut self, worker: u32, log: &mut Log<O>) -> Result<Answer, HubStop>
         requires serves { serves self.old worker }
         requires worker { worker < O.outline.workers }
-        requires legal { LogIsLegal O.outline worker (posted_log log) }
-        requires grows { LogGrows (posted self.old worker) (posted_log log) }
-        requires contributions { AreContributions O.outline worker (posted_log log) log.entries.items }
+        requires own { log.old.worker ≡ worker }
+        requires legal { LogIsLegal O.outline worker log.old.log }
+        requires posted { posted self.old worker ≡ log.old.posted }
 
-        ensures after { IfGot result (λ _. after self.old worker (posted_log log) self.new) }
-        ensures posted { IfGot result (λ _. posted self.new worker ≡ posted_log log) }
+        ensures after { IfGot result (λ _. after self.old worker log.old.log self.new) }
+        ensures posted { IfGot result (λ _. posted self.new worker ≡ log.old.log) }
+        ensures log { IfGot result (λ _. log.new ≡ record log.old { posted = log.old.log }) }
         ensures shows { IfGot result (λ seen. shows self.new seen) }
-        ensures told { IfGot result (λ seen. SeenIsDone O.outline worker (posted_log log) seen) }
+        ensures told { IfGot result (λ seen. SeenIsDone O.outline worker log.old.log seen) }
         ensures version { IfGot result (λ seen. seen.version ≡ version self.new) }
-        ensures rises { IfGot result (λ _. (posted self.old worker ≡ posted_log log) ⊎ (version self.old < version self.new)) }
+        ensures rises { IfGot result (λ _. (posted self.old worker ≡ log.old.log) ⊎ (version self.old < version self.new)) }
         ensures never_falls { version self.old ≤ version self.new }
 
         ensures busy { IfBusy result (was_busy self.old) }
@@ -69,6 +67,7 @@ pub trait Hub<O: Outlined> {
         ensures tried { IfTried result (goes_on self.old) }
 
         ensures kept { IfNotPosted result (kept self.old self.new) }
+        ensures same_log { IfNotPosted result (log.new ≡ log.old) }
         ensures still_posted { IfNotPosted result (posted self.new worker ≡ posted self.old worker) }
         ensures still_serves { (w : ℕ) → serves self.old w → serves self.new w };
 }
@@ -93,13 +92,10 @@ impl<O: Outlined> Hub<O> for Board<O> {
 
     ghost was_busy = { λ _. ⊥ };
 
-    fn exchange(&mut self, worker: u32, log: PostedLog) -> Result<Answer, HubStop> {
+    fn exchange(&mut self, worker: u32, log: &mut Log<O>) -> Result<Answer, HubStop> {
         if let Some(cause) = self.stopped() {
             return Err(HubStop::Other(cause));
         }
-        match self.exchange(worker, log) {
-            Ok(seen) => Ok(Answer::Got(seen)),
-            Err(_) => Err(HubStop::NoMemory),
-        }
+        Ok(Answer::Got(self.exchange(worker, log)))
     }
 }

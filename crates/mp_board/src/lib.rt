@@ -6,15 +6,11 @@
 mod board;
 mod causes;
 mod hub;
-mod outlined;
-mod posted;
-mod recount;
+mod opening;
 mod totals;
 
 pub use board::Board;
 pub use causes::{Answer, Cause, HubStop};
 pub use hub::Hub;
-pub use mp_rows::{Change, Job, Loc, Log, Name, Naming, Query, Time};
+pub use mp_rows::{Change, Job, Loc, Log, Name, Naming, OutlineOf, Outlined, Query, Time};
 pub use mp_stamps::{Frontier, Seen};
-pub use outlined::{OutlineOf, Outlined};
-pub use posted::PostedLog;

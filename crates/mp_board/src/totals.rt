@@ -1,51 +1,37 @@
-//! Sums of entries by location and time.
-ghost use Rattle.std.specs.Prelude.{◌≡◌, ℕ, ◌∷◌, [], ◌+ℤ◌, IfOk, OnOk};
+//! Changes that are added to the counts.
+ghost use Rattle.std.specs.Prelude.{◌≡◌, ◌+◌, ◌∷◌, [], ℕ, ◌+ℤ◌, length};
 ghost use Rattle.mp_names.specs.declared.locations.Loc.{Loc};
+ghost use Rattle.mp_stamps.specs.Counts.{IsCounted, SamePlaces, count_in};
 ghost use Rattle.mp_rows.specs.Entries.{sum_at};
-ghost use Rattle.mp_board.specs.Totals.{total_at};
+ghost use Rattle.mp_board.specs.Totals.{HasRoomFor};
 
-use mp_names::{Change, Pointstamp};
-use std::alloc::AllocError;
-use std::collections::BTreeMap;
+use mp_names::Change;
+use mp_stamps::Counts;
 
-/// What the entries of each pointstamp sum to.
-pub type Totals = BTreeMap<Pointstamp, i128>;
-
-/// Adds entries to the totals. `AllocError`: no memory, which a total past an `i128` counts as: no memory holds entries
-/// for that.
-pub fn add_entries(totals: &mut Totals, entries: &[Change]) -> Result<(), AllocError>
-    ensures { OnOk result ((loc : Loc) (t : ℕ) →
-        total_at totals.new.entries loc t ≡ total_at totals.old.entries loc t +ℤ sum_at entries.now loc t) }
+/// Adds changes to the counts; where no count is kept they are dropped. Each count has room for so many.
+pub(crate) fn add_all(counts: &mut Counts, changes: &[Change])
+    requires { HasRoomFor (length changes.now) counts.old }
+    ensures counted { (loc : Loc) (t : ℕ) → IsCounted counts.old loc t →
+        count_in counts.new loc t ≡ count_in counts.old loc t +ℤ sum_at changes.now loc t }
+    ensures dropped { (loc : Loc) (t : ℕ) → ¬ IsCounted counts.old loc t →
+        count_in counts.new loc t ≡ count_in counts.old loc t }
+    ensures same { SamePlaces counts.old counts.new }
+    ensures room { (k : ℕ) → HasRoomFor (length changes.now + k) counts.old → HasRoomFor k counts.new }
 {
-    for entry in entries {
-        add_entry(totals, entry)?;
-    }
-    Ok(())
-}
-
-fn add_entry(totals: &mut Totals, entry: &Change) -> Result<(), AllocError>
-    ensures { OnOk result ((loc : Loc) (t : ℕ) →
-        total_at totals.new.entries loc t ≡ total_at totals.old.entries loc t +ℤ sum_at (entry.now ∷ []) loc t) }
-{
-    let sum = plus(total_of(totals, entry.at), entry.by)?;
-    totals.insert(entry.at, sum)?;
-    Ok(())
-}
-
-fn total_of(totals: &Totals, at: Pointstamp) -> i128
-    ensures { result ≡ total_at totals.now.entries at.loc at.time }
-{
-    match totals.get(&at) {
-        Some(total) => *total,
-        None => 0,
+    for change in changes {
+        add_one(counts, *change);
     }
 }
 
-fn plus(total: i128, by: i64) -> Result<i128, AllocError>
-    ensures { IfOk result (λ sum. sum ≡ total +ℤ by) }
+// Adds a change to the counts.
+fn add_one(counts: &mut Counts, change: Change)
+    requires { HasRoomFor 1 counts.old }
+    ensures counted { (loc : Loc) (t : ℕ) → IsCounted counts.old loc t →
+        count_in counts.new loc t ≡ count_in counts.old loc t +ℤ sum_at (change ∷ []) loc t }
+    ensures dropped { (loc : Loc) (t : ℕ) → ¬ IsCounted counts.old loc t →
+        count_in counts.new loc t ≡ count_in counts.old loc t }
+    ensures same { SamePlaces counts.old counts.new }
+    ensures room { (k : ℕ) → HasRoomFor (1 + k) counts.old → HasRoomFor k counts.new }
 {
-    match total.checked_add(i128::from(by)) {
-        Some(sum) => Ok(sum),
-        None => Err(AllocError),
-    }
+    counts.add(change.at.loc, change.at.time, change.by);
 }

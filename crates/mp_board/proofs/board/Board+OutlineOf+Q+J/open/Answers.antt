@@ -1,13 +1,17 @@
-use Rattle.std.proofs.Common.{◌≡◌, ◌≤◌, ℕ, ap, arith, subst, ◌∙◌}
+use Rattle.std.proofs.Common.{◌≡◌, ◌≤◌, ◌∙◌, ℕ, ap, arith, subst, sym}
 use Rattle.std.specs.Prelude.{replicate}
 use Rattle.mp_names.specs.declared.controls.Shape.{Shape}
-use Rattle.mp_names.specs.Logs.{empty_log}
 use Rattle.mp_names.specs.Limits.{most_stages_seen}
+use Rattle.mp_names.specs.Logs.{empty_log}
 use Rattle.mp_model.specs.Facts.{JobFacts}
 use Rattle.mp_job.specs.Legal.{JobIsLegal}
+use Rattle.mp_job.specs.Times.{times_of}
 use Rattle.mp_outline.specs.JobOutline.{outline_of}
 use Rattle.mp_outline.proofs.Soundness.{outline_is_sound}
-use Rattle.mp_board.proofs.Posting.{empty_sound}
+use Rattle.mp_board.specs.Opening.{AreOpened}
+use Rattle.mp_board.specs.Soundness.{HoldsAllTimes}
+use Rattle.mp_board.proofs.Opened.{empty_sound}
+use Rattle.mp_board.proofs.Timed.{holds_all_times}
 use Rattle.mp_board.proofs.board.Board+OutlineOf+Q+J.open.Goals as goal
 
 pub invariant_of-result : goal.invariant_of-result
@@ -20,10 +24,16 @@ invariant_of-result g c =
     let q = g.Q.Query.facts job.rules in
     let legal = subst (λ (j : JobFacts). JobIsLegal (g.Q.Query.facts j.rules) j) c.requires c.shape-shape.ensures.legal in
     let has = laws.has_stages job.rules in
-    let ok = outline_is_sound q has (laws.posts_are_later job.rules) (laws.later_stages_post_nothing job.rules) job legal in
+    let nothing = laws.later_stages_post_nothing job.rules in
+    let ok = outline_is_sound q has (laws.posts_are_later job.rules) nothing job legal in
     let few : job.shape.stages ≤ most_stages_seen = omega (arith, has.1, legal.stages) in
-    empty_sound (outline_of q job) c.in_ok-posted.posted.items c.in_ok-seen.seen ok few
-    (c.in_ok-posted.ensures.empty ∙ ap (λ (n : ℕ). replicate n empty_log) workers)
-    c.in_ok-posted.ensures.contributions c.in_ok-seen.ensures.version
-    (c.in_ok-seen.ensures.stages ∙ stages)
-    (λ at has. rw c.as_slice.ensures.value at (c.in_ok-seen.ensures.frontiers at (rw stages has)))
+    let counts = c.in_ok-counts.counts in
+    let opened = subst (λ (j : JobFacts). let o = outline_of (g.Q.Query.facts j.rules) j in AreOpened o o.workers counts) c.requires c.in_ok-counts.ensures.opened in
+    let counted_stages : counts.stages ≡ job.shape.stages = c.in_ok-counts.ensures.stages ∙ ap (λ (j : JobFacts). j.shape.stages) c.requires in
+    let times_are : counts.times ≡ times_of q job.events job.controls = c.in_ok-counts.ensures.times ∙ ap (λ (j : JobFacts). times_of (g.Q.Query.facts j.rules) j.events j.controls) c.requires in
+    let times = subst (HoldsAllTimes (outline_of q job)) (sym times_are) (holds_all_times q nothing job ok) in
+    empty_sound (outline_of q job) ok counts counted_stages times opened _ _
+    (c.in_ok-logs.ensures ∙ ap (λ (n : ℕ). replicate n empty_log) workers)
+    few legal.shape.few_workers c.of-seen.ensures.version
+    (c.of-seen.ensures.stages ∙ stages)
+    (λ at has. c.of-seen.ensures.frontiers at (rw stages has))

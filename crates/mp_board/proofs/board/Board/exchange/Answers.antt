@@ -1,51 +1,91 @@
-use Rattle.std.proofs.Common.{◌<◌, ◌∙◌, ℕ, List, ap, arith, length, set, subst, sym}
+use Rattle.std.proofs.Common.{◌≡◌, ◌==◌, ◌<◌, ◌∙◌, ℕ, arith, length, suc, cond, List, ap, map, set, subst, sym}
 use Rattle.std.proofs.lemmas.List.{map-set}
 use Rattle.mp_names.specs.declared.locations.Loc.{Loc}
-use Rattle.mp_names.specs.Frontiers.{IsFrontierOf, log_at}
-use Rattle.mp_names.specs.Logs.{LogGrows}
+use Rattle.mp_names.specs.Frontiers.{log_at}
+use Rattle.mp_names.specs.Laws.{log_size}
 use Rattle.mp_names.specs.Locations.{IsLocation}
-use Rattle.mp_stamps.specs.Seen.{seen_at}
-use Rattle.mp_board.specs.declared.posted.PostedLog.{PostedLog}
+use Rattle.mp_names.specs.Logs.{Log}
+use Rattle.mp_rows.specs.WorkerLog.{IsUnposted, WorkerLog}
 use Rattle.mp_board.specs.Boards.{Posted}
-use Rattle.mp_board.specs.Posted.{logs_of, posted_log}
-use Rattle.mp_board.specs.Recount.{posted_sum}
 use Rattle.mp_board.specs.Soundness.{BoardIsSound}
-use Rattle.mp_board.proofs.Posting.{log_posted, posted_here, same_as, standing, told, version_is}
+use Rattle.mp_board.proofs.Posting.{log_posted, posted_here, room_for_changes, told, version_by_log, version_fits, version_is}
 use Rattle.mp_board.proofs.board.Board.exchange.Goals as goal
 
-pub invariant_of-self-2 : goal.invariant_of-self-2
-invariant_of-self-2 g c =
+pub add_all-requires : goal.add_all-requires
+add_all-requires g c =
     let o = g.O.Outlined.outline in
     let s = c.self.inside in
     let w = c.args.worker in
-    let log = posted_log c.args.log in
-    let inside : w < length s.posted.items = omega (arith, c.self.invariant.each_worker, c.requires.worker) in
-    let grows = subst (λ (b : Posted). LogGrows (log_at b.logs w) log) (sym c.self.view_is) c.requires.grows in
-    let before = standing s.posted.items w c.index.result.now inside c.index.ensures in
-    let same = same_as c.is_same-is_same.result log (posted_log c.index.result.now) (log_at (logs_of s.posted.items) w) c.is_same-is_same.ensures before in
-    let version = version_is c.in_ok-seen.seen.version c.in_ok-version.version c.version.result s.seen.version c.is_same-is_same.result _ c.in_ok-seen.ensures.version c.in_ok-version.ensures c.version.ensures same in
-    let frontiers = λ (at : Loc) (has : IsLocation s.seen.stages at). subst (λ (ps : List PostedLog). IsFrontierOf (posted_sum ps) at (seen_at c.in_ok-seen.seen at)) c.in_ok-seen.ensures.posted (c.in_ok-seen.ensures.frontiers at (subst (λ (n : ℕ). IsLocation n at) (sym c.stages-stages.ensures) has)) in
-    subst (λ (ps : List PostedLog). BoardIsSound o ps c.in_ok-seen.seen) (sym c.in_ok-seen.ensures.posted)
-    (log_posted o s.posted.items s.seen c.in_ok-seen.seen w c.args.log c.self.invariant c.requires.worker c.requires.legal grows c.requires.contributions version (c.in_ok-seen.ensures.stages ∙ c.stages-stages.ensures) frontiers)
+    let before = c.args.log.now in
+    let logs : List Log = map (λ l. l.value.log) s.logs.items in
+    let here : log_at logs w ≡ before.posted = ap (λ (b : Posted). log_at b.logs w) c.self.view_is ∙ c.requires.posted in
+    let un : IsUnposted o w before.posted before.log c.changes.result.now = subst (λ (n : ℕ). IsUnposted o n before.posted before.log c.changes.result.now) c.requires.own c.changes.ensures in
+    room_for_changes o logs s.counts s.seen w before.posted before.log c.changes.result.now c.self.invariant c.requires.worker here un
+
+pub next_version-version-requires : goal.next_version-version-requires
+next_version-version-requires g c =
+    let o = g.O.Outlined.outline in
+    let s = c.self.inside in
+    let w = c.args.worker in
+    let before = c.args.log.now in
+    let logs : List Log = map (λ l. l.value.log) s.logs.items in
+    let here : log_at logs w ≡ before.posted = ap (λ (b : Posted). log_at b.logs w) c.self.view_is ∙ c.requires.posted in
+    let un : IsUnposted o w before.posted before.log c.changes.result.now = subst (λ (n : ℕ). IsUnposted o n before.posted before.log c.changes.result.now) c.requires.own c.changes.ensures in
+    rw c.version.ensures (version_fits o logs s.counts s.seen w before.posted before.log c.changes.result.now c.self.invariant c.requires.worker here un)
+
+pub invariant_of-self : goal.invariant_of-self
+invariant_of-self g c =
+    let o = g.O.Outlined.outline in
+    let s = c.self.inside in
+    let w = c.args.worker in
+    let before = c.args.log.now in
+    let logs : List Log = map (λ l. l.value.log) s.logs.items in
+    let here : log_at logs w ≡ before.posted = ap (λ (b : Posted). log_at b.logs w) c.self.view_is ∙ c.requires.posted in
+    let un : IsUnposted o w before.posted before.log c.changes.result.now = subst (λ (n : ℕ). IsUnposted o n before.posted before.log c.changes.result.now) c.requires.own c.changes.ensures in
+    let is : map (λ l. l.value.log) (set s.logs.items w c.of.result) ≡ set logs w before.log = map-set (λ l. l.value.log) s.logs.items w c.of.result ∙ ap (λ (l : WorkerLog). set logs w l.log) (c.of.ensures ∙ c.post.ensures) in
+    let version : c.of-self-inside.result.version ≡ cond (log_size before.log == log_size before.posted) s.seen.version (suc s.seen.version) = version_is _ _ _ _ _ _ c.of-self-inside.ensures.version c.next_version-version.ensures c.version.ensures c.is_posted.ensures in
+    let legal = c.requires.legal in
+    let frontiers = λ (at : Loc) (has : IsLocation s.seen.stages at). c.of-self-inside.ensures.frontiers at (subst (λ (n : ℕ). IsLocation n at) (sym c.stages.ensures) has) in
+    subst (λ (ls : List Log). BoardIsSound o ls c.add_all.new.counts c.of-self-inside.result) (sym is)
+    (log_posted o logs s.counts s.seen w before.posted before.log c.changes.result.now c.self.invariant c.requires.worker here un legal c.add_all.new.counts c.add_all.ensures.counted c.add_all.ensures.dropped c.add_all.ensures.same c.add_all.ensures.room c.of-self-inside.result version (c.of-self-inside.ensures.stages ∙ c.stages.ensures) frontiers)
 
 pub returns-clause-posted : goal.returns-clause-posted
 returns-clause-posted g c =
+    let s = c.self.inside in
     let w = c.args.worker in
-    ap logs_of c.in_ok-seen.ensures.posted
-    ∙ map-set posted_log c.self.inside.posted.items w c.args.log
-    ∙ ap (λ (b : Posted). set b.logs w (posted_log c.args.log)) c.self.view_is
-
-pub returns-clause-frontiers : goal.returns-clause-frontiers
-returns-clause-frontiers g c = (invariant_of-self-2 g c).frontiers
+    let before = c.args.log.now in
+    let logs : List Log = map (λ l. l.value.log) s.logs.items in
+    let is : map (λ l. l.value.log) (set s.logs.items w c.of.result) ≡ set logs w before.log = map-set (λ l. l.value.log) s.logs.items w c.of.result ∙ ap (λ (l : WorkerLog). set logs w l.log) (c.of.ensures ∙ c.post.ensures) in
+    is ∙ ap (λ (b : Posted). set b.logs w before.log) c.self.view_is
 
 pub returns-clause-own_log : goal.returns-clause-own_log
 returns-clause-own_log g c =
     let s = c.self.inside in
     let w = c.args.worker in
-    let inside : w < length s.posted.items = omega (arith, c.self.invariant.each_worker, c.requires.worker) in
-    ap (λ (ps : List PostedLog). log_at (logs_of ps) w) c.in_ok-seen.ensures.posted ∙ posted_here s.posted.items w c.args.log inside
+    let before = c.args.log.now in
+    let logs : List Log = map (λ l. l.value.log) s.logs.items in
+    let is : map (λ l. l.value.log) (set s.logs.items w c.of.result) ≡ set logs w before.log = map-set (λ l. l.value.log) s.logs.items w c.of.result ∙ ap (λ (l : WorkerLog). set logs w l.log) (c.of.ensures ∙ c.post.ensures) in
+    let inside : w < length logs = omega (arith, c.self.invariant.each_worker, c.requires.worker) in
+    ap (λ (ls : List Log). log_at ls w) is ∙ posted_here logs w before.log inside
+
+pub returns-clause-frontiers : goal.returns-clause-frontiers
+returns-clause-frontiers g c = (invariant_of-self g c).frontiers
 
 pub returns-clause-told : goal.returns-clause-told
 returns-clause-told g c =
-    let sound = invariant_of-self-2 g c in
-    told g.O.Outlined.outline (logs_of c.post.new.posted.items) c.args.worker (posted_log c.args.log) c.in_ok-seen.seen sound.outline sound.legal_logs c.requires.worker (returns-clause-own_log g c) sound.frontiers
+    let s = c.self.inside in
+    let sound = invariant_of-self g c in
+    told g.O.Outlined.outline (map (λ l. l.value.log) (set s.logs.items c.args.worker c.of.result)) c.args.worker c.args.log.now.log c.of-self-inside.result sound.outline sound.legal_logs c.requires.worker (returns-clause-own_log g c) sound.frontiers
+
+pub returns-clause-version : goal.returns-clause-version
+returns-clause-version g c =
+    let o = g.O.Outlined.outline in
+    let s = c.self.inside in
+    let w = c.args.worker in
+    let before = c.args.log.now in
+    let logs : List Log = map (λ l. l.value.log) s.logs.items in
+    let here : log_at logs w ≡ before.posted = ap (λ (b : Posted). log_at b.logs w) c.self.view_is ∙ c.requires.posted in
+    let un : IsUnposted o w before.posted before.log c.changes.result.now = subst (λ (n : ℕ). IsUnposted o n before.posted before.log c.changes.result.now) c.requires.own c.changes.ensures in
+    let version : c.of-self-inside.result.version ≡ cond (log_size before.log == log_size before.posted) s.seen.version (suc s.seen.version) = version_is _ _ _ _ _ _ c.of-self-inside.ensures.version c.next_version-version.ensures c.version.ensures c.is_posted.ensures in
+    let stood = sym (ap (λ (b : Posted). log_at b.logs w) c.self.view_is) ∙ here in
+    rw (ap (λ (b : Posted). b.version) c.self.view_is) at (version_by_log c.of-self-inside.result.version s.seen.version before.posted before.log (log_at c.args.self.now.logs w) un.grows stood version)

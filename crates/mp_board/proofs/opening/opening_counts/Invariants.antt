@@ -1,0 +1,11 @@
+-- The empty logs of the workers so far are counted.
+use Rattle.mp_outline.specs.JobOutline.{outline_of}
+use Rattle.mp_stamps.specs.Counts.{SamePlaces}
+use Rattle.mp_board.specs.Opening.{AreOpened}
+use Rattle.mp_board.proofs.opening.opening_counts.Given as goal
+
+abbrev pub invariant-loop-worker : goal.invariant-loop-worker
+invariant-loop-worker g l = record {
+  opened : AreOpened (outline_of (g.Q.Query.facts l.job.rules) l.job) l.worker l.counts;
+  same : SamePlaces l.initial.counts l.counts;
+}
