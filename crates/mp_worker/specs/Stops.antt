@@ -11,7 +11,6 @@ abbrev pub stop_of_write : OutRefused → Stop
 stop_of_write WriteFault = Write
 stop_of_write NoMemory = Memory
 
--- there was no memory, or another worker had stopped by this cause
+-- another worker had stopped by this cause
 abbrev pub stop_at_hub : HubStop → Stop
-stop_at_hub hub.NoMemory = Memory
 stop_at_hub (hub.Other cause) = Other cause

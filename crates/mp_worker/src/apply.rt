@@ -12,7 +12,7 @@ use mp_host::Applied;
 use mp_model::{Naming, Query, Time};
 use mp_names::{Loc, Name};
 use mp_parts::{hold_records, hold_rows, location_after, make_room_onward, one_less, one_more};
-use mp_rows::{Change, Log, LogList, Pointstamp};
+use mp_rows::{Change, Log, LogList, OutlineOf, Pointstamp};
 use std::alloc::{AllocError, Global};
 
 impl<'a, Q: Query, J: Naming> Worker<'a, Q, J> {
@@ -66,9 +66,10 @@ impl<'a, Q: Query, J: Naming> Worker<'a, Q, J> {
 fn room_in_log<Q: Query, J: Naming>(
     alloc: Global,
     most: u64,
-    log: &mut Log<Q, J>,
+    log: &mut Log<OutlineOf<Q, J>>,
 ) -> Result<Vec<Change>, AllocError>
     ensures log { log.new.log ≡ log.old.log }
+    ensures posted { log.new.posted ≡ log.old.posted }
     ensures worker { log.new.worker ≡ log.old.worker }
     ensures names { OnOk result (1 ≤ log.new.room_for_names) }
     ensures changes { OnOk result (most + 2 ≤ log.new.room_for_changes) }

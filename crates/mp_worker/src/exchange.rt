@@ -4,7 +4,7 @@ ghost use Rattle.mp_refinement.specs.Served.{IsAtHub};
 ghost use Rattle.mp_worker.specs.Exchanging.{Exchanges};
 
 use crate::{Stop, Turn, Worker};
-use mp_board::{Answer, Hub, OutlineOf, PostedLog};
+use mp_board::{Answer, Hub, OutlineOf};
 use mp_model::{Naming, Query};
 use std::snapshot::Snapshot;
 
@@ -19,8 +19,7 @@ impl<'a, Q: Query, J: Naming> Worker<'a, Q, J> {
         ensures at_hub { IsAtHub H.serves H.posted H.version self.new hub.new }
         ensures still_serves { (w : ℕ) → H.serves hub.old w → H.serves hub.new w }
     {
-        let posted = PostedLog::of(self.alloc, &self.log)?;
-        let seen = match hub.exchange(self.number, posted)? {
+        let seen = match hub.exchange(self.number, &mut self.log)? {
             Answer::Got(seen) => seen,
             Answer::Busy => return Ok(Turn::Busy),
         };

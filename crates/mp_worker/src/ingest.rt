@@ -17,7 +17,7 @@ impl<'a, Q: Query, J: Naming> Worker<'a, Q, J> {
         ensures { let o = outline_of (Q.facts J.job.rules) J.job in
             StepsAlone o Ingest self.old self.new result }
     {
-        let next = self.log.names(LogList::Ingested).len();
+        let next = self.log.ingested() as usize;
         let Some(index) = self.job.share(self.number).get(next) else {
             return Ok(None);
         };

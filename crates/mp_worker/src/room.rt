@@ -8,7 +8,7 @@ use mp_handoff::Movers;
 use mp_host::Host;
 use mp_model::{Naming, Query, Time};
 use mp_output::Rows;
-use mp_rows::{Change, Log};
+use mp_rows::{Change, Log, OutlineOf};
 use std::alloc::{AllocError, Global};
 
 /// What a packet that is taken changes: how many groups of each time begin to wait, and the changes at the counts. A
@@ -47,12 +47,13 @@ impl PacketLists {
 /// nothing but rooms changes.
 pub(crate) fn make_room_to_take<Q: Query, J: Naming>(
     times: usize,
-    log: &mut Log<Q, J>,
+    log: &mut Log<OutlineOf<Q, J>>,
     rows: &mut Rows<Q, J>,
     owners: &mut Owners,
 ) -> Result<(), AllocError>
     requires { times + 2 < 2 ^ 64 }
     ensures same_log { (log.new.worker ≡ log.old.worker) × (log.new.log ≡ log.old.log) }
+    ensures posted { log.new.posted ≡ log.old.posted }
     ensures same_rows { rows.new.rows ≡ rows.old.rows }
     ensures same_owners { (owners.new.shape ≡ owners.old.shape) × (owners.new.noted ≡ owners.old.noted) }
     ensures log { OnOk result ((1 ≤ log.new.room_for_names) × (times + 2 ≤ log.new.room_for_changes)) }

@@ -12,12 +12,12 @@ use mp_mailbox::Post;
 use mp_model::{Naming, Query};
 use mp_msg::Msg;
 use mp_names::Name;
-use mp_rows::{Change, Log, LogList};
+use mp_rows::{Change, Log, LogList, OutlineOf};
 
 // Pushes a message that the log's worker may send, and puts its name into the log, with what that
 // changes at the counts. `Err`: the mailbox was full; the message comes back, and the log is as it was.
 pub(crate) fn send<Q: Query, J: Naming, P: Post<Msg<Q, J>>>(
-    log: &mut Log<Q, J>,
+    log: &mut Log<OutlineOf<Q, J>>,
     post: &mut P,
     to: u32,
     message: Msg<Q, J>,
@@ -42,6 +42,7 @@ pub(crate) fn send<Q: Query, J: Naming, P: Post<Msg<Q, J>>>(
     ensures full { OnErr result (P.was_full post.old log.old.worker to) }
 
     ensures worker { log.new.worker ≡ log.old.worker }
+    ensures posted { log.new.posted ≡ log.old.posted }
     ensures mail { let o = outline_of (Q.facts J.job.rules) J.job in
         PostFollows P.workers P.depth P.serves P.denotes o log.old.worker log.old.log log.new.log post.old post.new }
 {

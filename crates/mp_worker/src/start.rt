@@ -40,7 +40,7 @@ impl<'a, Q: Query, J: Naming> Worker<'a, Q, J> {
         ensures seen { IfOk result (λ worker. worker.seen ≡ seen) }
     {
         let shape = job.shape();
-        let log = Log::open(alloc, job, number)?;
+        let log = Log::open(alloc, number);
         let posted = Snapshot::of(&log);
         let owners = Owners::new(alloc, shape)?;
         let routers = new_routers(alloc, shape.stages)?;

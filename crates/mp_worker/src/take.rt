@@ -24,13 +24,13 @@ use mp_msg::BinState;
 use mp_names::{Control, Loc, Name, Tag};
 use mp_output::Rows;
 use mp_parts::{one_less, one_more};
-use mp_rows::{Change, Log, LogList, Pointstamp};
+use mp_rows::{Change, Log, LogList, OutlineOf, Pointstamp};
 use std::alloc::AllocError;
 
 /// Takes a control record that is owed to this worker: it is noted, and its time is to be settled from now on. There is room
 /// for it.
 pub(crate) fn take_control<Q: Query, J: Naming>(
-    log: &mut Log<Q, J>,
+    log: &mut Log<OutlineOf<Q, J>>,
     owners: &mut Owners,
     movers: &mut Movers<Q, J>,
     index: u32,
@@ -45,6 +45,7 @@ pub(crate) fn take_control<Q: Query, J: Naming>(
 
     ensures never_refused { IsOk result }
     ensures log { (log.new.worker ≡ log.old.worker) × (log.new.log ≡ with_took log.old.log (Ctrl index log.old.worker)) }
+    ensures posted { log.new.posted ≡ log.old.posted }
     ensures notes { owners.new ≡ record owners.old { noted = with_note owners.old.noted (record { index = index; control = control }); room = owners.new.room } }
     ensures movers { AreMoversAt (Q.facts J.job.rules) J.job log.old.worker (with_took log.old.log (Ctrl index log.old.worker)) control.stage movers.new }
 {
@@ -79,7 +80,7 @@ pub struct Packet<C: Drop> {
 
 /// Takes a packet that is owed to this worker: its state is in hand from now on. There is room for it.
 pub(crate) fn take_packet<'a, Q: Query, J: Naming>(
-    log: &mut Log<Q, J>,
+    log: &mut Log<OutlineOf<Q, J>>,
     host: &mut Host<'a, Q, J>,
     packet: Packet<Q::Cell>,
     lists: &mut PacketLists,
@@ -97,6 +98,7 @@ pub(crate) fn take_packet<'a, Q: Query, J: Naming>(
 
     ensures never_refused { IsOk result }
     ensures log { (log.new.worker ≡ log.old.worker) × (log.new.log ≡ with_took log.old.log (PacketName packet.stage packet.bin packet.time)) }
+    ensures posted { log.new.posted ≡ log.old.posted }
     ensures host { IsHostAt (Q.facts J.job.rules) J.job log.old.worker (with_took log.old.log (PacketName packet.stage packet.bin packet.time)) packet.stage host.new }
 {
     let Packet {
@@ -144,7 +146,7 @@ fn list_coming(
 
 /// Takes a record that is owed to this worker to its host. There is room for it.
 pub(crate) fn take_record<'a, Q: Query, J: Naming>(
-    log: &mut Log<Q, J>,
+    log: &mut Log<OutlineOf<Q, J>>,
     host: &mut Host<'a, Q, J>,
     name: Name,
     stage: u32,
@@ -161,6 +163,7 @@ pub(crate) fn take_record<'a, Q: Query, J: Naming>(
 
     ensures never_refused { IsOk result }
     ensures log { (log.new.worker ≡ log.old.worker) × (log.new.log ≡ with_took log.old.log name) }
+    ensures posted { log.new.posted ≡ log.old.posted }
     ensures host { IsHostAt (Q.facts J.job.rules) J.job log.old.worker (with_took log.old.log name) stage host.new }
 {
     let time = rec.time;
@@ -176,7 +179,7 @@ pub(crate) fn take_record<'a, Q: Query, J: Naming>(
 
 /// Takes an answer row that is owed to this worker to those that are to be written. There is room for it.
 pub(crate) fn take_row<Q: Query, J: Naming>(
-    log: &mut Log<Q, J>,
+    log: &mut Log<OutlineOf<Q, J>>,
     rows: &mut Rows<Q, J>,
     name: Name,
     time: Time,
@@ -192,6 +195,7 @@ pub(crate) fn take_row<Q: Query, J: Naming>(
 
     ensures never_refused { IsOk result }
     ensures log { (log.new.worker ≡ log.old.worker) × (log.new.log ≡ with_took log.old.log name) }
+    ensures posted { log.new.posted ≡ log.old.posted }
     ensures rows { HoldsUnwritten (with_took log.old.log name) rows.new.rows }
 {
     log.push(LogList::Took, name, &[one_less(Loc::OutMail, time)])?;

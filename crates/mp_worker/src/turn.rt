@@ -56,7 +56,6 @@ impl From<HubStop> for Stop {
 
     fn from(refused: HubStop) -> Self {
         match refused {
-            HubStop::NoMemory => Stop::Memory,
             HubStop::Other(cause) => Stop::Other(cause),
         }
     }

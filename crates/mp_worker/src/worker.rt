@@ -1,4 +1,6 @@
 //! A worker and its parts.
+ghost use Rattle.std.specs.Prelude.{◌≡◌};
+
 use crate::room::PacketLists;
 use mp_bins::Owners;
 use mp_handoff::Movers;
@@ -8,7 +10,7 @@ use mp_model::{Naming, Query};
 use mp_names::ControlCursor;
 use mp_output::{Rows, Unsent};
 use mp_route::Router;
-use mp_rows::Log;
+use mp_rows::{Log, OutlineOf};
 use mp_stamps::Seen;
 use std::alloc::Global;
 use std::marker::Model;
@@ -21,9 +23,9 @@ pub struct Worker<'a, Q: Query, J: Naming> {
     pub(crate) alloc: Global,
     pub(crate) job: &'a Job<Q>,
     pub(crate) number: u32,
-    pub(crate) log: Log<Q, J>,
+    pub(crate) log: Log<OutlineOf<Q, J>>,
     // The log that it posted last; no more than proofs see.
-    pub(crate) posted: Snapshot<Log<Q, J>>,
+    pub(crate) posted: Snapshot<Log<OutlineOf<Q, J>>>,
     pub(crate) seen: Seen,
     // The control records that it took.
     pub(crate) owners: Owners,
@@ -39,6 +41,7 @@ pub struct Worker<'a, Q: Query, J: Naming> {
     pub(crate) rows: Rows<Q, J>,
     // For the next packet that it takes.
     pub(crate) lists: PacketLists,
+    ghost posted_once: { log.posted ≡ posted.value.log },
 }
 
 impl<'a, Q: Query, J: Naming> Model for Worker<'a, Q, J> {

@@ -31,5 +31,8 @@ returns-in-Ok-push-clause-mail g c =
     let follows = follows_push sound c.requires.worker c.requires.may c.worker.ensures c.requires.to (g.P.Post.denotes c.args.post.now) (g.P.Post.denotes c.push.new.self) c.in-Ok.ensures.ok c.in-Ok.ensures.others in
     record { follows = rw (c.in-Ok-push.ensures.pushed, c.name-name.ensures) follows; keeps = c.in-Ok.ensures.keeps }
 
-pub push-requires-in-Ok-clause-changes : goal.push-requires-in-Ok-clause-changes
-push-requires-in-Ok-clause-changes g c κs within = rw c.name-name.ensures c.requires.changes
+pub push-requires-in-Ok : goal.push-requires-in-Ok
+push-requires-in-Ok g c = record {
+  changes =
+      rw c.name-name.ensures c.requires.changes;
+}

@@ -5,13 +5,15 @@ use Rattle.mp_worker.proofs.Received.{if_never_refused}
 use Rattle.mp_worker.proofs.take.take_control.Goals as goal
 use Rattle.mp_worker.proofs.take.take_control.Goals.{then-unsettled, else-unsettled}
 
-pub push-requires-clause-changes : goal.push-requires-clause-changes
-push-requires-clause-changes g c κs within =
-    let job = g.J.Naming.job in
-    let q = g.Q.Query.facts job.rules in
-    let log = c.args.log.now in
-    let count : c.if-unsettled.count ≡ cond c.unsettled.result 1 2 = elim c.if-unsettled.branch [ then-unsettled w ↦ rw w.if-unsettled.true w.count-is | else-unsettled w ↦ rw w.if-unsettled.false w.count-is ] in
-    rw (c.worker.ensures, c.one_less.ensures, c.one_more.ensures) (control_changes q job log.worker log.log c.args.index c.args.control c.requires.control c.requires.fresh c.args.movers.now c.requires.movers c.unsettled.result c.unsettled.ensures.told c.if-unsettled.count count)
+pub push-requires : goal.push-requires
+push-requires g c = record {
+  changes =
+      let job = g.J.Naming.job in
+      let q = g.Q.Query.facts job.rules in
+      let log = c.args.log.now in
+      let count : c.if-unsettled.count ≡ cond c.unsettled.result 1 2 = elim c.if-unsettled.branch [ then-unsettled w ↦ rw w.if-unsettled.true w.count-is | else-unsettled w ↦ rw w.if-unsettled.false w.count-is ] in
+      rw (c.worker.ensures, c.one_less.ensures, c.one_more.ensures) (control_changes q job log.worker log.log c.args.index c.args.control c.requires.control c.requires.fresh c.args.movers.now c.requires.movers c.unsettled.result c.unsettled.ensures.told c.if-unsettled.count count);
+}
 
 pub note-requires-clause-not_yet : goal.note-requires-clause-not_yet
 note-requires-clause-not_yet g c =

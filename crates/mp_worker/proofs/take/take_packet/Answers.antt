@@ -24,16 +24,18 @@ list_coming-requires-clause-room g c =
     let same = ap length c.as_slice.ensures.value in
     omega (arith, few, same, c.requires.lists.1)
 
-pub push-requires-clause-changes : goal.push-requires-clause-changes
-push-requires-clause-changes g c κs within =
-    let laws = g.met.Q.Query g.world.𝓛 g.world.𝓜 g.world.𝓡 ((λ s x. x), (λ x. x), (λ x. x), λ x. x) in
-    let job = g.J.Naming.job in
-    let q = g.Q.Query.facts job.rules in
-    let sound = outline_is_sound q (laws.has_stages job.rules) (laws.posts_are_later job.rules) (laws.later_stages_post_nothing job.rules) job c.requires.job in
-    let p = c.args.packet in
-    let log = c.args.log.now in
-    let counted = packet_changes q job sound log.worker log.log p.stage c.args.host.now c.requires.host p.bin p.time p.state c.coming.new.numbers.items c.coming.ensures.denotes c.requires.legal c.requires.owed c.requires.fresh c.requires.state.1 c.coming.ensures.told in
-    rw (c.as_slice-2.ensures.value, c.in_ok-list_coming.ensures.changes, c.as_slice.ensures.value) counted
+pub push-requires : goal.push-requires
+push-requires g c = record {
+  changes =
+      let laws = g.met.Q.Query g.world.𝓛 g.world.𝓜 g.world.𝓡 ((λ s x. x), (λ x. x), (λ x. x), λ x. x) in
+      let job = g.J.Naming.job in
+      let q = g.Q.Query.facts job.rules in
+      let sound = outline_is_sound q (laws.has_stages job.rules) (laws.posts_are_later job.rules) (laws.later_stages_post_nothing job.rules) job c.requires.job in
+      let p = c.args.packet in
+      let log = c.args.log.now in
+      let counted = packet_changes q job sound log.worker log.log p.stage c.args.host.now c.requires.host p.bin p.time p.state c.coming.new.numbers.items c.coming.ensures.denotes c.requires.legal c.requires.owed c.requires.fresh c.requires.state.1 c.coming.ensures.told in
+      rw (c.as_slice-2.ensures.value, c.in_ok-list_coming.ensures.changes, c.as_slice.ensures.value) counted;
+}
 
 pub unreachable-requires : goal.unreachable-requires
 unreachable-requires g c =

@@ -125,29 +125,31 @@ invariant_of-self-in_default g c =
     let length_is : i.routers.len ≡ length i.routers.items = i.routers.ok.0 in
     kept_so_far q keeps job i.job.now f c.self.invariant c.args.stage c.requires.stage h is i.routers.len length_is c.room_in_log.new.log routers c.apply.new.self c.make_room_onward.new.unsent c.room_in_log.ensures.log c.room_in_log.ensures.worker same (rw c.in_default.is at c.in_ok-applied.ensures.idle) c.make_room_onward.ensures.rows
 
-pub push-requires-clause-changes : goal.push-requires-clause-changes
-push-requires-clause-changes g c = λ κs within.
-    let laws = g.met.Q.Query g.world.𝓛 g.world.𝓜 g.world.𝓡 ((λ s x. x), (λ x. x), (λ x. x), λ x. x) in
-    let job = g.J.Naming.job in
-    let rules = job.rules in
-    let q = g.Q.Query.facts rules in
-    let keeps : AppliesBy q = record { stages = laws.has_stages rules; later = laws.posts_are_later rules; nothing = laws.later_stages_post_nothing rules; keys = laws.outputs_have_keys rules } in
-    let i = c.self.inside in
-    let f : Fields g.row.Q-Cell.Denot = record { number = i.number; log = i.log; posted = i.posted.value.log; seen = i.seen; notes = i.owners; next = i.next; routers = i.routers.items; hosts = i.hosts.items; movers = i.movers.items; unsent = i.unsent; unwritten = i.rows } in
-    let h = c.index_mut-host.result.now in
-    let is : h ≡ get_or i.hosts.items c.args.stage h = c.index_mut-host.ensures.value in
-    let routers = c.make_room_onward.new.routers in
-    let same : map content routers ≡ map content i.routers.items = c.make_room_onward.ensures.held ∙ ap (map content) c.deref_mut.ensures.value in
-    let log = c.room_in_log.new.log in
-    let unsent = c.make_room_onward.new.unsent in
-    let m : Fields g.row.Q-Cell.Denot = record f { log = log; routers = routers; unsent = unsent } in
-    let kept = kept_with_room q keeps job i.job.now f c.self.invariant log routers unsent c.room_in_log.ensures.log c.room_in_log.ensures.worker same c.make_room_onward.ensures.rows in
-    let applied = c.in-Some.applied in
-    let does = (rw c.in-Some.is at c.in_ok-applied.ensures.held) log.log (informed q keeps job i.job.now m kept c.args.stage c.requires.stage h is) in
-    let stages_are : c.shape-stages.result.stages ≡ job.shape.stages = ap (λ (s : Shape). s.stages) c.shape-stages.ensures.shape ∙ ap (λ (facts : JobFacts). facts.shape.stages) c.self.invariant.same in
-    let to : c.location_after-onward.result ≡ (if suc c.args.stage == job.shape.stages then OutRoute else Route (suc c.args.stage)) = rw stages_are at c.location_after-onward.ensures in
-    let once = woken_once q h applied.time applied.key applied.woke.items (rw c.in-Some.is at c.in_ok-applied.ensures.woke) in
-    rw (c.as_slice.ensures.value, c.in_ok-push_changes.ensures.changes) (changes_are q keeps job i.job.now m kept c.args.stage c.requires.stage h is applied.time applied.key does.ready applied.outputs.items (rw c.in-Some.is at c.in_ok-applied.ensures.outputs) c.location_after-onward.result to applied.woke.items once does.woken)
+pub push-requires : goal.push-requires
+push-requires g c = record {
+  changes =
+      let laws = g.met.Q.Query g.world.𝓛 g.world.𝓜 g.world.𝓡 ((λ s x. x), (λ x. x), (λ x. x), λ x. x) in
+      let job = g.J.Naming.job in
+      let rules = job.rules in
+      let q = g.Q.Query.facts rules in
+      let keeps : AppliesBy q = record { stages = laws.has_stages rules; later = laws.posts_are_later rules; nothing = laws.later_stages_post_nothing rules; keys = laws.outputs_have_keys rules } in
+      let i = c.self.inside in
+      let f : Fields g.row.Q-Cell.Denot = record { number = i.number; log = i.log; posted = i.posted.value.log; seen = i.seen; notes = i.owners; next = i.next; routers = i.routers.items; hosts = i.hosts.items; movers = i.movers.items; unsent = i.unsent; unwritten = i.rows } in
+      let h = c.index_mut-host.result.now in
+      let is : h ≡ get_or i.hosts.items c.args.stage h = c.index_mut-host.ensures.value in
+      let routers = c.make_room_onward.new.routers in
+      let same : map content routers ≡ map content i.routers.items = c.make_room_onward.ensures.held ∙ ap (map content) c.deref_mut.ensures.value in
+      let log = c.room_in_log.new.log in
+      let unsent = c.make_room_onward.new.unsent in
+      let m : Fields g.row.Q-Cell.Denot = record f { log = log; routers = routers; unsent = unsent } in
+      let kept = kept_with_room q keeps job i.job.now f c.self.invariant log routers unsent c.room_in_log.ensures.log c.room_in_log.ensures.worker same c.make_room_onward.ensures.rows in
+      let applied = c.in-Some.applied in
+      let does = (rw c.in-Some.is at c.in_ok-applied.ensures.held) log.log (informed q keeps job i.job.now m kept c.args.stage c.requires.stage h is) in
+      let stages_are : c.shape-stages.result.stages ≡ job.shape.stages = ap (λ (s : Shape). s.stages) c.shape-stages.ensures.shape ∙ ap (λ (facts : JobFacts). facts.shape.stages) c.self.invariant.same in
+      let to : c.location_after-onward.result ≡ (if suc c.args.stage == job.shape.stages then OutRoute else Route (suc c.args.stage)) = rw stages_are at c.location_after-onward.ensures in
+      let once = woken_once q h applied.time applied.key applied.woke.items (rw c.in-Some.is at c.in_ok-applied.ensures.woke) in
+      rw (c.as_slice.ensures.value, c.in_ok-push_changes.ensures.changes) (changes_are q keeps job i.job.now m kept c.args.stage c.requires.stage h is applied.time applied.key does.ready applied.outputs.items (rw c.in-Some.is at c.in_ok-applied.ensures.outputs) c.location_after-onward.result to applied.woke.items once does.woken);
+}
 
 pub invariant_of-self-in_err-push : goal.invariant_of-self-in_err-push
 invariant_of-self-in_err-push g c =

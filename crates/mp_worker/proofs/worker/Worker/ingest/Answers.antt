@@ -12,7 +12,7 @@ returns-in_default g c =
     let kept = c.self.invariant in
     let sound = outline_is_sound q (laws.has_stages job.rules) (laws.posts_are_later job.rules) (laws.later_stages_post_nothing job.rules) job kept.legal in
     let share = rw kept.same at c.share.ensures in
-    ((λ x can. none_to_ingest q job sound _ kept.parts c.self.inside.number kept.number _ c.names-next.ensures _ share c.in_default.ensures.lookup.3 x (rw c.self.view_is can)), refl)
+    ((λ x can. none_to_ingest q job sound _ kept.parts c.self.inside.number kept.number c.self.inside.log.log.ingested refl _ share (rw c.ingested-next.ensures at c.in_default.ensures.lookup.3) x (rw c.self.view_is can)), refl)
 
 pub rec_at-requires-after_bounds : goal.rec_at-requires-after_bounds
 rec_at-requires-after_bounds g c κs within =
@@ -46,22 +46,24 @@ hold-requires-after_bounds g c κs within =
     let kept = c.self.invariant in
     let sound = outline_is_sound q (laws.has_stages job.rules) (laws.posts_are_later job.rules) (laws.later_stages_post_nothing job.rules) job kept.legal in
     let share = rw kept.same at c.share.ensures in
-    let found = c.in-Some.ensures.lookup.3 in
-    let next = next_record q job sound _ kept.parts c.self.inside.number kept.number _ c.names-next.ensures _ share _ _ found.0 (found.1 _) (rw kept.same at c.in_ok-rec.ensures) in
+    let found = rw c.ingested-next.ensures at c.in-Some.ensures.lookup.3 in
+    let next = next_record q job sound _ kept.parts c.self.inside.number kept.number c.self.inside.log.log.ingested refl _ share _ _ found.0 (found.1 _) (rw kept.same at c.in_ok-rec.ensures) in
     let room = c.in_ok-make_room-2.ensures in
     record_fits q job sound _ kept.parts _ _ next (roomy_router q job sound _ kept.parts _ _ _ c.index_mut.ensures.value room.held room.stage c.index_mut-2.ensures.value)
 
-pub push-requires-clause-changes : goal.push-requires-clause-changes
-push-requires-clause-changes g c κs within =
-    let laws = g.met.Q.Query g.world.𝓛 g.world.𝓜 g.world.𝓡 ((λ s x. x), (λ x. x), (λ x. x), λ x. x) in
-    let job = g.J.Naming.job in
-    let q = g.Q.Query.facts job.rules in
-    let kept = c.self.invariant in
-    let sound = outline_is_sound q (laws.has_stages job.rules) (laws.posts_are_later job.rules) (laws.later_stages_post_nothing job.rules) job kept.legal in
-    let share = rw kept.same at c.share.ensures in
-    let found = c.in-Some.ensures.lookup.3 in
-    let next = next_record q job sound _ kept.parts c.self.inside.number kept.number _ c.names-next.ensures _ share _ _ found.0 (found.1 _) (rw kept.same at c.in_ok-rec.ensures) in
-    rw (c.in_ok-make_room.ensures.made, c.one_less.ensures, c.one_more.ensures) (ingested_counts q job sound _ kept.parts _ next)
+pub push-requires : goal.push-requires
+push-requires g c = record {
+  changes =
+      let laws = g.met.Q.Query g.world.𝓛 g.world.𝓜 g.world.𝓡 ((λ s x. x), (λ x. x), (λ x. x), λ x. x) in
+      let job = g.J.Naming.job in
+      let q = g.Q.Query.facts job.rules in
+      let kept = c.self.invariant in
+      let sound = outline_is_sound q (laws.has_stages job.rules) (laws.posts_are_later job.rules) (laws.later_stages_post_nothing job.rules) job kept.legal in
+      let share = rw kept.same at c.share.ensures in
+      let found = rw c.ingested-next.ensures at c.in-Some.ensures.lookup.3 in
+      let next = next_record q job sound _ kept.parts c.self.inside.number kept.number c.self.inside.log.log.ingested refl _ share _ _ found.0 (found.1 _) (rw kept.same at c.in_ok-rec.ensures) in
+      rw (c.in_ok-make_room.ensures.made, c.one_less.ensures, c.one_more.ensures) (ingested_counts q job sound _ kept.parts _ next);
+}
 
 pub invariant_of-self-2 : goal.invariant_of-self-2
 invariant_of-self-2 g c =
@@ -71,8 +73,8 @@ invariant_of-self-2 g c =
     let kept = c.self.invariant in
     let sound = outline_is_sound q (laws.has_stages job.rules) (laws.posts_are_later job.rules) (laws.later_stages_post_nothing job.rules) job kept.legal in
     let share = rw kept.same at c.share.ensures in
-    let found = c.in-Some.ensures.lookup.3 in
-    let next = next_record q job sound _ kept.parts c.self.inside.number kept.number _ c.names-next.ensures _ share _ _ found.0 (found.1 _) (rw kept.same at c.in_ok-rec.ensures) in
+    let found = rw c.ingested-next.ensures at c.in-Some.ensures.lookup.3 in
+    let next = next_record q job sound _ kept.parts c.self.inside.number kept.number c.self.inside.log.log.ingested refl _ share _ _ found.0 (found.1 _) (rw kept.same at c.in_ok-rec.ensures) in
     let room = c.in_ok-make_room-2.ensures in
     let router = roomy_router q job sound _ kept.parts _ _ _ c.index_mut.ensures.value room.held room.stage c.index_mut-2.ensures.value in
     let parts = record_ingested q job sound _ kept.parts _ _ c.hold.new.self next router c.in_ok-hold.ensures.stage c.in_ok-hold.ensures.unsent in
@@ -87,7 +89,7 @@ returns g c =
     let kept = c.self.invariant in
     let sound = outline_is_sound q (laws.has_stages job.rules) (laws.posts_are_later job.rules) (laws.later_stages_post_nothing job.rules) job kept.legal in
     let share = rw kept.same at c.share.ensures in
-    let found = c.in-Some.ensures.lookup.3 in
-    let next = next_record q job sound _ kept.parts c.self.inside.number kept.number _ c.names-next.ensures _ share _ _ found.0 (found.1 _) (rw kept.same at c.in_ok-rec.ensures) in
+    let found = rw c.ingested-next.ensures at c.in-Some.ensures.lookup.3 in
+    let next = next_record q job sound _ kept.parts c.self.inside.number kept.number c.self.inside.log.log.ingested refl _ share _ _ found.0 (found.1 _) (rw kept.same at c.in_ok-rec.ensures) in
     rw (← c.self.view_is, c.in_ok-push.ensures.pushed, c.in_ok-make_room.ensures.made)
     (record { can = can_ingest q job sound _ kept.parts _ next _ kept.number; after = refl })

@@ -20,15 +20,17 @@ returns-in_default g c =
     let at = movers_at kept sound c.args.stage c.requires.stage m c.index_mut-movers.ensures.value in
     (rw (← c.self.view_is) (none_to_settle kept refl sound c.args.stage c.requires.stage m at c.in_default.ensures.none_may), rw c.in_ok-make_room.ensures.made c.self.view_is)
 
-pub push-requires-clause-changes : goal.push-requires-clause-changes
-push-requires-clause-changes g c κs within =
-    let laws = g.met.Q.Query g.world.𝓛 g.world.𝓜 g.world.𝓡 ((λ s x. x), (λ x. x), (λ x. x), λ x. x) in
-    let job = g.J.Naming.job in
-    let kept = c.self.invariant in
-    let sound = outline_is_sound (g.Q.Query.facts job.rules) (laws.has_stages job.rules) (laws.posts_are_later job.rules) (laws.later_stages_post_nothing job.rules) job kept.legal in
-    let m = c.index_mut-movers.result.now in
-    let at = movers_at kept sound c.args.stage c.requires.stage m c.index_mut-movers.ensures.value in
-    rw (c.in_ok-make_room.ensures.made, c.one_less.ensures) (settled_counted kept refl sound c.args.stage c.requires.stage m at c.in-Some.time c.in-Some.ensures.may_settle)
+pub push-requires : goal.push-requires
+push-requires g c = record {
+  changes =
+      let laws = g.met.Q.Query g.world.𝓛 g.world.𝓜 g.world.𝓡 ((λ s x. x), (λ x. x), (λ x. x), λ x. x) in
+      let job = g.J.Naming.job in
+      let kept = c.self.invariant in
+      let sound = outline_is_sound (g.Q.Query.facts job.rules) (laws.has_stages job.rules) (laws.posts_are_later job.rules) (laws.later_stages_post_nothing job.rules) job kept.legal in
+      let m = c.index_mut-movers.result.now in
+      let at = movers_at kept sound c.args.stage c.requires.stage m c.index_mut-movers.ensures.value in
+      rw (c.in_ok-make_room.ensures.made, c.one_less.ensures) (settled_counted kept refl sound c.args.stage c.requires.stage m at c.in-Some.time c.in-Some.ensures.may_settle);
+}
 
 pub invariant_of-self-2 : goal.invariant_of-self-2
 invariant_of-self-2 g c =

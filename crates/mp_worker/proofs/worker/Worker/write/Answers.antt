@@ -18,9 +18,11 @@ returns-in_err-time-clause-writes g c =
     rw (← c.self.view_is)
     (writes_refused q job g.S.Sink.written g.S.Sink.faults _ c.args.sink.now c.write_due.new.sink (inr some) c.in_err-time.field-0.0 _ c.from_residual-in_err-time.ensures.1 (λ e. refused.failed (ap Err e)) (λ e. refused.no_fault (λ f. e (err_is _ _ f))))
 
-pub push-requires-clause-changes : goal.push-requires-clause-changes
-push-requires-clause-changes g c κs within =
-    rw c.in_ok-make_room.ensures.made (written (outline_of (g.Q.Query.facts g.J.Naming.job.rules) g.J.Naming.job) c.self.inside.log.worker c.self.inside.log.log c.in-Time.time)
+pub push-requires : goal.push-requires
+push-requires g c = record {
+  changes =
+      rw c.in_ok-make_room.ensures.made (written (outline_of (g.Q.Query.facts g.J.Naming.job.rules) g.J.Naming.job) c.self.inside.log.worker c.self.inside.log.log c.in-Time.time);
+}
 
 pub invariant_of-self-in-Time : goal.invariant_of-self-in-Time
 invariant_of-self-in-Time g c =
