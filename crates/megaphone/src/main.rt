@@ -54,9 +54,9 @@ fn answer<D: Depot, S: Sink, R: AllocGlobal>(
     ensures untouched { IsRefusal (exit_status result) → SameFiles (D.files depot.old) (D.files depot.new) }
     ensures said { (outcome : Outcome)
         × CameTo D.files D.found D.read_faults D.write_faults
-            (command_in words.now) outcome depot.old depot.new
+        (command_in words.now) outcome depot.old depot.new
         × SaysLine S.written S.faults
-            (line_said outcome) (status_of outcome) (exit_status result) said.old said.new }
+        (line_said outcome) (status_of outcome) (exit_status result) said.old said.new }
 {
     let status = run(rt, words, depot, said, &OpenGate);
     ExitCode::from(status.code)

@@ -13,8 +13,7 @@ mod seed;
 mod stop;
 mod tallies;
 
+pub use mp_draws::Draws;
 pub use plain::Plain;
 pub use run::replay;
 pub use stop::DriveStop;
-
-pub use mp_draws::Draws;

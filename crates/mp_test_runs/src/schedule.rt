@@ -137,7 +137,11 @@ impl Gate for ListedGate {
 }
 
 // The schedule tries what it should, and makes as many steps.
-fn seed_makes_the_steps<J: Naming>(rt: &impl Abort, alloc: Global, job: &Job<Q4>) -> Result<(), Fail>
+fn seed_makes_the_steps<J: Naming>(
+    rt: &impl Abort,
+    alloc: Global,
+    job: &Job<Q4>,
+) -> Result<(), Fail>
     requires { job.now ≡ J.job }
 {
     let gate = ListedGate {
@@ -164,7 +168,11 @@ fn the_schedule_of_seed_0(rt: HostRuntime) -> Result<(), Fail> {
 }
 
 // Driven as a list, each of these steps is made, and after them each worker knows the end.
-fn list_makes_the_steps<J: Naming>(rt: &impl Abort, alloc: Global, job: &Job<Q4>) -> Result<(), Fail>
+fn list_makes_the_steps<J: Naming>(
+    rt: &impl Abort,
+    alloc: Global,
+    job: &Job<Q4>,
+) -> Result<(), Fail>
     requires { job.now ≡ J.job }
 {
     let mut sink = MemSink::new(alloc);
@@ -202,6 +210,9 @@ fn other_seeds_make_other_steps(rt: HostRuntime) -> Result<(), Fail> {
     let job = one_move(rt.alloc())?;
     assert_eq!(rt; steps_of_seed::<Brand>(rt.alloc(), &job, 1)?, 46);
     assert_eq!(rt; steps_of_seed::<Brand>(rt.alloc(), &job, 7)?, 50);
-    assert_eq!(rt; steps_of_seed::<Brand>(rt.alloc(), &job, 281_474_976_710_656)?, 46);
+    assert_eq!(rt;
+        steps_of_seed::<Brand>(rt.alloc(), &job, 281_474_976_710_656)?,
+        46
+    );
     Ok(())
 }

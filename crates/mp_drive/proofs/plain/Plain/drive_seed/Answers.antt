@@ -128,4 +128,3 @@ pub returns-clause-answer : goal.returns-clause-answer
 returns-clause-answer g c = λ before had.
     let whole = c.loop-draws-test.ensures.answer refl in
     c.loop-draws.invariant.written before had ∙ ap (grown before) whole
-
