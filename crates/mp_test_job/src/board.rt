@@ -1,12 +1,7 @@
 //! Of the board: what it tells of the posted logs, and its cause of stopping, each call that takes memory with ample memory.
 ghost use Rattle.std.specs.Prelude.{◌≡◌, IfOk};
-ghost use Rattle.mp_names.specs.Logs.{LogIsLegal, empty_log};
-ghost use Rattle.mp_outline.specs.JobOutline.{outline_of};
-ghost use Rattle.mp_rows.specs.Entries.{AreContributions};
-ghost use Rattle.mp_board.specs.Posted.{posted_log};
-ghost use Rattle.mp_samples.specs.Bids.{waking_bids};
 
-use mp_board::{Board, Cause, Frontier, Hub, HubStop, Job, Loc, Log, Naming, OutlineOf, PostedLog};
+use mp_board::{Board, Cause, Frontier, Hub, HubStop, Job, Loc, Log, Naming, OutlineOf};
 use mp_job::Shape;
 use mp_samples::{WakingBids, job_of_bids};
 use std::alloc::{AllocError, Global};
@@ -27,19 +22,6 @@ fn two_bids(alloc: Global) -> Result<Job<WakingBids>, AllocError>
     job_of_bids(alloc, &[30, 20], SHAPE)
 }
 
-// A copy of the empty log of worker 1.
-fn empty_copy<J: Naming>(alloc: Global, job: &Job<WakingBids>) -> Result<PostedLog, AllocError>
-    requires job { job.now ≡ J.job }
-    requires shape { job.now.shape ≡ SHAPE }
-    ensures log { IfOk result (λ p. posted_log p ≡ empty_log) }
-    ensures legal { IfOk result (λ p. LogIsLegal (outline_of waking_bids J.job) 1 (posted_log p)) }
-    ensures contributions { IfOk result (λ p. AreContributions (outline_of waking_bids J.job) 1 (posted_log p) p.entries.items) }
-{
-    let log = Log::<WakingBids, J>::open(alloc, job, 1)?;
-    let copy = PostedLog::of(alloc, &log)?;
-    Ok(copy)
-}
-
 // Posts the empty log of worker 1 once more.
 fn empty_log_again<J: Naming>(
     rt: &impl Abort,
@@ -50,7 +32,8 @@ fn empty_log_again<J: Naming>(
     requires shape { job.now.shape ≡ SHAPE }
 {
     let mut board = Board::<OutlineOf<WakingBids, J>>::open(alloc, job)?;
-    let seen = board.exchange(1, empty_copy::<J>(alloc, job)?)?;
+    let mut log = Log::<OutlineOf<WakingBids, J>>::open(alloc, 1);
+    let seen = board.exchange(1, &mut log);
     assert_eq!(rt; seen.version(), 0);
     assert_eq!(rt; seen.frontier(Loc::Source), Frontier::At(20));
     assert_eq!(rt; seen.frontier(Loc::OutMail), Frontier::At(20));
@@ -73,12 +56,12 @@ fn first_cause<J: Naming>(rt: &impl Abort, alloc: Global, job: &Job<WakingBids>)
     requires shape { job.now.shape ≡ SHAPE }
 {
     let mut board = Board::<OutlineOf<WakingBids, J>>::open(alloc, job)?;
-    let posted = empty_copy::<J>(alloc, job)?;
+    let mut log = Log::<OutlineOf<WakingBids, J>>::open(alloc, 1);
     board.stop(Cause::Memory);
     board.stop(Cause::Write);
     assert_eq!(rt; board.stopped(), Some(Cause::Memory));
     assert_eq!(rt;
-        Hub::exchange(&mut board, 1, posted),
+        Hub::exchange(&mut board, 1, &mut log),
         Err(HubStop::Other(Cause::Memory))
     );
     Ok(())

@@ -4,7 +4,9 @@ ghost use Rattle.mp_rows.specs.Entries.{change_at};
 ghost use Rattle.mp_samples.specs.Jobs.{three_workers};
 
 use mp_model::Tag;
-use mp_rows::{Change, Job, Loc, Log, LogList, Name, Naming, Pointstamp, Time};
+use mp_rows::{
+    Change, Job, Loc, Log, LogList, Name, Naming, OutlineOf, Pointstamp, Time, opening_entries,
+};
 use mp_samples::{WakingBids, job_of_events};
 use std::alloc::{AllocError, Global};
 use std::marker::Brand;
@@ -29,39 +31,38 @@ fn small_job(alloc: Global) -> Result<Job<WakingBids>, AllocError>
     job_of_events(alloc, &table, &[100, 15])
 }
 
-fn logs_open<J: Naming>(rt: &impl Abort, alloc: Global, job: &Job<WakingBids>) -> Result<(), Fail>
-    requires job { job.now ≡ J.job }
-    requires shape { job.now.shape ≡ three_workers }
+fn logs_open(rt: &impl Abort, alloc: Global, job: &Job<WakingBids>) -> Result<(), Fail>
+    requires { job.now.shape ≡ three_workers }
 {
-    let first = Log::<WakingBids, J>::open(alloc, job, 0)?;
-    assert_eq!(rt; first.worker(), 0);
-    assert!(rt; first.names(LogList::Ingested).is_empty());
     let entries = [
         change(Loc::Ctl, 100, 3),
         change(Loc::Ctl, 15, 3),
         change(Loc::Source, 30, 1),
         change(Loc::Source, 20, 1),
     ];
-    assert_eq!(rt; first.contributions(), entries.as_slice());
-    let second = Log::<WakingBids, J>::open(alloc, job, 1)?;
-    assert_eq!(rt; second.worker(), 1);
     assert_eq!(rt;
-        second.contributions(),
+        opening_entries(alloc, job, 0)?.as_slice(),
+        entries.as_slice()
+    );
+    assert_eq!(rt;
+        opening_entries(alloc, job, 1)?.as_slice(),
         [change(Loc::Source, 5, 1)].as_slice()
     );
-    let third = Log::<WakingBids, J>::open(alloc, job, 2)?;
-    assert!(rt; third.contributions().is_empty());
+    assert!(rt; opening_entries(alloc, job, 2)?.is_empty());
     Ok(())
 }
 
 #[test]
 fn opening_contributions(rt: HostRuntime) -> Result<(), Fail> {
     let job = small_job(rt.alloc())?;
-    logs_open::<Brand>(&rt, rt.alloc(), &job)
+    logs_open(&rt, rt.alloc(), &job)
 }
 
 // Takes the first answer row of auction 7 at a time.
-fn take_row<J: Naming>(log: &mut Log<WakingBids, J>, time: Time) -> Result<(), AllocError> {
+fn take_row<J: Naming>(
+    log: &mut Log<OutlineOf<WakingBids, J>>,
+    time: Time,
+) -> Result<(), AllocError> {
     let row = Name::Row {
         time,
         tag: Tag(7, 0),
@@ -70,7 +71,10 @@ fn take_row<J: Naming>(log: &mut Log<WakingBids, J>, time: Time) -> Result<(), A
 }
 
 // Sends that row, of a log that has applied nothing.
-fn send_row<J: Naming>(log: &mut Log<WakingBids, J>, time: Time) -> Result<(), AllocError>
+fn send_row<J: Naming>(
+    log: &mut Log<OutlineOf<WakingBids, J>>,
+    time: Time,
+) -> Result<(), AllocError>
     requires { log.old.log.applied ≡ [] }
     ensures { log.new.log.applied ≡ [] }
 {
@@ -82,18 +86,21 @@ fn send_row<J: Naming>(log: &mut Log<WakingBids, J>, time: Time) -> Result<(), A
 }
 
 fn logs_grow<J: Naming>(rt: &impl Abort, alloc: Global, job: &Job<WakingBids>) -> Result<(), Fail>
-    requires job { job.now ≡ J.job }
-    requires shape { job.now.shape ≡ three_workers }
+    requires { job.now ≡ J.job }
 {
-    let mut log = Log::<WakingBids, J>::open(alloc, job, 2)?;
+    let _ = job;
+    let mut log = Log::<OutlineOf<WakingBids, J>>::open(alloc, 2);
     take_row(&mut log, 40)?;
     log.make_room(2)?;
     take_row(&mut log, 50)?;
     take_row(&mut log, 40)?;
     let entries = [change(Loc::OutMail, 40, -2), change(Loc::OutMail, 50, -1)];
-    assert_eq!(rt; log.contributions(), entries.as_slice());
-    assert_eq!(rt; log.names(LogList::Took).len(), 3);
-    assert!(rt; log.names(LogList::Sent).is_empty());
+    assert_eq!(rt; log.changes(), entries.as_slice());
+    assert!(rt; !log.is_posted());
+    log.post();
+    assert!(rt; log.changes().is_empty());
+    assert!(rt; log.is_posted());
+    assert_eq!(rt; log.worker(), 2);
     Ok(())
 }
 
@@ -108,20 +115,17 @@ fn changes_cancel<J: Naming>(
     alloc: Global,
     job: &Job<WakingBids>,
 ) -> Result<(), Fail>
-    requires job { job.now ≡ J.job }
-    requires shape { job.now.shape ≡ three_workers }
+    requires { job.now ≡ J.job }
 {
-    let mut log = Log::<WakingBids, J>::open(alloc, job, 2)?;
+    let _ = job;
+    let mut log = Log::<OutlineOf<WakingBids, J>>::open(alloc, 2);
     send_row(&mut log, 40)?;
     send_row(&mut log, 50)?;
     take_row(&mut log, 40)?;
-    assert_eq!(rt;
-        log.contributions(),
-        [change(Loc::OutMail, 50, 1)].as_slice()
-    );
+    assert_eq!(rt; log.changes(), [change(Loc::OutMail, 50, 1)].as_slice());
     take_row(&mut log, 50)?;
-    assert!(rt; log.contributions().is_empty());
-    assert_eq!(rt; log.names(LogList::Took).len(), 2);
+    assert!(rt; log.changes().is_empty());
+    assert_eq!(rt; (log.ingested(), log.applied()), (0, 0));
     Ok(())
 }
 
@@ -142,12 +146,12 @@ fn room_is_refused<J: Naming>(
     alloc: Global,
     job: &Job<WakingBids>,
 ) -> Result<(), Fail>
-    requires job { job.now ≡ J.job }
-    requires shape { job.now.shape ≡ three_workers }
+    requires { job.now ≡ J.job }
 {
-    let mut log = Log::<WakingBids, J>::open(alloc, job, 1)?;
+    let _ = job;
+    let mut log = Log::<OutlineOf<WakingBids, J>>::open(alloc, 1);
     assert!(rt; log.make_room(u64::MAX).is_err());
     take_row(&mut log, 40)?;
-    assert_eq!(rt; log.names(LogList::Took).len(), 1);
+    assert_eq!(rt; log.changes().len(), 1);
     Ok(())
 }

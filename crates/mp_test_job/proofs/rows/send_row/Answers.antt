@@ -3,5 +3,5 @@ use Rattle.mp_outline.specs.JobOutline.{outline_of}
 use Rattle.mp_test_job.proofs.RowSent.{row_sent}
 use Rattle.mp_test_job.proofs.rows.send_row.Goals as goal
 
-pub push-requires-clause-changes : goal.push-requires-clause-changes
-push-requires-clause-changes g c = λ κs b. rw c.change.ensures (row_sent (outline_of waking_bids g.J.Naming.job) c.args.log.now.worker c.args.log.now.log c.args.time (record { 0 = 7; 1 = 0 }) c.requires)
+pub push-requires : goal.push-requires
+push-requires g c = record { changes = rw c.change.ensures (row_sent (outline_of waking_bids g.J.Naming.job) c.args.log.now.worker c.args.log.now.log c.args.time (record { 0 = 7; 1 = 0 }) c.requires) }
