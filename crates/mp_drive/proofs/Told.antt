@@ -129,7 +129,7 @@ module _ (o : Outline) (kind : Kind) (board after : Posted) (post left : Queues 
   kept_of (Err stop.Write) a at others = others (λ e. exchange_no_write kind e a.0)
   kept_of (Err stop.Memory) a at others =
       ⊎_elim
-      (λ (e : kind ≡ Exchange). ⊎_elim (λ (h : after ≡ board). h) (λ (h : (board.stopped ≡ None) × (after ≡ board)). h.1) (at e).1)
+      (λ (e : kind ≡ Exchange). absurd (at e))
       others
       (is_exchange kind)
   kept_of (Err (stop.Other cause)) a at others = (at a.0).2

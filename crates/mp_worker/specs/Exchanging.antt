@@ -1,5 +1,5 @@
 -- What an exchange came to at a hub, by its answer, in the hub's own words.
-use Rattle.std.specs.Prelude.{◌≡◌, ◌⊎◌, ℕ, Ok, Err}
+use Rattle.std.specs.Prelude.{◌≡◌, ℕ, Ok, Err}
 use Rattle.std.specs.declared.result.Result.{Result}
 use Rattle.mp_names.specs.Logs.{Log}
 use Rattle.mp_stamps.specs.declared.seen.Seen.{Seen}
@@ -20,11 +20,10 @@ module _ {H : Type 0} (after : H → ℕ → Log → H → Type 0) (kept : H →
   abbrev pub ShowsNothingNew : Type 0
   ShowsNothingNew = (seen : Seen) × shows new seen × (seen.version ≡ s.seen.version)
 
-  -- the log was posted, and a new version was seen; or nothing had changed since the last exchange; or the worker and the hub are as they were: the hub was held, a worker had stopped, or there was no memory, for the copy of the log or where no worker had stopped
+  -- the log was posted, and a new version was seen; or nothing had changed since the last exchange; or the worker and the hub are as they were: the hub was held, or a worker had stopped. An exchange takes no memory
   abbrev pub Exchanges : Result Turn Stop → Type 0
   Exchanges (Ok (turn.Seen version)) = Sees s version now × IsPosted × shows new now.seen
   Exchanges (Ok turn.NotNow) = (now ≡ s) × (s.posted ≡ s.log) × IsPosted × ShowsNothingNew
   Exchanges (Ok turn.Busy) = (now ≡ s) × was_busy old × kept old new
   Exchanges (Err (stop.Other cause)) = (now ≡ s) × was_stopped old cause × kept old new
-  Exchanges (Err stop.Memory) = (now ≡ s) × ((new ≡ old) ⊎ (goes_on old × kept old new))
   Exchanges _ = ⊥

@@ -27,10 +27,10 @@ impl<'a, Q: Query, J: Naming> Worker<'a, Q, J> {
     /// `Did`: the step was made, and its name put into the log. `Seen`: an exchange posted the log and saw a version of the
     /// board that is not the one that the worker had seen. `NotNow`: exactly where the step's condition is false, as it is
     /// where the job doesn't have what the kind names. `Busy` and `Other`: only of an exchange, where the hub says so, before
-    /// anything else. `Memory`: no memory. `Write`: only of a write, where the sink's count of faults rose in this call or
-    /// stands at its last value, 2^64 - 1. Only `Did` and `Seen` change the worker, its mailboxes and what is posted, and
-    /// only a write changes the sink: where it answers `Memory` or `Write` a part of the lines from their front may be
-    /// written.
+    /// anything else. `Memory`: no memory, and of no exchange, which takes none. `Write`: only of a write, where the sink's
+    /// count of faults rose in this call or stands at its last value, 2^64 - 1. Only `Did` and `Seen` change the worker, its
+    /// mailboxes and what is posted, and only a write changes the sink: where it answers `Memory` or `Write` a part of the
+    /// lines from their front may be written.
     pub fn step<P: Post<Msg<Q, J>>, H: Hub<OutlineOf<Q, J>>, S: Sink>(
         &mut self,
         kind: Kind,
