@@ -1,5 +1,6 @@
 -- Workers that have done nothing are at the start of the machine.
-use Rattle.std.proofs.Common.{◌≡◌, ℕ, zero, suc, List, [], ◌∷◌, ◌++◌, Some, length, sym, ap, ◌∙◌, subst}
+use Rattle.std.proofs.Common.{◌≡◌, ℕ, zero, suc, List, [], ◌∷◌, ◌++◌, Some, length, refl, sym, ap, ◌∙◌, subst}
+use Rattle.std.specs.Option.{option_map_or}
 use Rattle.std.specs.Prelude.{replicate, slice_get}
 use Rattle.mp_names.specs.declared.names.Name.{Name}
 use Rattle.mp_names.specs.Logs.{empty_log}
@@ -48,3 +49,8 @@ module _ (o : Outline) (ok : OutlineIsSound o) (t : SystemState) (depth : ℕ) (
 
   pub begin_reached : AreReached o t
   begin_reached = ([], subst (λ (d : ℕ). Refines o d t (start_of_machine o)) (sym (ap (λ (p : Queues Name). p.depth) post)) are_at_start)
+
+-- the first of workers that have done nothing has an empty log, and where there is none so is what stands for it
+pub first_is_empty : (o : Outline) (xs : List WorkerState) → ((w : ℕ) (s : WorkerState) → slice_get xs w ≡ Some s → IsNewWorker o w s) → option_map_or (λ (s : WorkerState). s.log) (slice_get xs 0) empty_log ≡ empty_log
+first_is_empty o [] new = refl
+first_is_empty o (s ∷ xs) new = (new 0 s refl).log

@@ -8,7 +8,8 @@ use Rattle.mp_model.specs.Facts.{JobFacts}
 use Rattle.mp_outline.specs.JobOutline.{outline_of}
 use Rattle.mp_outline.proofs.Soundness.{outline_is_sound}
 use Rattle.mp_drive.specs.Kept.{together}
-use Rattle.mp_drive.proofs.Opened.{are_at_start, begin_reached}
+use Rattle.mp_answer_laws.specs.Lines.{written_lines}
+use Rattle.mp_drive.proofs.Opened.{are_at_start, begin_reached, first_is_empty}
 use Rattle.mp_drive.proofs.plain.Plain.open.Given as given
 use Rattle.mp_drive.proofs.plain.Plain.open.Goals as goal
 
@@ -51,3 +52,9 @@ returns-clause-start g c =
     let workers = c.in_ok-workers.ensures in
     let t = together c.in_ok-workers.workers.items c.in_ok-board.board c.in_ok-post.post in
     are_at_start o (sound g c) t c.args.depth workers.all workers.new board.logs board.version (empty g c)
+
+pub returns-clause-nothing_written : goal.returns-clause-nothing_written
+returns-clause-nothing_written g c =
+    let job = g.J.Naming.job in
+    let q = g.Q.Query.facts job.rules in
+    ap (λ (log : Log). written_lines q job.events log) (first_is_empty (outline_of q job) _ c.in_ok-workers.ensures.new)
