@@ -1,12 +1,13 @@
 //! Of movers: a bin goes from worker 0 to worker 1 at 10 and back at 20, with ample memory.
 ghost use Rattle.std.specs.Prelude.{◌≡◌, ◌<◌, [], IfOk};
 
+use crate::seen::seen_with;
 use mp_bins::{Control, Move, Owners, Shape};
 use mp_handoff::{Movers, Sent, count_of_keys, movers_stay};
 use mp_model::{Naming, Time};
 use mp_msg::BinState;
 use mp_samples::WakingBids;
-use mp_stamps::{Counts, Loc, Seen};
+use mp_stamps::Loc;
 use std::alloc::{AllocError, Global};
 use std::marker::Brand;
 use std::process::Abort;
@@ -74,18 +75,6 @@ fn noted<J: Naming>(alloc: Global, worker: u32) -> Result<Movers<WakingBids, J>,
     Ok(movers)
 }
 
-// What was seen while control records may still come at one time and groups still wait at another.
-fn seen_at(alloc: Global, control: Option<Time>, group: Option<Time>) -> Result<Seen, AllocError> {
-    let mut counts = Counts::new(alloc);
-    if let Some(time) = control {
-        counts.add(Loc::CtlMail, time, 1)?;
-    }
-    if let Some(time) = group {
-        counts.add(Loc::Host(0), time, 1)?;
-    }
-    Ok(Seen::of(1, 0, &counts))
-}
-
 // Worker 0 sends the bin at 10, and has nothing to send at 20.
 fn first_owner_hands_off<J: Naming>(
     rt: &impl Abort,
@@ -97,10 +86,10 @@ fn first_owner_hands_off<J: Naming>(
     requires events { J.job.events ≡ [] }
 {
     let mut movers = noted::<J>(alloc, 0)?;
-    let not_passed = seen_at(alloc, Some(10), None)?;
-    let not_reached = seen_at(alloc, None, Some(9))?;
-    let at_ten = seen_at(alloc, Some(15), Some(10))?;
-    let done = seen_at(alloc, None, None)?;
+    let not_passed = seen_with(alloc, &[(Loc::CtlMail, 10)])?;
+    let not_reached = seen_with(alloc, &[(Loc::Host(0), 9)])?;
+    let at_ten = seen_with(alloc, &[(Loc::CtlMail, 15), (Loc::Host(0), 10)])?;
+    let done = seen_with(alloc, &[])?;
     assert!(rt; movers.unsettled(10) && movers.unsettled(20) && !movers.unsettled(15));
     assert_eq!(rt; movers.due(&not_passed, owners), None);
     assert_eq!(rt; movers.due(&not_reached, owners), None);
@@ -128,8 +117,8 @@ fn second_owner_hands_back<J: Naming>(
     requires events { J.job.events ≡ [] }
 {
     let mut movers = noted::<J>(alloc, 1)?;
-    let waits = seen_at(alloc, None, Some(19))?;
-    let done = seen_at(alloc, None, None)?;
+    let waits = seen_with(alloc, &[(Loc::Host(0), 19)])?;
+    let done = seen_with(alloc, &[])?;
     assert_eq!(rt; movers.due(&waits, owners), None);
     assert_eq!(rt; movers.settle(&waits, owners), Some(10));
     assert_eq!(rt; movers.settle(&done, owners), None);

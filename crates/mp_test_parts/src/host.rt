@@ -5,11 +5,12 @@ ghost use Rattle.mp_model.specs.Ascending.{ascending};
 ghost use Rattle.mp_samples.specs.Events.{bid_at};
 ghost use Rattle.mp_samples.specs.Jobs.{one_move};
 
+use crate::seen::seen_with;
 use mp_bins::Shape;
-use mp_host::{Host, Job, Naming, Owners, Seen, Time};
+use mp_host::{Host, Job, Naming, Owners, Time};
 use mp_msg::BinState;
 use mp_samples::{AnsweringBids, WakingBids, bid_at, one_move, state_of_bin, to_worker_two};
-use mp_stamps::{Counts, Loc};
+use mp_stamps::Loc;
 use std::alloc::{AllocError, Global};
 use std::marker::Brand;
 use std::process::Abort;
@@ -32,15 +33,6 @@ fn small_job(alloc: Global) -> Result<Job<WakingBids>, AllocError>
     Job::new(alloc, WakingBids {}, events, Vec::new(alloc), SHAPE)
 }
 
-// What was seen while something may still come to the hosts at a time, or nothing any more.
-fn seen_at(alloc: Global, time: Option<Time>) -> Result<Seen, AllocError> {
-    let mut counts = Counts::new(alloc);
-    if let Some(time) = time {
-        counts.add(Loc::Mail(0), time, 1)?;
-    }
-    Ok(Seen::of(1, 0, &counts))
-}
-
 fn bids_are_hosted<J: Naming>(
     rt: &impl Abort,
     alloc: Global,
@@ -52,14 +44,17 @@ fn bids_are_hosted<J: Naming>(
 {
     let owners = Owners::new(alloc, job.shape())?;
     let mut host = Host::<WakingBids, J>::new(alloc, 0, 0, job)?;
-    let done = seen_at(alloc, None)?;
+    let done = seen_with(alloc, &[])?;
     assert!(rt; host.ready(&done, &owners).is_none());
     host.make_room(2)?;
     host.receive(job.rec_at(0)?)?;
     host.receive(job.rec_at(1)?)?;
-    assert!(rt; host.ready(&seen_at(alloc, Some(5))?, &owners).is_none());
+    assert!(rt;
+        host.ready(&seen_with(alloc, &[(Loc::Mail(0), 5)])?, &owners)
+            .is_none()
+    );
     assert_eq!(rt;
-        host.ready(&seen_at(alloc, Some(6))?, &owners),
+        host.ready(&seen_with(alloc, &[(Loc::Mail(0), 6)])?, &owners),
         Some((5, 7))
     );
     assert_eq!(rt; host.pending(5), 1);
@@ -103,8 +98,11 @@ fn bin_is_installed<J: Naming>(
     assert_eq!(rt; numbers.as_slice(), [(15, 1)].as_slice());
     host.install(1, 10, state);
     assert_eq!(rt; host.pending(15), 1);
-    assert!(rt; host.ready(&seen_at(alloc, Some(15))?, &owners).is_none());
-    assert_eq!(rt; host.ready(&seen_at(alloc, None)?, &owners), Some((15, 7)));
+    assert!(rt;
+        host.ready(&seen_with(alloc, &[(Loc::Mail(0), 15)])?, &owners)
+            .is_none()
+    );
+    assert_eq!(rt; host.ready(&seen_with(alloc, &[])?, &owners), Some((15, 7)));
     bin_comes_back(rt, alloc, &mut host)
 }
 

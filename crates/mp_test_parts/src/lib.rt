@@ -15,4 +15,6 @@ mod output;
 #[cfg(test)]
 mod route;
 #[cfg(test)]
+mod seen;
+#[cfg(test)]
 mod worker_invariant;

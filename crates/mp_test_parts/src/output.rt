@@ -2,24 +2,16 @@
 ghost use Rattle.std.specs.Prelude.{◌≡◌};
 ghost use Rattle.mp_samples.specs.Jobs.{row_at, three_bids};
 
+use crate::seen::seen_with;
 use mp_model::{Naming, Output, Tag, Time, Value};
 use mp_output::{OutRefused, Rows, Unsent, Wrote, answer_rows_are_rows};
 use mp_outside::{MemSink, Op};
 use mp_samples::{AnsweringBids, fields_of};
-use mp_stamps::{Counts, Loc, Seen};
+use mp_stamps::Loc;
 use std::alloc::{AllocError, Global};
 use std::marker::Brand;
 use std::process::Abort;
 use std::test::Fail;
-
-// What is seen where a row of this time is on its way, or none.
-fn seen_with(alloc: Global, time: Option<Time>) -> Result<Seen, AllocError> {
-    let mut counts = Counts::new(alloc);
-    if let Some(time) = time {
-        counts.add(Loc::OutMail, time, 1)?;
-    }
-    Ok(Seen::of(1, 0, &counts))
-}
 
 // The job's three rows, the last of them first.
 fn three_rows<J: Naming>(alloc: Global) -> Result<Rows<AnsweringBids, J>, AllocError>
@@ -38,14 +30,14 @@ fn times_are_written<J: Naming>(rt: &impl Abort, alloc: Global) -> Result<(), Fa
 {
     let mut rows = three_rows::<J>(alloc)?;
     let mut sink = MemSink::new(alloc);
-    let seen = seen_with(alloc, Some(5))?;
+    let seen = seen_with(alloc, &[(Loc::OutMail, 5)])?;
     assert_eq!(rt; rows.write_due(&seen, &mut sink), Ok(Wrote::Nothing));
-    let seen = seen_with(alloc, Some(8))?;
+    let seen = seen_with(alloc, &[(Loc::OutMail, 8)])?;
     assert_eq!(rt; rows.write_due(&seen, &mut sink), Ok(Wrote::Time(5)));
     assert_eq!(rt; sink.bytes(), b"5|3\n5|7\n".as_slice());
     assert_eq!(rt; rows.write_due(&seen, &mut sink), Ok(Wrote::Nothing));
     assert!(rt; !rows.is_empty());
-    let seen = seen_with(alloc, None)?;
+    let seen = seen_with(alloc, &[])?;
     assert_eq!(rt; rows.write_due(&seen, &mut sink), Ok(Wrote::Time(8)));
     assert_eq!(rt; rows.write_due(&seen, &mut sink), Ok(Wrote::Nothing));
     assert_eq!(rt; sink.bytes(), b"5|3\n5|7\n8|2\n".as_slice());
@@ -64,7 +56,7 @@ fn fault_leaves_rows<J: Naming>(rt: &impl Abort, alloc: Global) -> Result<(), Fa
     let mut rows = three_rows::<J>(alloc)?;
     let mut sink = MemSink::new(alloc);
     sink.fail(Op::Write, 1)?;
-    let seen = seen_with(alloc, None)?;
+    let seen = seen_with(alloc, &[])?;
     let refused = rows.write_due(&seen, &mut sink);
     assert_eq!(rt; refused, Err(OutRefused::WriteFault));
     assert!(rt; sink.bytes().is_empty());

@@ -1,11 +1,12 @@
 //! Of a router: three records go in order once they are free, with ample memory.
 ghost use Rattle.std.specs.Prelude.{◌≡◌, IfOk};
 
+use crate::seen::seen_with;
 use mp_job::{Job, Shape};
 use mp_model::{Name, Naming, Tag, Time};
 use mp_route::{Router, held_records_are_counted};
 use mp_samples::{WakingBids, job_of_bids};
-use mp_stamps::{Counts, Loc, Seen};
+use mp_stamps::{Loc, Seen};
 use std::alloc::{AllocError, Global};
 use std::marker::Brand;
 use std::process::Abort;
@@ -80,10 +81,8 @@ fn three_records_go<J: Naming>(
     requires job { job.now ≡ J.job }
     requires shape { job.now.shape ≡ SHAPE }
 {
-    let mut counts = Counts::new(alloc);
-    counts.add(Loc::CtlMail, 5, 1)?;
-    let at_five = Seen::of(1, 1, &counts);
-    let done = Seen::of(1, 2, &Counts::new(alloc));
+    let at_five = seen_with(alloc, &[(Loc::CtlMail, 5)])?;
+    let done = seen_with(alloc, &[])?;
     let mut router = Router::<WakingBids, J>::new(alloc, 0);
     assert_eq!(rt; router.next_free(&done), None);
     router.make_room(2)?;
