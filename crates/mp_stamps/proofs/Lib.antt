@@ -2,4 +2,5 @@ pub mod Places
 pub mod Paths
 pub mod Firsts
 pub mod Tables
+pub mod Edges
 pub mod Seeing

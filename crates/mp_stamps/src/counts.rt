@@ -4,8 +4,10 @@ ghost use Rattle.std.specs.Int.{w128};
 ghost use Rattle.std.specs.List.Sorted.{IsStrictlyIncreasing};
 ghost use Rattle.mp_names.specs.Frontiers.{IsFrontierOf};
 ghost use Rattle.mp_names.specs.Limits.{most_stages_seen};
+ghost use Rattle.mp_names.specs.Locations.{IsLocation};
 ghost use Rattle.mp_names.specs.declared.locations.Loc.{Loc};
 ghost use Rattle.mp_stamps.specs.Counts.{AreZeroRows, IsCounted, IsFirstFor, SamePlaces, count_in};
+ghost use Rattle.mp_stamps.specs.Flow.{IsFirstTime};
 ghost use Rattle.mp_stamps.specs.Places.{places_of};
 
 use crate::place::{loc_at, place_of};
@@ -101,6 +103,28 @@ impl Counts {
             Some(time) => Frontier::At(*time),
             None => Frontier::Done,
         }
+    }
+
+    /// The least time with a count other than 0 at a location; `Done` where there is none.
+    pub(crate) fn first_time(&self, loc: Loc) -> Frontier
+        ensures { IsFirstTime (count_in self.now loc) result }
+    {
+        let place = place_of(loc);
+        if place >= self.rows.len() {
+            return Frontier::Done;
+        }
+        match self.times.get(self.rows[place].first()) {
+            Some(time) => Frontier::At(*time),
+            None => Frontier::Done,
+        }
+    }
+
+    /// Of how many stages counts are kept.
+    pub(crate) fn stages(&self) -> u32
+        ensures few { result ≤ most_stages_seen }
+        ensures none_elsewhere { (at : Loc) (t : ℕ) → ¬ IsLocation result at → count_in self.now at t ≡ pos 0 }
+    {
+        self.stages
     }
 
     // The index of the least time of work that is outstanding and could result in something at the location, or the

@@ -5,6 +5,7 @@
 #![tactic(auto)]
 
 mod counts;
+mod flow;
 mod frontiers;
 mod place;
 mod reaching;

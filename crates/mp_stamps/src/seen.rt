@@ -1,14 +1,17 @@
 //! What a worker saw at its last exchange.
-ghost use Rattle.std.specs.Prelude.{◌≡◌, ◌≤◌};
+ghost use Rattle.std.specs.Prelude.{◌≡◌, ◌≤◌, get_or};
 ghost use Rattle.mp_names.specs.Frontiers.{IsFrontierOf};
 ghost use Rattle.mp_names.specs.Limits.{most_stages_seen};
+ghost use Rattle.mp_names.specs.declared.locations.Frontier.TheVariants.{Done};
 ghost use Rattle.mp_names.specs.declared.locations.Loc.{Loc};
 ghost use Rattle.mp_names.specs.Locations.{IsLocation};
 ghost use Rattle.mp_stamps.specs.Counts.{count_in};
+ghost use Rattle.mp_stamps.specs.Places.{place_of};
 ghost use Rattle.mp_stamps.specs.Seen.{seen_at};
 
 use crate::counts::Counts;
-use crate::place::{loc_at, place_of};
+use crate::flow::{earlier, of_stage};
+use crate::place::place_of;
 use mp_names::{Frontier, Loc};
 
 // Five locations have no stage, and five are of each stage.
@@ -31,14 +34,10 @@ impl Seen {
         ensures stages { result.stages ≡ stages }
         ensures frontiers { (at : Loc) → IsLocation stages at → IsFrontierOf (count_in counts.now) at (seen_at result at) }
     {
-        let mut frontiers = [Frontier::Done; PLACES];
-        for place in 0..5 * stages + 5 {
-            frontiers[place as usize] = counts.frontier(loc_at(place));
-        }
         Seen {
             version,
             stages,
-            frontiers,
+            frontiers: frontiers_of(stages, counts),
         }
     }
 
@@ -65,4 +64,37 @@ impl Seen {
             None => Frontier::Done,
         }
     }
+}
+
+// The frontiers of the locations of so many stages, by their places, in one pass along the dataflow.
+fn frontiers_of(stages: u32, counts: &Counts) -> [Frontier; PLACES]
+    requires { stages ≤ most_stages_seen }
+    ensures { (at : Loc) → IsLocation stages at → IsFrontierOf (count_in counts.now) at (get_or result (place_of at) Done) }
+{
+    let mut frontiers = [Frontier::Done; PLACES];
+    let own_ctl_mail = counts.first_time(Loc::CtlMail);
+    let ctl = counts.first_time(Loc::Ctl);
+    let ctl_mail = earlier(ctl, own_ctl_mail);
+    let mut origin = counts.first_time(Loc::Source);
+    frontiers[place_of(Loc::Ctl)] = ctl;
+    frontiers[place_of(Loc::CtlMail)] = ctl_mail;
+    frontiers[place_of(Loc::Source)] = origin;
+    let all_stages = stages.max(counts.stages());
+    for stage in 0..all_stages {
+        let found = of_stage(counts, stage, ctl_mail, origin);
+        frontiers[place_of(Loc::Route(stage))] = found.route;
+        frontiers[place_of(Loc::Mail(stage))] = found.mail;
+        frontiers[place_of(Loc::Move(stage))] = found.moves;
+        frontiers[place_of(Loc::State(stage))] = found.state;
+        frontiers[place_of(Loc::Host(stage))] = found.host;
+        origin = found.host;
+    }
+    let own_out_route = counts.first_time(Loc::OutRoute);
+    let own_out_mail = counts.first_time(Loc::OutMail);
+    let inputs = earlier(ctl_mail, origin);
+    let out_route = earlier(inputs, own_out_route);
+    let out_mail = earlier(out_route, own_out_mail);
+    frontiers[place_of(Loc::OutRoute)] = out_route;
+    frontiers[place_of(Loc::OutMail)] = out_mail;
+    frontiers
 }

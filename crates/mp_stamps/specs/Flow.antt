@@ -1,0 +1,22 @@
+-- Frontiers from those of what comes right before.
+use Rattle.std.specs.Prelude.{◌≡◌, ◌≢◌, ◌<◌, ℕ, zero, suc, ℤ, pos}
+use Rattle.mp_names.specs.declared.locations.Frontier.{Frontier}
+use Rattle.mp_names.specs.declared.locations.Frontier.TheVariants.{At, Done}
+use Rattle.mp_names.specs.declared.locations.Loc.{Loc}
+use Rattle.mp_names.specs.declared.locations.Loc.TheVariants.{Source, Host}
+use Rattle.mp_names.specs.Frontiers.{earlier}
+
+-- it stands at the least time with a count other than 0, if there is one
+abbrev pub IsFirstTime : (ℕ → ℤ) → Frontier → Type 0
+IsFirstTime counts (At t) = (counts t ≢ pos 0) × ((u : ℕ) → u < t → counts u ≡ pos 0)
+IsFirstTime counts Done = (u : ℕ) → counts u ≡ pos 0
+
+-- the earlier of two frontiers
+abbrev pub earlier_of : Frontier → Frontier → Frontier
+earlier_of (At t) other = earlier t other
+earlier_of Done other = other
+
+-- where the records of a stage come from: the source, or the hosts of the stage before
+abbrev pub origin_of : ℕ → Loc
+origin_of zero = Source
+origin_of (suc j) = Host j
