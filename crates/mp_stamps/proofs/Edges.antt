@@ -1,11 +1,11 @@
 -- The frontier of a location from those of what comes right before it.
-use Rattle.std.proofs.Common.{◌≡◌, ◌≢◌, ◌⊎◌, ℕ, zero, suc, ◌+◌, ◌<◌, ◌≤◌, min, length, get_or, ℤ, pos, true, refl, sym, ap, subst, ◌∙◌, inl, inr, ⊎_elim, arith}
-use Rattle.std.proofs.lemmas.Bool.{cases_lt, false≢true, le-leb, lt-ltb}
+use Rattle.std.proofs.Common.{◌≡◌, ◌⊎◌, ℕ, zero, suc, ◌<◌, ◌≤◌, min, length, get_or, ℤ, pos, refl, sym, subst, ◌∙◌, inl, inr, ⊎_elim, arith}
+use Rattle.std.proofs.lemmas.Bool.{cases_lt, false≢true, le-leb}
 use Rattle.mp_names.specs.declared.locations.Frontier.{Frontier}
 use Rattle.mp_names.specs.declared.locations.Frontier.TheVariants.{At, Done}
 use Rattle.mp_names.specs.declared.locations.Loc.{Loc}
 use Rattle.mp_names.specs.declared.locations.Loc.TheVariants.{Ctl, CtlMail, Source, Route, Mail, Move, State, Host, OutRoute, OutMail}
-use Rattle.mp_names.specs.Frontiers.{IsFrontierOf, IsQuiet, earlier}
+use Rattle.mp_names.specs.Frontiers.{IsFrontierOf, IsQuiet}
 use Rattle.mp_names.specs.Locations.{Feeds, IsLocation, Reaches, goes, stays}
 use Rattle.mp_names.proofs.Reach.{path_from_table, reach_on, table_from_path}
 use Rattle.mp_stamps.specs.Counts.{CountTable, IsTable, count_in, row_of}
@@ -166,7 +166,7 @@ module _ (counts : Loc → ℕ → ℤ) where
   unfolding Inputs
   two_inputs a b c first second own both f r s all h k m d e =
       let inputs : IsLeastNot (Inputs a b) (earlier_of first second) =
-          least_of_both (IsQuiet counts a) (IsQuiet counts b) (Inputs a b) (λ t p q. (p, q)) (λ t q. q.0) (λ t q. q.1) first second (from_frontier counts a first h) (from_frontier counts b second k)
+      least_of_both (IsQuiet counts a) (IsQuiet counts b) (Inputs a b) (λ t p q. (p, q)) (λ t q. q.0) (λ t q. q.1) first second (from_frontier counts a first h) (from_frontier counts b second k)
       in
       subst (λ (g : Frontier). IsFrontierOf counts c g) (sym e)
       (to_frontier counts c (earlier_of both own)

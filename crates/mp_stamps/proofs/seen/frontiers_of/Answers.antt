@@ -6,7 +6,7 @@ use Rattle.mp_names.specs.declared.locations.Loc.TheVariants.{Ctl, CtlMail, Sour
 use Rattle.mp_names.specs.Frontiers.{IsFrontierOf}
 use Rattle.mp_stamps.specs.Counts.{count_in}
 use Rattle.mp_stamps.specs.Flow.{origin_of}
-use Rattle.mp_stamps.specs.Places.{place_of, places_of}
+use Rattle.mp_stamps.specs.Places.{places_of}
 use Rattle.mp_stamps.proofs.Edges.{at_ctl, at_ctl_mail, at_out_mail, at_out_route, at_source}
 use Rattle.mp_stamps.proofs.Seeing.{AreFound, all_found, found_before_stages, found_next, none_found}
 use Rattle.mp_stamps.proofs.Tables.{place_inside}
