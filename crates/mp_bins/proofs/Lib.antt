@@ -4,5 +4,6 @@ pub mod Searching
 pub mod Walking
 pub mod Nexts
 pub mod Told
+pub mod Moved
 pub mod Hashing
 pub mod Gaps
