@@ -1,5 +1,5 @@
 -- That the moves of a list of control records are those of its notes, where every record is noted.
-use Rattle.std.proofs.Common.{◌≡◌, ℕ, zero, suc, ◌<◌, ◌==◌, Bool, true, false, List, [], ◌∷◌, length, map, filter, get_or, refl, sym, ap, ◌∙◌, subst, ⊎_elim, arith}
+use Rattle.std.proofs.Common.{◌≡◌, ℕ, zero, suc, ◌<◌, ◌==◌, true, List, [], ◌∷◌, length, map, filter, get_or, refl, sym, ap, ◌∙◌, subst, ⊎_elim, arith}
 use Rattle.std.specs.List.{All, AllPairs, Contains}
 use Rattle.std.proofs.lemmas.Bool.{eqb-false, false≢true, ne_eqb, not-true, not_from_false}
 use Rattle.std.proofs.lemmas.List.Elements.{All-cons, All-nil}
@@ -9,7 +9,7 @@ use Rattle.mp_names.specs.declared.names.Name.TheVariants.{Packet}
 use Rattle.mp_names.specs.declared.controls.Control.{Control}
 use Rattle.mp_names.specs.declared.controls.Move.{Move}
 use Rattle.mp_names.specs.Names.{In, IsAscending, IsBefore, Less, ascending}
-use Rattle.mp_names.specs.Controls.{control_of, is_change, move_in, owner_below}
+use Rattle.mp_names.specs.Controls.{control_of, owner_below}
 use Rattle.mp_names.proofs.Lists.{In_cases, In_filter, In_here, In_later, filter_In}
 use Rattle.mp_names.proofs.Orders.{In_ascending, ascending_In, ascending_ascends, filter_ascends}
 use Rattle.mp_bins.specs.Notes.{Notes, controls_in, first_owner, is_move_of, move_of, moves_of, owner_before}
@@ -65,9 +65,9 @@ module _ (f : Name → Move) (same : (j b t : ℕ) → ((f (Packet j b t)).time 
       let here = In_here y ys in
       let q = ps y here in
       let first : ComesFirst (f x) (f y) =
-          subst (λ (z : Name). ComesFirst (f z) (f y)) (sym p.3)
-          (subst (λ (z : Name). ComesFirst (f (Packet p.0 p.1 p.2)) (f z)) (sym q.3)
-          (comes_first p.0 p.1 p.2 q.0 q.1 q.2 (subst (λ (z : Name). Less z (Packet q.0 q.1 q.2)) p.3 (subst (λ (z : Name). Less x z) q.3 (h y here))))) in
+      subst (λ (z : Name). ComesFirst (f z) (f y)) (sym p.3)
+      (subst (λ (z : Name). ComesFirst (f (Packet p.0 p.1 p.2)) (f z)) (sym q.3)
+      (comes_first p.0 p.1 p.2 q.0 q.1 q.2 (subst (λ (z : Name). Less z (Packet q.0 q.1 q.2)) p.3 (subst (λ (z : Name). Less x z) q.3 (h y here))))) in
       All-cons (ComesFirst (f x)) (f y) (map f ys) first (all_later x ys p (λ z i. ps z (In_later z y ys i)) (λ z i. h z (In_later z y ys i)))
 
   in_turn : (xs : List Name) → IsAscending xs → ((x : Name) → In x xs → IsOnePacket x) → AllPairs ComesFirst (map f xs)
@@ -115,8 +115,8 @@ module _ (notes : Notes) where
       let x = Packet m.stage m.bin m.time in
       let is = not_from_false (before m.stage m.bin m.time == before m.stage m.bin (suc m.time)) (ne_eqb (before m.stage m.bin m.time) (before m.stage m.bin (suc m.time)) ne) in
       let same : move_of notes x ≡ m =
-          ap (λ (w : ℕ). record m { from = w; to = before m.stage m.bin (suc m.time) }) (sym h.from)
-          ∙ ap (λ (w : ℕ). record m { to = w }) (sym h.to) in
+      ap (λ (w : ℕ). record m { from = w; to = before m.stage m.bin (suc m.time) }) (sym h.from)
+      ∙ ap (λ (w : ℕ). record m { to = w }) (sym h.to) in
       subst (Contains (moves_of notes)) same (mapped (move_of notes) x names (filter_In (is_move_of notes) x (ascending (map packet_of controls)) (ascending_In x (map packet_of controls) x3) is))
 
 -- Where every record is noted
