@@ -1,8 +1,10 @@
 pub mod Ranks
 pub mod Placing
 pub mod Searching
-pub mod Walking
-pub mod Nexts
 pub mod Told
+pub mod Moved
+pub mod Ranking
+pub mod Nexts
+pub mod Noting
 pub mod Hashing
 pub mod Gaps

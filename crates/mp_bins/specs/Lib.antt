@@ -3,3 +3,4 @@ pub mod Notes
 pub mod Places
 pub mod Leaving
 pub mod Laws
+pub mod Changes

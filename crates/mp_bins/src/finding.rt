@@ -1,6 +1,7 @@
 //! Where notes stand in their order: by stage, bin, time and index.
-ghost use Rattle.std.specs.Prelude.{◌≡◌, ◌≤◌, ◌&&◌, ◌==◌, [], ◌∷◌, length, not};
+ghost use Rattle.std.specs.Prelude.{◌≡◌, ◌≤◌, ◌&&◌, ◌==◌, [], ◌∷◌, length, not, true, false};
 ghost use Rattle.std.specs.List.{insert};
+ghost use Rattle.std.specs.List.Sorted.{IsPartitionPoint};
 ghost use Rattle.mp_names.specs.Controls.{owner_below};
 ghost use Rattle.mp_names.specs.Names.{is_before};
 ghost use Rattle.mp_bins.specs.Notes.{AreInOrder, IsSplitAt, controls_in, rank_of_note, with_note};
@@ -24,6 +25,9 @@ pub fn place_for(notes: &[Note], note: Note) -> usize
     requires { AreInOrder notes.now }
     ensures inside { result ≤ length notes.now }
     ensures place { insert notes.now result note ≡ with_note notes.now note }
+    ensures split { IsPartitionPoint
+        (λ n. is_before (rank_of_note note) (rank_of_note n) ≡ false)
+        (λ n. is_before (rank_of_note note) (rank_of_note n) ≡ true) notes.now result }
 {
     notes.partition_point(
         |other: &Note| -> bool

@@ -1,6 +1,6 @@
 //! What holds of all bins and notes, each law the contract of a function that does nothing.
 ghost use Rattle.mp_bins.specs.Bins.{BinsAreLeadingBits};
-ghost use Rattle.mp_bins.specs.Laws.{NoNotesAreOfAll, NotedIndicesAreKept, NotedRecordsAreNotes, OrderDoesNotMatter, OwnersAreToldByNotes};
+ghost use Rattle.mp_bins.specs.Laws.{MovesAreToldByNotes, NoNotesAreOfAll, NotedIndicesAreKept, NotedRecordsAreNotes, OrderDoesNotMatter, OwnersAreToldByNotes};
 
 /// Of a power of two of bins, the bin of a key is the number that the leading bits of its hash say.
 pub fn bins_are_leading_bits()
@@ -19,4 +19,10 @@ pub fn owners_are_told_by_notes()
     ensures at_first { NoNotesAreOfAll }
     ensures one_more { NotedRecordsAreNotes }
     ensures noted { NotedIndicesAreKept }
+{}
+
+/// Where every record of a list is noted, the moves are those of the list: each time at which another worker owns a
+/// bin of a stage than just before, once, by time, stage and bin.
+pub fn moves_are_told_by_notes()
+    ensures { MovesAreToldByNotes }
 {}

@@ -4,13 +4,16 @@
 #![tactic(auto)]
 
 mod bin;
+mod changes;
 mod finding;
 mod laws;
-mod leaving;
 mod owners;
 mod places;
+mod ranked;
 
 pub use bin::bin_of;
-pub use laws::{bins_are_leading_bits, order_does_not_matter, owners_are_told_by_notes};
+pub use laws::{
+    bins_are_leading_bits, moves_are_told_by_notes, order_does_not_matter, owners_are_told_by_notes,
+};
 pub use mp_names::{Control, Move, Shape};
 pub use owners::{Owners, first_owner};

@@ -2,11 +2,12 @@
 ghost use Rattle.std.specs.Prelude.{◌≡◌, ◌<◌, ◌≤◌, ◌-◌, [], false, None, Some, cond, IfOk, OnOk, OnErr, IsOk, IfSome, IfNone};
 ghost use Rattle.mp_bins.specs.Places.{name_of};
 ghost use Rattle.mp_bins.specs.Notes.{IsShape, IsWithin, first_owner, is_move_of, is_noted, move_of, moves_of, owner_at, owner_before, with_note};
-ghost use Rattle.mp_bins.specs.Leaving.{BinStays, IsNextLeaving, IsNextOfBin, NoneLeaves, earlier_of};
+ghost use Rattle.mp_bins.specs.Leaving.{IsNextLeaving, NoneLeaves};
 
-use crate::finding::{StageBin, owner_below, place_for};
-use crate::leaving::{earlier, first_time, leaving_from};
+use crate::changes::put_down;
+use crate::finding::{StageBin, owner_below};
 use crate::places::{Place, places_of};
+use crate::ranked::first_from;
 use mp_names::{Control, Move, Shape, Time, TimedBin};
 use std::alloc::{AllocError, Global};
 use std::marker::Model;
@@ -27,18 +28,29 @@ pub struct Owners {
     shape: Shape,
     // In the order of their ranks: by stage, bin, time and index.
     notes: Vec<Note>,
+    // The moves among them, by stage, owner before, time and bin.
+    changes: Vec<Move>,
+    // So many more notes there is room for, and twice as many moves.
+    room: u64,
 }
 
 impl Model for Owners {
-    ghost use Rattle.std.specs.Prelude.{length, ◌-◌};
+    ghost use Rattle.std.specs.Prelude.{length, ◌+◌, ◌≤◌};
     ghost use Rattle.std.specs.Vec.{vec_capacity};
     ghost use Rattle.mp_bins.specs.Notes.{Notes, AreInOrder, AreWithin, IsShape};
+    ghost use Rattle.mp_bins.specs.Changes.{AreChangesOf};
 
     ghost Value = { Notes };
 
-    ghost view = { λ o. record { shape = o.shape; noted = o.notes.items; room = vec_capacity o.notes - length o.notes.items } };
+    ghost view = { λ o. record { shape = o.shape; noted = o.notes.items; room = o.room } };
 
-    ghost invariant = { λ o. IsShape o.shape × AreWithin o.shape o.notes.items × AreInOrder o.notes.items };
+    ghost invariant = { λ o.
+        IsShape o.shape
+        × AreWithin o.shape o.notes.items
+        × AreInOrder o.notes.items
+        × AreChangesOf o.shape o.notes.items o.changes.items
+        × (length o.notes.items + o.room ≤ vec_capacity o.notes)
+        × (length o.changes.items + o.room + o.room ≤ vec_capacity o.changes) };
 }
 
 impl Owners {
@@ -52,18 +64,30 @@ impl Owners {
         Ok(Owners {
             shape,
             notes: Vec::new(alloc),
+            changes: Vec::new(alloc),
+            room: 0,
         })
     }
 
-    /// Makes room, so that the next `count` calls of `note` answer `Ok`. `AllocError`: no memory, and
-    /// nothing changes.
+    /// Makes room, so that the next `count` calls of `note` answer `Ok`. `AllocError`: no memory, never where there
+    /// is that room, and nothing changes.
     pub fn make_room(&mut self, count: u64) -> Result<(), AllocError>
         ensures room { OnOk result (count ≤ self.new.room) }
         ensures shape { self.new.shape ≡ self.old.shape }
         ensures noted { self.new.noted ≡ self.old.noted }
+        ensures no_less { self.old.room ≤ self.new.room }
         ensures unchanged { OnErr result (self.new ≡ self.old) }
+        ensures never_refused_with_room { count ≤ self.old.room → IsOk result }
     {
+        if count <= self.room {
+            return Ok(());
+        }
+        let Some(changes) = count.checked_mul(2) else {
+            return Err(AllocError);
+        };
+        self.changes.reserve(changes as usize)?;
         self.notes.reserve(count as usize)?;
+        self.room = count;
         Ok(())
     }
 
@@ -79,9 +103,14 @@ impl Owners {
         ensures unchanged { OnErr result (self.new ≡ self.old) }
         ensures never_refused_with_room { 0 < self.old.room → IsOk result }
     {
-        self.notes.reserve(1)?;
-        let at = place_for(&self.notes, Note { index, control });
-        self.notes.insert(at, Note { index, control })?;
+        self.make_room(1)?;
+        self.room -= 1;
+        put_down(
+            &mut self.notes,
+            &mut self.changes,
+            self.shape,
+            Note { index, control },
+        );
         Ok(())
     }
 
@@ -149,24 +178,7 @@ impl Owners {
         ensures next { IfSome result (IsNextLeaving self.now stage worker after) }
         ensures none_left { IfNone result (NoneLeaves self.now stage worker after) }
     {
-        let mut next = None;
-        for bin in 0..self.shape.bins {
-            next = earlier(next, self.leaving(stage, worker, bin, after));
-        }
-        next
-    }
-
-    // The same for one bin.
-    fn leaving(&self, stage: u32, worker: u32, bin: u32, after: Option<TimedBin>) -> Option<Move>
-        ensures next { IfSome result (IsNextOfBin self.now stage worker bin after) }
-        ensures none_left { IfNone result (BinStays self.now stage worker bin after) }
-    {
-        leaving_from(
-            &self.notes,
-            self.stage_bin(stage, bin),
-            worker,
-            first_time(after, bin),
-        )
+        first_from(&self.changes, stage, worker, after)
     }
 
     // By the records of times below `limit`.
