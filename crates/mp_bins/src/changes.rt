@@ -9,7 +9,8 @@ use crate::owners::{Note, first_owner};
 use crate::ranked::{insert_reserved, replace};
 use mp_names::{Control, Move, Shape, Time};
 
-/// Puts a note in its place, and brings the moves in line with it. There is room for one more note and two more moves.
+/// Puts a note in its place, and brings the moves in line with it. There is room for one more note and two
+/// more moves.
 pub fn put_down(notes: &mut Vec<Note>, changes: &mut Vec<Move>, shape: Shape, note: Note)
     requires workers { 0 < shape.workers }
     requires order { AreInOrder notes.old.items }

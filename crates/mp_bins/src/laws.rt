@@ -21,8 +21,8 @@ pub fn owners_are_told_by_notes()
     ensures noted { NotedIndicesAreKept }
 {}
 
-/// Where every record of a list is noted, the moves are those of the list: each time at which another worker owns a
-/// bin of a stage than just before, once, by time, stage and bin.
+/// Where every record of a list is noted, the moves are those of the list: each time at which another worker
+/// owns a bin of a stage than just before, once, by time, stage and bin.
 pub fn moves_are_told_by_notes()
     ensures { MovesAreToldByNotes }
 {}

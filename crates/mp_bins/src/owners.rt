@@ -69,8 +69,8 @@ impl Owners {
         })
     }
 
-    /// Makes room, so that the next `count` calls of `note` answer `Ok`. `AllocError`: no memory, never where there
-    /// is that room, and nothing changes.
+    /// Makes room, so that the next `count` calls of `note` answer `Ok`. `AllocError`: no memory, never where
+    /// there is that room, and nothing changes.
     pub fn make_room(&mut self, count: u64) -> Result<(), AllocError>
         ensures room { OnOk result (count ≤ self.new.room) }
         ensures shape { self.new.shape ≡ self.old.shape }

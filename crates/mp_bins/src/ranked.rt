@@ -85,7 +85,8 @@ fn take_out(changes: &mut Vec<Move>, old: Option<Move>)
     requires ranked { AreRanked changes.old.items }
     requires there { IfSome old (Contains changes.old.items) }
     ensures ranked { AreRanked changes.new.items }
-    ensures others { (move : Move) → (Contains changes.new.items move ↔ (Contains changes.old.items move × (old ≢ Some move))) }
+    ensures others { (move : Move) →
+        (Contains changes.new.items move ↔ (Contains changes.old.items move × (old ≢ Some move))) }
     ensures count { length changes.new.items ≤ length changes.old.items }
     ensures capacity { vec_capacity changes.new ≡ vec_capacity changes.old }
 {
@@ -100,7 +101,8 @@ fn put_in(changes: &mut Vec<Move>, new: Option<Move>)
     requires room { length changes.old.items < vec_capacity changes.old }
     requires fresh { IfSome new (λ move. Contains changes.old.items move → ⊥) }
     ensures ranked { AreRanked changes.new.items }
-    ensures one_more { (move : Move) → (Contains changes.new.items move ↔ (Contains changes.old.items move ⊎ (new ≡ Some move))) }
+    ensures one_more { (move : Move) →
+        (Contains changes.new.items move ↔ (Contains changes.old.items move ⊎ (new ≡ Some move))) }
     ensures count { length changes.new.items ≤ length changes.old.items + 1 }
     ensures capacity { vec_capacity changes.old ≤ vec_capacity changes.new }
 {
