@@ -1,5 +1,5 @@
 -- Where all control records of a list are noted, the moves are those of the list.
-use Rattle.std.proofs.Common.{◌≡◌, ◌∙◌, ◌<◌, ◌≤◌, ◌⊎◌, ℕ, zero, suc, ◌+◌, ◌||◌, Bool, true, false, cond, not, ◌==◌, List, [], ◌∷◌, ap, arith, filter, length, map, refl, sym, subst, ⊎_elim}
+use Rattle.std.proofs.Common.{◌≡◌, ◌∙◌, ◌<◌, ◌≤◌, ℕ, zero, suc, ◌+◌, ◌||◌, Bool, true, false, cond, not, ◌==◌, List, [], ◌∷◌, ap, arith, filter, length, map, refl, sym, subst, ⊎_elim}
 use Rattle.std.proofs.lemmas.Bool.{both_ways, cases_Bool, eq-eqb, eqb-true, false≢true, false_from_ne_true, or_cases}
 use Rattle.std.proofs.lemmas.List.{length-map}
 use Rattle.mp_names.specs.declared.controls.Control.{Control}
@@ -15,7 +15,7 @@ use Rattle.mp_names.specs.Names.{In, ascending}
 use Rattle.mp_names.proofs.Lists.{In_cases, In_here, In_later}
 use Rattle.mp_names.proofs.Orders.{In_ascending, ascending_In, ascending_ascends, ascending_unique}
 use Rattle.mp_bins.specs.declared.owners.Note.{Note}
-use Rattle.mp_bins.specs.Notes.{Notes, controls_in, first_owner, is_noted, moves_of, no_note, note_at, owner_before, with_note}
+use Rattle.mp_bins.specs.Notes.{Notes, controls_in, first_owner, is_noted, moves_of, no_note, note_at, with_note}
 use Rattle.mp_bins.specs.Laws.{AreNotesOf, IsNoteOf}
 use Rattle.mp_bins.proofs.Placing.{noted_with}
 use Rattle.mp_bins.proofs.Searching.{control_at_note}

@@ -2,7 +2,6 @@ use Rattle.std.proofs.Common.{◌≡◌, ◌∙◌, ◌<◌, ℕ, List, length, 
 use Rattle.std.specs.Prelude.{IfOk}
 use Rattle.mp_names.specs.declared.controls.Control.{Control}
 use Rattle.mp_names.specs.declared.controls.Move.{Move}
-use Rattle.mp_names.specs.declared.controls.Shape.{Shape}
 use Rattle.mp_bins.specs.Laws.{AreNotesOf}
 use Rattle.mp_bins.specs.Notes.{IsShape, is_noted}
 use Rattle.mp_job.proofs.Legality.{shape_is_some}

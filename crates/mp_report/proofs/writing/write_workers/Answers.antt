@@ -1,4 +1,4 @@
-use Rattle.std.proofs.Common.{◌≡◌, ◌∙◌, ◌++◌, ℕ, ap, arith, length, refl, sym, take}
+use Rattle.std.proofs.Common.{◌∙◌, ◌++◌, ℕ, ap, arith, length, refl, sym, take}
 use Rattle.mp_names.specs.Names.{joined_below}
 use Rattle.mp_outside.specs.Sink.{grown}
 use Rattle.mp_outside.proofs.SinkLemmas.{grown-grown, grown-nothing}
