@@ -1,0 +1,5 @@
+-- The lemmas of this crate.
+mod One
+mod Noted
+mod Prefixes
+mod Tallied

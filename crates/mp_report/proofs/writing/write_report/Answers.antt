@@ -1,0 +1,64 @@
+use Rattle.std.proofs.Common.{◌∙◌, ◌++◌, ℕ, List, [], ap, append_assoc, length, refl, sym}
+use Rattle.std.proofs.lemmas.Result.{on_err_weaker, on_ok_weaker}
+use Rattle.mp_names.specs.Outlines.{moves_of}
+use Rattle.mp_outside.proofs.SinkLemmas.{grown-grown, grown-nothing}
+use Rattle.mp_outline.specs.JobOutline.{outline_of}
+use Rattle.mp_outline.proofs.Soundness.{outline_is_sound}
+use Rattle.mp_output.proofs.Writing.{on_err}
+use Rattle.mp_report.specs.Report.{move_lines, worker_lines}
+use Rattle.mp_report.specs.Told.{groups_told, keys_told}
+use Rattle.mp_report.proofs.Prefixes.{prefix_then}
+use Rattle.mp_report.proofs.Tallied.{told_in_part, told_report, told_text}
+use Rattle.mp_report.proofs.writing.write_report.Goals as goal
+
+pub returns-in_err-moves-clause-part : goal.returns-in_err-moves-clause-part
+returns-in_err-moves-clause-part g c =
+    let laws = g.met.Q.Query g.world.𝓛 g.world.𝓜 g.world.𝓡 ((λ s x. x), (λ x. x), (λ x. x), λ x. x) in
+    let job = c.args.job.now in
+    let q = g.Q.Query.facts job.rules in
+    let sound = outline_is_sound q (laws.has_stages job.rules) (laws.posts_are_later job.rules) (laws.later_stages_post_nothing job.rules) job c.moves_of.ensures.legal in
+    let before = g.S.Sink.written c.args.sink.now in
+    on_err c.from_residual.result (told_in_part q job sound c.args.tallies.now c.requires before before [] (told_text q job sound c.args.tallies.now c.requires, refl) (sym (grown-nothing before)))
+
+pub returns-in_err-write_moves-clause-part : goal.returns-in_err-write_moves-clause-part
+returns-in_err-write_moves-clause-part g c =
+    let laws = g.met.Q.Query g.world.𝓛 g.world.𝓜 g.world.𝓡 ((λ s x. x), (λ x. x), (λ x. x), λ x. x) in
+    let job = c.args.job.now in
+    let q = g.Q.Query.facts job.rules in
+    let tallies = c.args.tallies.now in
+    let sound = outline_is_sound q (laws.has_stages job.rules) (laws.posts_are_later job.rules) (laws.later_stages_post_nothing job.rules) job c.moves_of.ensures.legal in
+    let moves = moves_of (outline_of q job) in
+    let same = c.deref.ensures.value ∙ c.in_ok-moves.ensures.moves in
+    let part = rw same at c.in_err-write_moves.ensures.part in
+    let begins = prefix_then part.0 (move_lines (keys_told tallies) moves) (told_text q job sound tallies c.requires) part.1 (worker_lines (groups_told tallies) (length tallies), refl) in
+    on_err c.from_residual-in_err-write_moves.result (told_in_part q job sound tallies c.requires (g.S.Sink.written c.args.sink.now) (g.S.Sink.written c.write_moves.new.sink) part.0 begins part.2)
+
+pub returns-clause-whole : goal.returns-clause-whole
+returns-clause-whole g c =
+    let laws = g.met.Q.Query g.world.𝓛 g.world.𝓜 g.world.𝓡 ((λ s x. x), (λ x. x), (λ x. x), λ x. x) in
+    let job = c.args.job.now in
+    let q = g.Q.Query.facts job.rules in
+    let tallies = c.args.tallies.now in
+    let sound = outline_is_sound q (laws.has_stages job.rules) (laws.posts_are_later job.rules) (laws.later_stages_post_nothing job.rules) job c.moves_of.ensures.legal in
+    let same = c.deref.ensures.value ∙ c.in_ok-moves.ensures.moves in
+    let moved = rw same at c.in_ok-write_moves.ensures.whole in
+    on_ok_weaker c.write_workers.result
+    (λ here. (told_text q job sound tallies c.requires, told_report q job sound tallies c.requires, here ∙ rw moved (grown-grown _ _ _)))
+    c.write_workers.ensures.whole
+
+pub returns-clause-part : goal.returns-clause-part
+returns-clause-part g c =
+    let laws = g.met.Q.Query g.world.𝓛 g.world.𝓜 g.world.𝓡 ((λ s x. x), (λ x. x), (λ x. x), λ x. x) in
+    let job = c.args.job.now in
+    let q = g.Q.Query.facts job.rules in
+    let tallies = c.args.tallies.now in
+    let sound = outline_is_sound q (laws.has_stages job.rules) (laws.posts_are_later job.rules) (laws.later_stages_post_nothing job.rules) job c.moves_of.ensures.legal in
+    let lines = move_lines (keys_told tallies) (moves_of (outline_of q job)) in
+    let same = c.deref.ensures.value ∙ c.in_ok-moves.ensures.moves in
+    let moved = rw same at c.in_ok-write_moves.ensures.whole in
+    on_err_weaker c.write_workers.result
+    (λ part.
+    told_in_part q job sound tallies c.requires (g.S.Sink.written c.args.sink.now) (g.S.Sink.written c.write_workers.new.sink) (lines ++ part.0)
+    (part.1.0, append_assoc lines part.0 part.1.0 ∙ ap (λ (l : List ℕ). lines ++ l) part.1.1)
+    (part.2 ∙ rw moved (grown-grown _ _ _)))
+    c.write_workers.ensures.part
