@@ -164,7 +164,7 @@ module _ {Cell S : Type 0} (q : QueryFacts Cell) (job : JobFacts) (written : S �
   InTurn r = kind ≡ Write → WritesInTurn q job written faults s old new r
 
   lines_of : (r : Result Answered Stop) → InTurn r → IfDid r (λ x. kind ≡ Write → written new ≡ grown (written old) (lines_of_time q job.events x))
-  lines_of (Ok (worker.Did x)) w = w
+  lines_of (Ok (worker.Did x)) w = λ e. (w e).0
   lines_of r w = tt
 
   nothing_of : (r : Result Answered Stop) → InTurn r → ((kind ≡ Write → ⊥) → new ≡ old) → IfNotNow r (written new ≡ written old)
@@ -185,7 +185,15 @@ module _ {Cell S : Type 0} (q : QueryFacts Cell) (job : JobFacts) (written : S �
     part = part_of r w others;
   }
 
-  -- want of memory counts no fault
-  pub memory_of : (r : Result Answered Stop) → r ≡ Err stop.Memory → InTurn r → ((kind ≡ Write → ⊥) → new ≡ old) → faults new ≡ faults old
-  memory_of (Err stop.Memory) e w others = ⊎_elim (λ (f : kind ≡ Write). (w f).1) (λ (n : kind ≡ Write → ⊥). ap faults (others n)) (is_write kind)
-  memory_of r e w others = absurd (cc)
+  silent : (r : Result Answered Stop) → (r ≡ Err stop.Write → ⊥) → WritesInTurn q job written faults s old new r → faults new ≡ faults old
+  silent (Ok (worker.Did x)) not_failed w = w.1
+  silent (Ok (worker.Seen version)) not_failed w = absurd w
+  silent (Ok worker.NotNow) not_failed w = ap faults w
+  silent (Ok worker.Busy) not_failed w = absurd w
+  silent (Err stop.Write) not_failed w = absurd (not_failed refl)
+  silent (Err stop.Memory) not_failed w = w.1
+  silent (Err (stop.Other cause)) not_failed w = absurd w
+
+  -- only a write that failed counts a fault
+  pub no_fault_of : (r : Result Answered Stop) → (r ≡ Err stop.Write → ⊥) → InTurn r → ((kind ≡ Write → ⊥) → new ≡ old) → faults new ≡ faults old
+  no_fault_of r not_failed w others = ⊎_elim (λ (e : kind ≡ Write). silent r not_failed (w e)) (λ (n : kind ≡ Write → ⊥). ap faults (others n)) (is_write kind)

@@ -18,7 +18,8 @@ use std::alloc::Global;
 impl<'a, Q: Query, J: Naming> Plain<'a, Q, J> {
     /// Makes the steps of a list, each a worker and a kind, in order: what each answered, which is never
     /// `Busy`. The room for the answers is taken before the first step; `Memory` where there is none. Else
-    /// `Memory` and `Write` are those of the step that answered them, and the steps before it stay.
+    /// `Memory` and `Write` are those of the step that answered them, and the steps before it stay. Any
+    /// answer but `Write` leaves the sink's count of faults as it was.
     pub fn drive_list<S: Sink>(
         &mut self,
         alloc: Global,
@@ -38,6 +39,7 @@ impl<'a, Q: Query, J: Naming> Plain<'a, Q, J> {
             (before : Option (List ℕ)) → HasWritten q J.job.events before self.old (S.written sink.old)
             → OnErr result (HasBegun q J.job.events before (S.written sink.new)) }
         ensures failed { result ≡ Err Write → Rose (S.faults sink.old) (S.faults sink.new) }
+        ensures no_fault { result ≢ Err Write → S.faults sink.new ≡ S.faults sink.old }
         ensures appends_only { OnlyAppends S.frame S.faults sink.old sink.new }
     {
         // From here on the invariant is known: what is written so far is a beginning of the answer.

@@ -87,10 +87,10 @@ impl<'a, Q: Query, J: Naming> Plain<'a, Q, J> {
     }
 
     /// One step of a worker. It answers `NotNow` where the step can't be made now, as that of a worker, stage
-    /// or sender that the job hasn't, and never `Busy`. `Memory`: no memory, and no write failed. `Write`: a
-    /// write failed, which comes only of a write, where the sink's count of faults rose in this call or
-    /// stands at its last value, 2^64 - 1. With either no step is made; where it is a write, a part of the
-    /// lines of the next time, from their front, may be written.
+    /// or sender that the job hasn't, and never `Busy`. `Memory`: no memory. `Write`: a write failed, which
+    /// comes only of a write, where the sink's count of faults rose in this call or stands at its last
+    /// value, 2^64 - 1; any other answer leaves that count as it was. With either no step is made; where it
+    /// is a write, a part of the lines of the next time, from their front, may be written.
     pub fn step<S: Sink>(
         &mut self,
         worker: u32,
@@ -111,7 +111,7 @@ impl<'a, Q: Query, J: Naming> Plain<'a, Q, J> {
             → OnErr result (HasKept q J.job.events kind before self.new (S.written sink.new)) }
         ensures failed { result ≡ Err stop.Write
             → (kind ≡ Write) × Rose (S.faults sink.old) (S.faults sink.new) }
-        ensures memory { result ≡ Err stop.Memory → S.faults sink.new ≡ S.faults sink.old }
+        ensures no_fault { result ≢ Err stop.Write → S.faults sink.new ≡ S.faults sink.old }
         ensures appends_only { OnlyAppends S.frame S.faults sink.old sink.new }
     {
         if worker as usize >= self.workers.len() {

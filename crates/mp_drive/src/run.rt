@@ -1,5 +1,5 @@
 //! A whole run on one thread.
-ghost use Rattle.std.specs.Prelude.{◌≡◌, ◌<◌, ◌≤◌, ◌^◌, [], Err, IfOk, OnErr, OnOk};
+ghost use Rattle.std.specs.Prelude.{◌≡◌, ◌≢◌, ◌<◌, ◌≤◌, ◌^◌, [], Err, IfOk, OnErr, OnOk};
 ghost use Rattle.mp_outside.specs.Fault.{Rose};
 ghost use Rattle.mp_outside.specs.Sink.{OnlyAppends, grown};
 ghost use Rattle.mp_model.specs.Answers.{one_thread_answer};
@@ -20,7 +20,7 @@ use std::alloc::Global;
 /// and writes the answer: how many steps were made. The query's last stage gives rows alone. `Memory`: no
 /// memory, or more steps were made than a u64 counts, which no job that fits into memory has. `Write`: a
 /// write failed; only where the sink's count of faults rose in this call or stands at its last value, 2^64 -
-/// 1. With either a beginning of the answer is written.
+/// 1, and any other answer leaves that count as it was. With either a beginning of the answer is written.
 pub fn replay<Q: Query, J: Naming, S: Sink, G: Gate>(
     alloc: Global,
     job: &Job<Q>,
@@ -38,6 +38,7 @@ pub fn replay<Q: Query, J: Naming, S: Sink, G: Gate>(
     ensures part { let q = Q.facts J.job.rules in
         OnErr result (HasBegun q J.job.events (S.written sink.old) (S.written sink.new)) }
     ensures failed { result ≡ Err Write → Rose (S.faults sink.old) (S.faults sink.new) }
+    ensures no_fault { result ≢ Err Write → S.faults sink.new ≡ S.faults sink.old }
     ensures appends_only { OnlyAppends S.frame S.faults sink.old sink.new }
 {
     let mut plain = Plain::<Q, J>::open(alloc, job, depth)?;

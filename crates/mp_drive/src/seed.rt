@@ -1,5 +1,5 @@
 //! Driving by the seeded schedule.
-ghost use Rattle.std.specs.Prelude.{◌≡◌, ◌<◌, ◌≤◌, ℕ, [], Err, IfErr, IfOk, List, OnErr, OnOk, Option};
+ghost use Rattle.std.specs.Prelude.{◌≡◌, ◌≢◌, ◌<◌, ◌≤◌, ℕ, [], Err, IfErr, IfOk, List, OnErr, OnOk, Option};
 ghost use Rattle.mp_outside.specs.Fault.{Rose};
 ghost use Rattle.mp_outside.specs.Sink.{OnlyAppends, grown};
 ghost use Rattle.mp_model.specs.Answers.{one_thread_answer};
@@ -22,7 +22,8 @@ impl<'a, Q: Query, J: Naming> Plain<'a, Q, J> {
     /// end there is one draw; from the place that has its number, modulo the number of places, the steps are
     /// tried upward, wrapping round, until one is made. The gate is passed before each. `Memory`: the step
     /// that answered it had no memory, or more steps were made than a u64 counts, which no job that fits into
-    /// memory has. `Write` is that of the step that answered it. The steps before it stay.
+    /// memory has. `Write` is that of the step that answered it; any other answer leaves the sink's count of
+    /// faults as it was. The steps before it stay.
     pub fn drive_seed<S: Sink, G: Gate>(
         &mut self,
         seed: u64,
@@ -44,6 +45,7 @@ impl<'a, Q: Query, J: Naming> Plain<'a, Q, J> {
             (before : Option (List ℕ)) → HasWritten q J.job.events before self.old (S.written sink.old)
             → OnErr result (HasBegun q J.job.events before (S.written sink.new)) }
         ensures failed { result ≡ Err Write → Rose (S.faults sink.old) (S.faults sink.new) }
+        ensures no_fault { result ≢ Err Write → S.faults sink.new ≡ S.faults sink.old }
         ensures appends_only { OnlyAppends S.frame S.faults sink.old sink.new }
     {
         // From here on the invariant is known: a run of the machine leads to where the workers are.
@@ -84,6 +86,7 @@ impl<'a, Q: Query, J: Naming> Plain<'a, Q, J> {
             (before : Option (List ℕ)) → HasWritten q J.job.events before self.old (S.written sink.old)
             → OnErr result (HasBegun q J.job.events before (S.written sink.new)) }
         ensures failed { result ≡ Err Write → Rose (S.faults sink.old) (S.faults sink.new) }
+        ensures no_fault { result ≢ Err Write → S.faults sink.new ≡ S.faults sink.old }
         ensures appends_only { OnlyAppends S.frame S.faults sink.old sink.new }
     {
         let shape = self.job.shape();

@@ -7,7 +7,7 @@ use Rattle.std.proofs.lemmas.List.{map-append}
 use Rattle.atomic_table.specs.Table.{Final, Seen}
 use Rattle.atomic_table.specs.declared.shared.Seat.{Seat}
 use Rattle.mp_seat.specs.declared.view.SeatView.{SeatView}
-use Rattle.mp_seat.specs.Seats.{SeatState, LockIdentity, IsIdle, AreIdle, latest_version}
+use Rattle.mp_seat.specs.Seats.{SeatState, LockIdentity, IsIdle, AreInOrder, latest_version}
 use Rattle.mp_seat.specs.Rule.{KeepsRows, joined}
 use Rattle.mp_seat.specs.Seated.{seat_state, HasOneRow}
 use Rattle.mp_seat.proofs.Places.{each_last, each_fewer, one_of}
@@ -23,10 +23,10 @@ row_of s = s.row
 abbrev some_row : {R : Type 0} → R → Option R
 some_row r = Some r
 
-last_idle : {R : Type 0} (lock : LockIdentity) (before : List (SeatState R)) (x : SeatState R) → AreIdle lock (before ++ x ∷ []) → IsIdle lock x × (x.number ≡ length before)
+last_idle : {R : Type 0} (lock : LockIdentity) (before : List (SeatState R)) (x : SeatState R) → AreInOrder lock (before ++ x ∷ []) → IsIdle lock x × (x.number ≡ length before)
 last_idle {R} lock before x all = each_last (λ k (s : SeatState R). IsIdle lock s × (s.number ≡ k)) before x all
 
-pub fewer_idle : {R : Type 0} (lock : LockIdentity) (before : List (SeatState R)) (x : SeatState R) → AreIdle lock (before ++ x ∷ []) → AreIdle lock before
+pub fewer_idle : {R : Type 0} (lock : LockIdentity) (before : List (SeatState R)) (x : SeatState R) → AreInOrder lock (before ++ x ∷ []) → AreInOrder lock before
 fewer_idle {R} lock before x all = each_fewer (λ k (s : SeatState R). IsIdle lock s × (s.number ≡ k)) before x all
 
 module _ {T R : Type 0} (lock : LockIdentity) where
@@ -44,7 +44,7 @@ module _ {T R : Type 0} (lock : LockIdentity) where
   own_row : (s : Seat (Option T) (SeatView R)) (x : SeatState R) → seat_state s ≡ x → HasOneRow s → (r : R) × (s.me.0.own ≡ r ∷ []) × (x.row ≡ Some r)
   own_row s x is one = let r = one_of s.me.0.own one.one in (r.0, r.1, ap row_of (sym is) ∙ ap (λ (l : List R). slice_get l 0) r.1)
 
-  pub gather_first : (before : List (SeatState R)) (x : SeatState R) (s : Seat (Option T) (SeatView R)) → seat_state s ≡ x → HasOneRow s → AreIdle lock (before ++ x ∷ []) → length (before ++ x ∷ []) ≡ lock.seats
+  pub gather_first : (before : List (SeatState R)) (x : SeatState R) (s : Seat (Option T) (SeatView R)) → seat_state s ≡ x → HasOneRow s → AreInOrder lock (before ++ x ∷ []) → length (before ++ x ∷ []) ≡ lock.seats
       → Gathers before (before ++ x ∷ []) s
   gather_first before x s is one all many =
       let last = last_idle lock before x all in
@@ -63,7 +63,7 @@ module _ {T R : Type 0} (lock : LockIdentity) where
         version_is = omega (arith, latest-append before (x ∷ []));
       }
 
-  pub gather_meets : (before whole : List (SeatState R)) (x : SeatState R) (s w : Seat (Option T) (SeatView R)) → seat_state w ≡ x → HasOneRow w → AreIdle lock (before ++ x ∷ []) → Gathers (before ++ x ∷ []) whole s
+  pub gather_meets : (before whole : List (SeatState R)) (x : SeatState R) (s w : Seat (Option T) (SeatView R)) → seat_state w ≡ x → HasOneRow w → AreInOrder lock (before ++ x ∷ []) → Gathers (before ++ x ∷ []) whole s
       → (w.table_id ≡ lock.id) × (w.me.1 ≡ []) × (w.me.0.taken ≡ None) × (w.me.0.first + length w.me.0.own ≡ s.me.0.first)
   gather_meets before whole x s w is one all h =
       let last = last_idle lock before x all in
@@ -75,7 +75,7 @@ module _ {T R : Type 0} (lock : LockIdentity) where
         (let o = one.one in let f = h.first_is in omega (arith, length-append before (x ∷ []))),
       )
 
-  pub gather_more : (before whole : List (SeatState R)) (x : SeatState R) (s w s' : Seat (Option T) (SeatView R)) → seat_state w ≡ x → HasOneRow w → AreIdle lock (before ++ x ∷ []) → Gathers (before ++ x ∷ []) whole s
+  pub gather_more : (before whole : List (SeatState R)) (x : SeatState R) (s w s' : Seat (Option T) (SeatView R)) → seat_state w ≡ x → HasOneRow w → AreInOrder lock (before ++ x ∷ []) → Gathers (before ++ x ∷ []) whole s
       → s'.table_id ≡ s.table_id → s'.me ≡ (joined s.me.0 w.me.0, s.me.1) → Gathers before whole s'
   gather_more before whole x s w s' is one all h same joins =
       let last = last_idle lock before x all in

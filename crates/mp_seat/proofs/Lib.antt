@@ -3,3 +3,4 @@ pub mod Keeps
 pub mod Dealing
 pub mod Turns
 pub mod Gathering
+pub mod Sorting

@@ -76,3 +76,9 @@ each_fewer F (y ∷ xs) x all (suc k) a e = each_fewer (λ j. F (suc j)) xs x (�
 pub two_popped : {A : Type 0} (items mid rest : List A) (a b : A) → items ≡ mid ++ b ∷ [] → mid ≡ rest ++ a ∷ [] → length items ≡ 2 → items ≡ a ∷ b ∷ []
 two_popped items mid [] a b last first two = last ∙ ap (λ l. l ++ b ∷ []) first
 two_popped items mid (x ∷ rest) a b last first two = absurd (omega (arith, ap length last, length-append mid (b ∷ []), ap length first, length-append (x ∷ rest) (a ∷ [])))
+
+-- two elements that are pushed once two were popped of a list of two
+pub two_pushed : {A : Type 0} (items mid rest after more : List A) (a b x y : A) → items ≡ mid ++ b ∷ [] → mid ≡ rest ++ a ∷ [] → length items ≡ 2 → after ≡ rest ++ x ∷ [] → more ≡ after ++ y ∷ [] → more ≡ x ∷ y ∷ []
+two_pushed items mid [] after more a b x y last first two one both = both ∙ ap (λ l. l ++ y ∷ []) one
+two_pushed items mid (z ∷ rest) after more a b x y last first two one both =
+    absurd (omega (arith, ap length last, length-append mid (b ∷ []), ap length first, length-append (z ∷ rest) (a ∷ []), two))

@@ -1,5 +1,5 @@
 -- Seats and their lock, as contracts see them.
-use Rattle.std.specs.Prelude.{◌≡◌, ◌≢◌, ℕ, ◌<◌, List, [], ◌∷◌, Option, Some, None, slice_get, slice_set}
+use Rattle.std.specs.Prelude.{◌≡◌, ◌≢◌, ℕ, ◌<◌, List, [], ◌∷◌, length, Option, Some, None, slice_get, slice_set}
 use Prim.Native.Nat.{max}
 use Rattle.atomic_table.specs.Seated.{TableId}
 
@@ -48,8 +48,18 @@ module _ {R : Type 0} where
   AreNew lock rows version seats = (k : ℕ) (seat : SeatState R) → slice_get seats k ≡ Some seat → seat ≡ new_seat lock rows version k
 
   -- each seat is an idle one of this lock, and stands at its number
-  abbrev pub AreIdle : LockIdentity → List (SeatState R) → Type 0
-  AreIdle lock seats = (k : ℕ) (seat : SeatState R) → slice_get seats k ≡ Some seat → IsIdle lock seat × (seat.number ≡ k)
+  abbrev pub AreInOrder : LockIdentity → List (SeatState R) → Type 0
+  AreInOrder lock seats = (k : ℕ) (seat : SeatState R) → slice_get seats k ≡ Some seat → IsIdle lock seat × (seat.number ≡ k)
+
+  -- all seats of this lock, idle, each once, in any order: as many as it has, and one of each number
+  pub record AreAll (lock : LockIdentity) (seats : List (SeatState R)) : Type 0 where
+    pub idle : (k : ℕ) (seat : SeatState R) → slice_get seats k ≡ Some seat → IsIdle lock seat
+    pub many : length seats ≡ lock.seats
+    pub each : (number : ℕ) → number < lock.seats → (k : ℕ) × (seat : SeatState R) × (slice_get seats k ≡ Some seat) × (seat.number ≡ number)
+
+  -- the row of each seat stands at its number in these rows
+  abbrev pub HaveRows : List R → List (SeatState R) → Type 0
+  HaveRows rows seats = (k : ℕ) (seat : SeatState R) → slice_get seats k ≡ Some seat → slice_get rows seat.number ≡ seat.row
 
   -- the greatest version that one of the seats has seen
   abbrev pub latest_version : List (SeatState R) → ℕ

@@ -1,6 +1,6 @@
 //! The lock.
 ghost use Rattle.std.specs.Prelude.{◌≡◌, ◌<◌, ◌≤◌, [], length, map, Some, slice_get, IfOk, IfSome, IfNone, vec_capacity, ◌+◌};
-ghost use Rattle.mp_seat.specs.Seats.{IsIdle, AreIdle, AreNew, HasOthers, ChangesOwnRow, holding, resting, new_seat, latest_version};
+ghost use Rattle.mp_seat.specs.Seats.{IsIdle, AreAll, AreInOrder, AreNew, HasOthers, HaveRows, ChangesOwnRow, holding, resting, new_seat, latest_version};
 ghost use Rattle.mp_seat.specs.Seated.{HasRest};
 
 use crate::rows::Rows;
@@ -75,16 +75,20 @@ impl<T: Rows> SeatLock<T> {
         ensures many { length result.items ≡ seats }
         ensures new { AreNew self.now (T.rows opened.now.value) (T.version opened.now.value) result.items }
     {
-        for _ in 1..seats {
-            let next = self.deal(opened, &mut all);
+        for number in 0..seats - 1 {
+            let next = self.deal(opened, &mut all, number);
             list.push_reserved(next);
         }
-        list.push_reserved(Seat { inner: all });
+        list.push_reserved(Seat {
+            inner: all,
+            number: seats - 1,
+        });
         list
     }
 
-    // Gives the first row that is left to a seat of its own.
-    fn deal(&self, opened: &Snapshot<T>, rest: &mut Inner<T>) -> Seat<T>
+    // Gives the first row that is left to a seat of its own, which has this number.
+    fn deal(&self, opened: &Snapshot<T>, rest: &mut Inner<T>, number: u32) -> Seat<T>
+        requires number { rest.old.me.0.first ≡ number }
         requires rest { HasRest self.now (T.rows opened.now.value) (T.version opened.now.value) rest.old.me.0.first rest.old }
         requires more { rest.old.me.0.first < length (T.rows opened.now.value) }
         ensures rest { HasRest self.now (T.rows opened.now.value) (T.version opened.now.value) (rest.old.me.0.first + 1) rest.new }
@@ -93,6 +97,7 @@ impl<T: Rows> SeatLock<T> {
         let _ = opened;
         Seat {
             inner: self.table.shared.split_seat::<FirstRow>(rest),
+            number,
         }
     }
 
@@ -151,10 +156,21 @@ impl<T: Rows> SeatLock<T> {
         self.table.shared.store::<Puts>(&mut seat.inner, 0, 0);
     }
 
-    /// Gives the value as it was put last, for all seats of the lock in the order of their numbers. (A seat has no
-    /// bytes, so it couldn't be sorted here.)
+    /// Gives the value as it was put last, for all seats of the lock, in any order.
     pub fn close(self, mut seats: Vec<Seat<T>>) -> T
-        requires seats { AreIdle self seats.items }
+        requires seats { AreAll self seats.items }
+
+        ensures many { length (T.rows result) ≡ self.seats }
+        ensures rows { HaveRows (T.rows result) seats.items }
+        ensures version { T.version result ≡ latest_version seats.items }
+    {
+        seats.sort_unstable_by_key(|seat| seat.number());
+        self.close_in_order(seats)
+    }
+
+    // The same, for all seats in the order of their numbers.
+    fn close_in_order(self, mut seats: Vec<Seat<T>>) -> T
+        requires seats { AreInOrder self seats.items }
         requires all { length seats.items ≡ self.seats }
 
         ensures rows { map (λ row. Some row) (T.rows result) ≡ map (λ seat. seat.row) seats.items }

@@ -99,6 +99,40 @@ fn two_seats(rt: HostRuntime) -> Result<(), Fail> {
     Ok(())
 }
 
+// Closes a lock of two seats, which it is given in another order than that of their numbers.
+fn close_turned(
+    alloc: Global,
+    lock: SeatLock<Counts>,
+    first: Seat<Counts>,
+    second: Seat<Counts>,
+) -> Result<Counts, AllocError>
+    requires lock { lock.seats ≡ 2 }
+    requires first_idle { IsIdle lock first }
+    requires first { first.number ≡ 0 }
+    requires second_idle { IsIdle lock second }
+    requires second { second.number ≡ 1 }
+{
+    let mut seats = Vec::with_capacity(alloc, 2)?;
+    seats.push_reserved(second);
+    seats.push_reserved(first);
+    Ok(lock.close(seats))
+}
+
+#[test]
+fn closed_in_another_order(rt: HostRuntime) -> Result<(), Fail> {
+    let (lock, mut seats) = SeatLock::open(rt.alloc(), Counts::new(), 2)?;
+    let second = seats.pop().expect(&rt, "seat 1");
+    let mut first = seats.pop().expect(&rt, "seat 0");
+    assert_eq!(rt; (first.number(), second.number()), (0, 1));
+
+    let counts = lock.try_take(&mut first).expect(&rt, "the numbers");
+    raise_and_put(&lock, &mut first, counts, 0, 0);
+    let counts = close_turned(rt.alloc(), lock, first, second)?;
+    assert_eq!(rt; counts.left(), 1);
+    assert_eq!(rt; counts.raised(), 1);
+    Ok(())
+}
+
 // Where a lock has one seat, its take never finds the value away.
 fn take_alone<T: Rows>(lock: &SeatLock<T>, seat: &mut Seat<T>) -> Option<T>
     requires { IsIdle lock.now seat.old × (seat.old.seats ≡ 1) × (seat.old.number ≡ 0) }

@@ -32,16 +32,16 @@ module _ {Cell S : Type 0} (q : QueryFacts Cell) (job : JobFacts) (written : S �
   abbrev pub WritesTime : Name → Type 0
   WritesTime x = written new ≡ grown (written old) (lines_of_time q job.events x)
 
-  -- what a write came to: all lines of a time, or nothing; or no more than a part, where a write failed, or where there was no memory, and no write failed
+  -- what a write came to: all lines of a time, or nothing; or no more than a part, where a write failed or there was no memory. Only one that failed counts a fault
   abbrev pub Writes : Result (Option Name) OutRefused → Type 0
-  Writes (Ok (Some x)) = WritesTime x
+  Writes (Ok (Some x)) = WritesTime x × (faults new ≡ faults old)
   Writes (Ok None) = new ≡ old
   Writes (Err WriteFault) = WritesNoMore × Rose (faults old) (faults new)
   Writes (Err NoMemory) = WritesNoMore × (faults new ≡ faults old)
 
   -- the same of a step of a worker
   abbrev pub WritesInTurn : Result Turn Stop → Type 0
-  WritesInTurn (Ok (turn.Did x)) = WritesTime x
+  WritesInTurn (Ok (turn.Did x)) = WritesTime x × (faults new ≡ faults old)
   WritesInTurn (Ok turn.NotNow) = new ≡ old
   WritesInTurn (Err stop.Write) = WritesNoMore × Rose (faults old) (faults new)
   WritesInTurn (Err stop.Memory) = WritesNoMore × (faults new ≡ faults old)

@@ -66,6 +66,14 @@ returns-in_err-turn-clause-failed g c = λ e.
     let here : c.in_err-turn.field-0.0 ≡ Write = cc in
     rose_later _ _ _ c.loop-worker.invariant.appends.faults_grow (c.in_err-turn.ensures.failed (ap Err here)).1
 
+pub returns-in_err-turn-clause-no_fault : goal.returns-in_err-turn-clause-no_fault
+returns-in_err-turn-clause-no_fault g c = λ not_failed.
+    let p = err_from_is_err_and c.from_residual.result c.from_residual.ensures.1 in
+    c.in_err-turn.ensures.no_fault (λ e. let here : c.in_err-turn.field-0.0 ≡ Write = cc in not_failed (p.1 ∙ ap Err (p.2 ∙ here))) ∙ c.loop-worker.invariant.quiet
+
+pub returns-clause-no_fault : goal.returns-clause-no_fault
+returns-clause-no_fault g c = λ not_failed. c.loop-worker.invariant.quiet
+
 pub returns-in_err-turn-clause-appends_only : goal.returns-in_err-turn-clause-appends_only
 returns-in_err-turn-clause-appends_only g c = appends_further g.S.Sink.frame g.S.Sink.faults c.args.sink.now c.loop-worker.sink c.step.new.sink c.loop-worker.invariant.appends c.in_err-turn.ensures.appends_only
 
@@ -86,6 +94,7 @@ loop-worker-preserved g c =
       lead = one_more o c.args.self.now c.loop-worker.self c.step.new.self c.args.steps.now c.loop-worker.worker-index _ turns c.push_reserved.new.self.items turn c.loop-worker-test.true pushed.items i.lead next.turn;
       not_busy = subst (All (λ turn. turn ≡ Busy → ⊥)) (sym pushed.items) (All-push (λ turn. turn ≡ Busy → ⊥) turns turn i.not_busy next.not_busy);
       written = λ before has. next.written before (i.written before has);
+      quiet = next.no_fault (λ e. cc) ∙ i.quiet;
       appends = appends_further g.S.Sink.frame g.S.Sink.faults c.args.sink.now c.loop-worker.sink c.step.new.sink i.appends next.appends_only;
     }
 

@@ -12,5 +12,6 @@ invariant-loop-worker g l = let job = g.J.Naming.job in let q = g.Q.Query.facts 
   lead : LeadsOn (outline_of q job) (take l.worker-index l.steps) (map turn_in l.turns.items) l.initial.self l.self;
   not_busy : All (λ turn. turn ≡ Busy → ⊥) l.turns.items;
   written : (before : Option (List ℕ)) → HasWritten q job.events before l.initial.self (g.S.Sink.written l.initial.sink) → HasWritten q job.events before l.self (g.S.Sink.written l.sink);
+  quiet : g.S.Sink.faults l.sink ≡ g.S.Sink.faults l.initial.sink;
   appends : OnlyAppends g.S.Sink.frame g.S.Sink.faults l.initial.sink l.sink;
 }

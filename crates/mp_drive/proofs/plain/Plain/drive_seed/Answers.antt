@@ -31,6 +31,7 @@ loop-draws-init g c =
       by = begins_by_none o c.args.seed c.args.self.now;
       drawn = c.of-draws.ensures;
       written = λ before had. had;
+      quiet = refl;
       appends = appends_none g.S.Sink.frame g.S.Sink.faults c.args.sink.now;
     }
 
@@ -88,8 +89,19 @@ returns-in_err-step_from-clause-kept g c =
           (subst (λ (d : ℕ). RefusesDraw q job d why [] c.loop-draws.self c.step_from.new.self (g.S.Sink.written c.loop-draws.sink) has) drawn e.refused);
     })
 
+pub returns-in_default-clause-no_fault : goal.returns-in_default-clause-no_fault
+returns-in_default-clause-no_fault g c = λ not_failed. c.loop-draws.invariant.quiet
+
+pub returns-clause-no_fault : goal.returns-clause-no_fault
+returns-clause-no_fault g c = λ not_failed. c.loop-draws.invariant.quiet
+
 pub returns-in_default-clause-appends_only : goal.returns-in_default-clause-appends_only
 returns-in_default-clause-appends_only g c = c.loop-draws.invariant.appends
+
+pub returns-in_err-step_from-clause-no_fault : goal.returns-in_err-step_from-clause-no_fault
+returns-in_err-step_from-clause-no_fault g c = λ not_failed.
+    let p = err_from_is_err_and c.from_residual.result c.from_residual.ensures.1 in
+    c.in_err-step_from.ensures.no_fault (λ e. let here : c.in_err-step_from.field-0.0 ≡ Write = cc in not_failed (p.1 ∙ ap Err (p.2 ∙ here))) ∙ c.loop-draws.invariant.quiet
 
 pub returns-in_err-step_from-clause-appends_only : goal.returns-in_err-step_from-clause-appends_only
 returns-in_err-step_from-clause-appends_only g c = appends_further g.S.Sink.frame g.S.Sink.faults c.args.sink.now c.loop-draws.sink c.step_from.new.sink c.loop-draws.invariant.appends c.in_err-step_from.ensures.appends_only
@@ -109,6 +121,7 @@ loop-draws-preserved g c =
           (leads_by_one_more o c.args.seed c.loop-draws.made c.args.self.now c.loop-draws.self c.step_from.new.self c.loop-draws.invariant.by unfinished (subst (λ (d : ℕ). MakesPick o d c.loop-draws.self c.step_from.new.self) drawn c.in_ok-step_from.ensures.made));
       drawn = c.draw.ensures.state ∙ drawn ∙ ap (state_after c.args.seed) (sym one_more);
       written = λ before had. c.in_ok-step_from.ensures.written before (c.loop-draws.invariant.written before had);
+      quiet = c.in_ok-step_from.ensures.no_fault (λ e. cc) ∙ c.loop-draws.invariant.quiet;
       appends = appends_further g.S.Sink.frame g.S.Sink.faults c.args.sink.now c.loop-draws.sink c.step_from.new.sink c.loop-draws.invariant.appends c.in_ok-step_from.ensures.appends_only;
     }
 

@@ -13,6 +13,7 @@ invariant-loop-draws g l =
       by : LeadsBy (outline_of q g.J.Naming.job) l.seed l.made l.fn.self l.self;
       drawn : l.draws ≡ state_after l.seed l.made;
       written : (before : Option (List ℕ)) → HasWritten q g.J.Naming.job.events before l.fn.self (g.S.Sink.written l.fn.sink) → HasWritten q g.J.Naming.job.events before l.self (g.S.Sink.written l.sink);
+      quiet : g.S.Sink.faults l.sink ≡ g.S.Sink.faults l.fn.sink;
       appends : OnlyAppends g.S.Sink.frame g.S.Sink.faults l.fn.sink l.sink;
     }
 

@@ -9,7 +9,7 @@ use Rattle.mp_machine.specs.Runs.{NotNow}
 use Rattle.mp_drive.specs.Driven.{HasWritten, LeadsOn}
 use Rattle.mp_drive.specs.Kept.{together}
 use Rattle.mp_drive.proofs.Turned.{Passes, at_hub, at_post, leads_nowhere_on_err, leads_on_if_ok, leads_on_outside, not_busy_if_ok, number_is, placed, same_cause, still_reached}
-use Rattle.mp_drive.proofs.Told.{Says, Writes, memory_of, says_of, writes_of}
+use Rattle.mp_drive.proofs.Told.{Says, Writes, no_fault_of, says_of, writes_of}
 use Rattle.mp_drive.proofs.Written.{kept_on_err, written_on_ok}
 use Rattle.mp_drive.proofs.plain.Plain.step.Given as given
 use Rattle.mp_drive.proofs.plain.Plain.step.Goals as goal
@@ -130,12 +130,15 @@ returns-then-worker-len-clause-turn g c =
     let t = together c.self.inside.workers.items c.self.inside.board c.self.inside.post in
     subst (λ (u : SystemState). LeadsOn o ((c.args.worker, c.args.kind) ∷ []) (NotNow ∷ []) u u) c.self.view_is (leads_on_outside o (sound g c.self.invariant.legal) t c.args.worker c.args.kind c.self.invariant.reached (omega (arith, c.len.ensures, c.if-worker-len.true)))
 
-pub returns-clause-memory : goal.returns-clause-memory
-returns-clause-memory g c = λ e.
+pub returns-clause-no_fault : goal.returns-clause-no_fault
+returns-clause-no_fault g c = λ not_failed.
     let job = g.J.Naming.job in
+    let quiet = no_fault_of (g.Q.Query.facts job.rules) job g.S.Sink.written g.S.Sink.faults c.args.kind c.index_mut-worker.result.now c.args.sink.now c.step.new.sink c.step.result in
+    let e = c.step.ensures in
     elim c.match-step.branch as (λ b. g.S.Sink.faults c.step.new.sink ≡ g.S.Sink.faults c.args.sink.now) [
-      | in-Ok w ↦ let is = w.result-is in absurd (cc)
-      | in-Err-Write w ↦ let is = w.result-is in absurd (cc)
+      | in-Ok w ↦ let is = w.in-Ok.is in quiet (λ f. cc) e.writes e.others_write_nothing
+      | in-Err-Write w ↦ absurd (not_failed w.result-is)
       | in-Err-Memory w ↦
-          memory_of (g.Q.Query.facts job.rules) job g.S.Sink.written g.S.Sink.faults c.args.kind c.index_mut-worker.result.now c.args.sink.now c.step.new.sink c.step.result (w.in-Err-Memory.is ∙ ap Err w.in-Err-Memory.field-0-is) c.step.ensures.writes c.step.ensures.others_write_nothing
+          let is = w.in-Err-Memory.is ∙ ap Err w.in-Err-Memory.field-0-is in
+          quiet (λ f. cc) e.writes e.others_write_nothing
     ]

@@ -46,6 +46,7 @@ loop-tried-init g c =
       still = still_there o c.args.self.now;
       none = λ k l. absurd (omega arith);
       written = λ before had. had;
+      quiet = refl;
       appends = appends_none g.S.Sink.frame g.S.Sink.faults c.args.sink.now;
     }
 
@@ -135,8 +136,16 @@ returns-then-matches-clause-made g c =
 pub returns-then-matches-clause-written : goal.returns-then-matches-clause-written
 returns-then-matches-clause-written g c = λ before had. c.in_ok-turn.ensures.written before (c.loop-tried.invariant.written before had)
 
+pub returns-in_err-turn-clause-no_fault : goal.returns-in_err-turn-clause-no_fault
+returns-in_err-turn-clause-no_fault g c = λ not_failed.
+    let p = err_from_is_err_and c.from_residual.result c.from_residual.ensures.1 in
+    c.in_err-turn.ensures.no_fault (λ e. let here : c.in_err-turn.field-0.0 ≡ Write = cc in not_failed (p.1 ∙ ap Err (p.2 ∙ here))) ∙ c.loop-tried.invariant.quiet
+
 pub returns-in_err-turn-clause-appends_only : goal.returns-in_err-turn-clause-appends_only
 returns-in_err-turn-clause-appends_only g c = appends_further g.S.Sink.frame g.S.Sink.faults c.args.sink.now c.loop-tried.sink c.step.new.sink c.loop-tried.invariant.appends c.in_err-turn.ensures.appends_only
+
+pub returns-then-matches-clause-no_fault : goal.returns-then-matches-clause-no_fault
+returns-then-matches-clause-no_fault g c = λ not_failed. c.in_ok-turn.ensures.no_fault (λ e. cc) ∙ c.loop-tried.invariant.quiet
 
 pub returns-then-matches-clause-appends_only : goal.returns-then-matches-clause-appends_only
 returns-then-matches-clause-appends_only g c = appends_further g.S.Sink.frame g.S.Sink.faults c.args.sink.now c.loop-tried.sink c.step.new.sink c.loop-tried.invariant.appends c.in_ok-turn.ensures.appends_only
@@ -160,6 +169,7 @@ loop-tried-preserved g c =
             still = leads_further o [] [] [] [] c.args.self.now c.loop-tried.self c.step.new.self c.loop-tried.invariant.still (leads_nowhere o place c.loop-tried.self c.step.new.self lead);
             none = none_more o c.args.self.now (c.args.draw % length (places o)) c.loop-tried.tried place c.loop-tried.self c.step.new.self c.loop-tried.invariant.none c.loop-tried.invariant.still is lead;
             written = λ before had. c.in_ok-turn.ensures.written before (c.loop-tried.invariant.written before had);
+            quiet = c.in_ok-turn.ensures.no_fault (λ e. cc) ∙ c.loop-tried.invariant.quiet;
             appends = appends_further g.S.Sink.frame g.S.Sink.faults c.args.sink.now c.loop-tried.sink c.step.new.sink c.loop-tried.invariant.appends c.in_ok-turn.ensures.appends_only;
           }
     ]

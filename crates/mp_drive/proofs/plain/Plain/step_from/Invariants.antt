@@ -14,5 +14,6 @@ invariant-loop-tried g l =
       still : LeadsOn o [] [] l.fn.self l.self;
       none : NoneOf o l.fn.self (l.draw % length (places o)) l.tried;
       written : (before : Option (List ℕ)) → HasWritten q g.J.Naming.job.events before l.fn.self (g.S.Sink.written l.fn.sink) → HasWritten q g.J.Naming.job.events before l.self (g.S.Sink.written l.sink);
+      quiet : g.S.Sink.faults l.sink ≡ g.S.Sink.faults l.fn.sink;
       appends : OnlyAppends g.S.Sink.frame g.S.Sink.faults l.fn.sink l.sink;
     }

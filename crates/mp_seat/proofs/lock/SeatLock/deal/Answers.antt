@@ -11,7 +11,7 @@ split_seat-requires g c =
     (h.of_lock ∙ sym (ap (λ l. l.id) c.self.view_is), word, may_split g.T.Rows.rows g.T.Rows.version _ _ _ t.0 _ (h.own_is ∙ t.2) h.idle)
 
 pub invariant_of-result : goal.invariant_of-result
-invariant_of-result g c = dealt_has_one _ _ _ _ _ c.split_seat.result c.requires.rest c.requires.more c.split_seat.ensures.4
+invariant_of-result g c = (dealt_has_one _ _ _ _ _ c.split_seat.result c.requires.rest c.requires.more c.split_seat.ensures.4, ap (λ m. m.0.first) c.split_seat.ensures.4 ∙ c.requires.number)
 
 pub returns-clause-rest : goal.returns-clause-rest
 returns-clause-rest g c = rest_of _ _ _ _ _ c.split_seat.new.seat c.requires.rest c.requires.more c.split_seat.ensures.0 c.split_seat.ensures.2

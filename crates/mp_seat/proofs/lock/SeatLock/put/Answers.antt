@@ -12,11 +12,11 @@ pub store-requires : goal.store-requires
 store-requires g c =
     let word : 0 < c.self.inside.table.shared.table_id.words = omega (arith, c.self.invariant.words) in
     let e = c.exchange-before.ensures in
-    let own = one_of c.seat.inside.inner.me.0.own c.seat.invariant.one in
+    let own = one_of c.seat.inside.inner.me.0.own c.seat.invariant.0.one in
     let changed = c.requires.row in
     let view : c.exchange-before.new.seat.me.0 ≡ c.seat.inside.inner.me.0 = ap (λ m. m.0) e.3 in
     let holds : c.seat.inside.inner.me.0.taken ≡ Some changed.0 = ap (λ s. s.taken) c.seat.view_is ∙ changed.2 in
-    let carried : c.exchange-before.new.seat.me.1 ≡ (0, Some c.args.value) ∷ [] = ap (λ m. m.1) e.3 ∙ ap (λ l. (0, Some c.args.value) ∷ rest l) (c.seat.invariant.holds changed.0 holds) in
+    let carried : c.exchange-before.new.seat.me.1 ≡ (0, Some c.args.value) ∷ [] = ap (λ m. m.1) e.3 ∙ ap (λ l. (0, Some c.args.value) ∷ rest l) (c.seat.invariant.0.holds changed.0 holds) in
     let place : c.exchange-before.new.seat.me.0.first ≡ c.args.seat.now.number = ap (λ v. v.first) view ∙ ap (λ s. s.number) c.seat.view_is in
     let seen : c.exchange-before.new.seat.me.0.version ≡ c.args.seat.now.version = ap (λ v. v.version) view ∙ ap (λ s. s.version) c.seat.view_is in
     let later : c.exchange-before.new.seat.me.0.version ≤ g.T.Rows.version c.args.value = omega (arith, c.requires.version) in (
@@ -31,7 +31,7 @@ returns g c =
     let changed = c.requires.row in
     let view : c.exchange-before.new.seat.me.0 ≡ c.seat.inside.inner.me.0 = ap (λ m. m.0) e.3 in
     let holds : c.seat.inside.inner.me.0.taken ≡ Some changed.0 = ap (λ s. s.taken) c.seat.view_is ∙ changed.2 in
-    let carried : c.exchange-before.new.seat.me.1 ≡ (0, Some c.args.value) ∷ [] = ap (λ m. m.1) e.3 ∙ ap (λ l. (0, Some c.args.value) ∷ rest l) (c.seat.invariant.holds changed.0 holds) in
+    let carried : c.exchange-before.new.seat.me.1 ≡ (0, Some c.args.value) ∷ [] = ap (λ m. m.1) e.3 ∙ ap (λ l. (0, Some c.args.value) ∷ rest l) (c.seat.invariant.0.holds changed.0 holds) in
     let told = (c.store.ensures.2 c.args.value carried).1 in
     rests c.seat.inside.inner c.store.new.seat c.args.seat.now (g.T.Rows.rows c.args.value) (g.T.Rows.version c.args.value) told.0 c.seat.view_is (c.store.ensures.0 ∙ e.0)
     (told.2 ∙ ap (λ v. putting v told.0 (g.T.Rows.version c.args.value)) view)

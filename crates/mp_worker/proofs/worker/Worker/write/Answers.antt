@@ -44,5 +44,7 @@ returns-in_ok-push-in-Time-clause-writes g c =
     let kept = c.self.invariant in
     let due = rw c.in-Time.is at c.in_ok-time.ensures.due in
     let lines = rw c.in-Time.is at c.in_ok-time.ensures.lines in
-    let answer = rw c.in-Time.is at c.in_ok-time.ensures.answer in
-    lines ∙ ap (λ (bytes : List ℕ). grown (g.S.Sink.written c.args.sink.now) bytes) (answer _ kept.parts.unwritten (rows_have_come q job _ kept.parts _ kept.number c.if-self-ne0.false _ due))
+    let answer = rw c.in-Time.is at c.in_ok-time.ensures.answer in (
+      lines ∙ ap (λ (bytes : List ℕ). grown (g.S.Sink.written c.args.sink.now) bytes) (answer _ kept.parts.unwritten (rows_have_come q job _ kept.parts _ kept.number c.if-self-ne0.false _ due)),
+      c.in_ok-time.ensures.no_fault (λ e. cc),
+    )
