@@ -30,20 +30,19 @@ pub fn location_after(stage: u32, stages: u32) -> Loc
     }
 }
 
-/// Makes room for this many outputs that go to a stage: in its router, or where there is no such stage in the answer rows.
-/// `AllocError`: no memory, and nothing but rooms changes.
+/// Makes room for this many outputs that go to the stage `at`: in its router, or where there is no such stage in the answer
+/// rows. `AllocError`: no memory, and nothing but rooms changes.
 pub fn make_room_onward<Q: Query, J: Naming>(
-    stage: u32,
+    at: usize,
     count: u64,
     routers: &mut [Router<Q, J>],
     unsent: &mut Unsent<Q, J>,
 ) -> Result<(), AllocError>
     ensures held { map content routers.new ≡ map content routers.old }
     ensures rows { unsent.new.rows ≡ unsent.old.rows }
-    ensures router { OnOk result ((r : Routed) → slice_get routers.new stage ≡ Some r → count ≤ r.room) }
-    ensures unsent { OnOk result (slice_get routers.new stage ≡ None → count ≤ unsent.new.room) }
+    ensures router { OnOk result ((r : Routed) → slice_get routers.new at ≡ Some r → count ≤ r.room) }
+    ensures unsent { OnOk result (slice_get routers.new at ≡ None → count ≤ unsent.new.room) }
 {
-    let at = stage as usize;
     if at < routers.len() {
         routers[at].make_room(count)
     } else {

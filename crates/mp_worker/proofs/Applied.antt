@@ -1,54 +1,54 @@
 -- What becomes of the parts of a worker where a group is applied.
-use Rattle.std.proofs.Common.{◌≡◌, ◌≢◌, ◌↔◌, ℕ, suc, ◌+◌, ◌<◌, ◌≤◌, ◌⊎◌, ◌==◌, Bool, true, false, if◌then◌else◌, List, [], ◌∷◌, ◌++◌, All, AllPairs, Contains, IsSome, drop, get_or, length, map, pos, set, take, sym, ap, ◌∙◌, subst, ⊎_elim, arith}
-use Rattle.std.proofs.Math.ListN.{drop_of_length-le, get_or-map}
+use Rattle.std.proofs.Common.{IfSome, None, Option, is_some, not, ◌≡◌, ◌≢◌, ◌↔◌, ℕ, suc, ◌+◌, ◌<◌, ◌≤◌, ◌⊎◌, ◌==◌, Bool, true, false, if◌then◌else◌, List, [], ◌∷◌, ◌++◌, All, AllPairs, Contains, IsSome, Some, drop, get_or, length, map, pos, set, slice_get, take, sym, ap, ◌∙◌, subst, ⊎_elim, arith}
+use Rattle.std.proofs.Math.ListN.{drop_of_length-le}
 use Rattle.std.proofs.Math.Seq.{take-length}
-use Rattle.std.proofs.lemmas.Bool.{cases_order}
+use Rattle.std.proofs.lemmas.Bool.{cases_order, false≢true}
 use Rattle.std.proofs.lemmas.List.{append-nil, length-map, set-get_or}
+use Rattle.std.proofs.lemmas.Option.{slice_get-get_or}
 use Rattle.mp_names.specs.declared.kinds.Kind.TheVariants.{Apply}
 use Rattle.mp_names.specs.declared.locations.Loc.{Loc}
 use Rattle.mp_names.specs.declared.locations.Loc.TheVariants.{Host}
 use Rattle.mp_names.specs.declared.names.Name.{Name}
 use Rattle.mp_names.specs.declared.names.Name.TheVariants.{Group}
-use Rattle.mp_names.specs.declared.pointstamps.ControlCursor.{ControlCursor}
 use Rattle.mp_names.specs.Keeping.{IsWaiting}
 use Rattle.mp_names.specs.Logs.{Log, is_pending, with_applied}
-use Rattle.mp_names.specs.Outlines.{OutlineIsSound}
-use Rattle.mp_machine.specs.Steps.{IsNext, IsReady}
 use Rattle.mp_stamps.specs.declared.seen.Seen.{Seen}
 use Rattle.mp_bins.specs.Notes.{Notes}
 use Rattle.mp_names.specs.Limits.{last_time}
 use Rattle.mp_model.specs.declared.value.Value.{Value}
 use Rattle.mp_model.specs.Facts.{JobFacts, QueryFacts}
-use Rattle.mp_model.specs.Folds.{outputs_at}
-use Rattle.mp_model.specs.QueryLaws.{HasStages, LaterStagesPostNothing, OutputsHaveKeys, PostsAreLater}
-use Rattle.mp_model.specs.Stages.{answer_rows}
+use Rattle.mp_model.specs.Folds.{cell_before, outputs_at}
+use Rattle.mp_model.specs.Stages.{answer_rows, stage_records}
 use Rattle.mp_rows.specs.Entries.{AreChanges, change_at}
 use Rattle.mp_rows.specs.WorkerLog.{WorkerLog}
 use Rattle.mp_count_laws.specs.Changes.{location_after, one_less, one_more, outputs_of, some_more}
 use Rattle.mp_count_laws.proofs.Applied.{applied}
 use Rattle.mp_outline.specs.JobOutline.{name_of_record, name_of_row, outline_of}
-use Rattle.mp_outline.proofs.Soundness.{outline_is_sound}
+use Rattle.mp_outline.specs.Laws.{group_at}
 use Rattle.mp_msg.specs.Contents.{IsRecordOf}
 use Rattle.mp_route.specs.Routed.{Routed}
 use Rattle.mp_route.specs.Unsent.{HoldsAllBut, HoldsUnsent}
-use Rattle.mp_handoff.specs.MoversState.{MoversState}
-use Rattle.mp_output.specs.Unwritten.{Unwritten}
+use Rattle.mp_model.specs.declared.record.Output.{Output}
+use Rattle.mp_host_laws.specs.Applying.{IsApplied, woken_by}
 use Rattle.mp_host_laws.specs.Hosted.{Hosted}
+use Rattle.mp_host.specs.Ready.{IsReadyHere}
+use Rattle.mp_host.specs.Telling.{AppliesGroup}
 use Rattle.mp_host_laws.specs.HostOf.{IsHostOf, HostMatchesLogAndSeen, IsReadyAt, OwnersAreCurrent}
 use Rattle.mp_worker_invariant.specs.Given.{values_given}
 use Rattle.mp_worker_invariant.specs.Kept.{PartsAreAsked, StepsKeepParts}
-use Rattle.mp_worker_invariant.specs.Laws.{ConditionsAreTold, GroupsHandOn}
-use Rattle.mp_worker_invariant.specs.Machine.{machine_worker}
+use Rattle.mp_worker_invariant.specs.Laws.{CanDo, ConditionsAreTold, GroupsHandOn}
 use Rattle.mp_worker_invariant.specs.Parts.{AtEach, HoldsRowsBut, IsHostAt, IsRouterAt, Parts}
 use Rattle.mp_worker_invariant.proofs.Asked.{parts_are_asked}
 use Rattle.mp_worker_invariant.proofs.Conditions.{conditions_are_told}
 use Rattle.mp_worker_invariant.proofs.Handed.{groups_hand_on}
 use Rattle.mp_worker_invariant.proofs.Kept.{steps_keep_parts}
 use Rattle.mp_refinement.specs.State.{CanMake, WorkerState}
-use Rattle.mp_worker.specs.Kept.{IsKept, parts_with}
+use Rattle.mp_worker.specs.Kept.{IsKept}
 use Rattle.mp_parts.specs.Onward.{content, records_at}
-use Rattle.mp_worker.proofs.Keeping.{kept_as, other_routers}
-use Rattle.mp_worker.proofs.Counted.{group_in_time, number_of_records, number_of_rows, values_have_keys}
+use Rattle.mp_worker.proofs.Keeping.{kept_by, other_routers}
+use Rattle.mp_worker.proofs.Making.{can_do, can_make, state}
+use Rattle.mp_worker.proofs.Roomy.{same_each, same_length}
+use Rattle.mp_worker.proofs.Counted.{group_in_time, number_of_records, number_of_rows, values_have_keys, woken_once}
 
 -- a stage has a next one, or is the last
 either_stage : (m n : ℕ) → m ≤ n → (A : Type 0) → (m < n → A) → (m ≡ n → A) → A
@@ -68,10 +68,6 @@ changes_length host onward t n woke = by_number (n == 0)
     by_number true = let l = length-map woke (one_more host) in omega arith
     by_number false = let l = length-map woke (one_more host) in omega arith
 
--- routers of which none is gone
-pub same_length : (new old : List Routed) → map content new ≡ map content old → length new ≡ length old
-same_length new old same = sym (length-map new content) ∙ (ap length same ∙ length-map old content)
-
 module _ {Cell : Type 0} (q : QueryFacts Cell) (job : JobFacts) (w : ℕ) (log : Log) where
   router_content : (j : ℕ) (r : Routed) → IsRouterAt q job w log j r → IsRouterAt q job w log j (content r)
   router_content j r h = (h.0, record { once = h.1.once; unsent = h.1.unsent })
@@ -81,157 +77,186 @@ module _ {Cell : Type 0} (q : QueryFacts Cell) (job : JobFacts) (w : ℕ) (log :
 
   -- routers that hold what others do
   routers_still : (old new : List Routed) → map content new ≡ map content old → AtEach old (IsRouterAt q job w log) → AtEach new (IsRouterAt q job w log)
-  routers_still old new same h j d i =
-      let l = same_length new old same in
-      let e = sym (get_or-map content new j d) ∙ (ap (λ (rs : List Routed). get_or rs j (content d)) same ∙ get_or-map content old j d) in
-      content_router j (get_or new j d) (subst (λ (r : Routed). IsRouterAt q job w log j r) (sym e) (router_content j (get_or old j d) (h j d (omega arith))))
+  routers_still = same_each content (IsRouterAt q job w log) (λ j x y is at. content_router j y (subst (IsRouterAt q job w log j) (sym is) (router_content j x at)))
 
--- the laws of a query by which a group is applied
-pub record AppliesBy {Cell : Type 0} (q : QueryFacts Cell) : Type 0 where
-  pub stages : HasStages q
-  pub later : PostsAreLater q
-  pub nothing : LaterStagesPostNothing q
-  pub keys : OutputsHaveKeys q
+-- What is known of a group of a stage that was applied: its time, that the step could be made, what its outputs are, what it changes at the counts, and that what is enough for the stage is enough for it
+pub record IsApplying {Cell : Type 0} (q : QueryFacts Cell) (job : JobFacts) (p : Parts Cell) (s : WorkerState) (j t k : ℕ) (vs : List Value) (woke : List ℕ) : Type 0 where
+  pub in_time : t ≤ last_time
+  pub can : CanMake (outline_of q job) (Apply j) s (Group j t k)
+  pub keyed : j + 1 < job.shape.stages → All (λ v. IsSome (q.key (j + 1) t v)) vs
+  pub records : j + 1 < job.shape.stages → All (IsRecordOf q job (j + 1)) (records_at q (j + 1) t k vs)
+  pub rows : job.shape.stages ≤ j + 1 → All (Contains (answer_rows q job.events)) (outputs_at t k vs)
+  pub changes : (onward : Loc) → onward ≡ location_after j (outline_of q job).stages
+      → AreChanges (outline_of q job) p.number p.log (with_applied p.log (Group j t k)) (one_less (Host j) t ∷ (some_more onward t (length vs) ++ map (one_more (Host j)) woke))
+  pub fits : (most : ℕ)
+      → ((h : Hosted Cell) (t k : ℕ) → slice_get p.hosts j ≡ Some h → IsReadyHere job p.seen p.notes h t k
+      → length (q.gives h.stage (cell_before q h.stage (stage_records q job.events h.stage) k t) (group_at q job h.stage t k)) + length (woken_by q h t k) ≤ most)
+      → length vs + length woke ≤ most
 
--- what a worker has
-pub record Fields (Cell : Type 0) : Type 0 where
-  pub number : ℕ
-  pub log : WorkerLog
-  pub posted : Log
-  pub seen : Seen
-  pub notes : Notes
-  pub next : ControlCursor
-  pub routers : List Routed
-  pub hosts : List (Hosted Cell)
-  pub movers : List MoversState
-  pub unsent : Unwritten
-  pub unwritten : Unwritten
+-- where there is something, not none of it is so
+pub not_none : {A : Type 0} {P : A → Type 0} (r : Option A) (none : Bool) → is_some r ≡ not none → none ≡ false → IfSome r P → ((a : A) → P a → ⊥) → ⊥
+not_none (Some a) none is said so denies = denies a so
+not_none None none is said so denies = false≢true (is ∙ ap not said)
 
--- a worker that has these keeps to what it is to
-abbrev pub Keeps : {Cell : Type 0} → QueryFacts Cell → JobFacts → JobFacts → Fields Cell → Type 0
-Keeps q job its f = IsKept q job its f.number f.log (parts_with f.log f.posted f.seen f.notes f.next f.routers f.hosts f.movers f.unsent f.unwritten)
+-- the host that is found is the one that stands there
+pub same_host_there : {Cell : Type 0} (hosts : List (Hosted Cell)) (j : ℕ) (here h : Hosted Cell) → j < length hosts → here ≡ get_or hosts j here → slice_get hosts j ≡ Some h → h ≡ here
+same_host_there {Cell} hosts j here h inside is at =
+    let found : slice_get hosts j ≡ Some here = slice_get-get_or hosts j here inside ∙ ap (λ (y : Hosted Cell). Some y) (sym is) in
+    cc
 
-module _ {Cell : Type 0} (q : QueryFacts Cell) (keeps : AppliesBy q) (job its : JobFacts) (f : Fields Cell) (kept : Keeps q job its f) where
-  o_sound : OutlineIsSound (outline_of q job)
-  o_sound = outline_is_sound q keeps.stages keeps.later keeps.nothing job kept.legal
+-- what is enough for the host of a stage is enough for the stage
+pub enough_here : {Cell : Type 0} (q : QueryFacts Cell) (job : JobFacts) (j most : ℕ) (seen : Seen) (notes : Notes) (hosts : List (Hosted Cell)) → j < length hosts → (h : Hosted Cell) → h ≡ get_or hosts j h
+    → ((t k : ℕ) → IsReadyHere job seen notes h t k → length (q.gives h.stage (cell_before q h.stage (stage_records q job.events h.stage) k t) (group_at q job h.stage t k)) + length (woken_by q h t k) ≤ most)
+    → (x : Hosted Cell) (t k : ℕ) → slice_get hosts j ≡ Some x → IsReadyHere job seen notes x t k
+    → length (q.gives x.stage (cell_before q x.stage (stage_records q job.events x.stage) k t) (group_at q job x.stage t k)) + length (woken_by q x t k) ≤ most
+enough_here {Cell} q job j most seen notes hosts inside h is enough x t k at ready =
+    subst
+    (λ (y : Hosted Cell). IsReadyHere job seen notes y t k → length (q.gives y.stage (cell_before q y.stage (stage_records q job.events y.stage) k t) (group_at q job y.stage t k)) + length (woken_by q y t k) ≤ most)
+    (sym (same_host_there hosts j h x inside is at)) (enough t k) ready
 
+module _ {Cell : Type 0} {q : QueryFacts Cell} {job its : JobFacts} {number : ℕ} {log : WorkerLog} {p : Parts Cell} (kept : IsKept q job its number log p) (worker : p.number ≡ log.worker) where
   -- with other rooms the parts are the same
-  pub kept_with_room : (new : WorkerLog) (others : List Routed) (rows : Unwritten) → new.log ≡ f.log.log → new.worker ≡ f.log.worker → map content others ≡ map content f.routers → rows.rows ≡ f.unsent.rows
-      → Keeps q job its (record f { log = new; routers = others; unsent = rows })
-  kept_with_room new others rows l w same r =
-      let still = other_routers kept.parts others (same_length others f.routers same) (routers_still q job f.log.worker f.log.log f.routers others same kept.parts.routers) in
-      kept_as kept new (parts_with new f.posted f.seen f.notes f.next others f.hosts f.movers rows f.unwritten) w (rw (l, w, r) still)
+  pub kept_with_room : (new : WorkerLog) → new.worker ≡ p.number → (others : List Routed) (rows : List Output) → new.log ≡ p.log → map content others ≡ map content p.routers → rows ≡ p.unsent
+      → IsKept q job its number new (record p { number = new.worker; log = new.log; routers = others; unsent = rows })
+  kept_with_room new e others rows l same r =
+      kept_by kept worker new e p.log l (record p { routers = others; unsent = rows })
+      (rw r (other_routers kept.parts others (same_length content p.routers others same) (routers_still q job p.number p.log p.routers others same kept.parts.routers)))
 
-  -- the worker as contracts see it
-  abbrev pub state : WorkerState
-  state = record { number = f.number; log = f.log.log; posted = f.posted; seen = f.seen }
+  told : ConditionsAreTold q job p
+  told = conditions_are_told q job kept.sound p kept.parts
 
-  abbrev pub its_parts : Parts Cell
-  its_parts = parts_with f.log f.posted f.seen f.notes f.next f.routers f.hosts f.movers f.unsent f.unwritten
+  steps : StepsKeepParts q job p
+  steps = steps_keep_parts q job kept.sound p kept.parts
 
-  told : ConditionsAreTold q job its_parts
-  told = conditions_are_told q job o_sound its_parts kept.parts
-
-  steps : StepsKeepParts q job its_parts
-  steps = steps_keep_parts q job o_sound its_parts kept.parts
-
-  asked : PartsAreAsked q job its_parts
-  asked = parts_are_asked q job o_sound its_parts kept.parts
+  asked : PartsAreAsked q job p
+  asked = parts_are_asked q job kept.sound p kept.parts
 
   -- the router of a stage
-  pub router_at : (j : ℕ) → j < job.shape.stages → (r : Routed) → r ≡ get_or f.routers j r → IsRouterAt q job f.log.worker f.log.log j r
-  router_at j below r at = let all = kept.parts.all_routers in subst (λ (x : Routed). IsRouterAt q job f.log.worker f.log.log j x) (sym at) (kept.parts.routers j r (omega arith))
+  pub router_at : (j : ℕ) → j < job.shape.stages → (r : Routed) → r ≡ get_or p.routers j r → IsRouterAt q job p.number p.log j r
+  router_at j below r at = let all = kept.parts.all_routers in subst (λ (x : Routed). IsRouterAt q job p.number p.log j x) (sym at) (kept.parts.routers j r (omega arith))
 
   -- the host of a stage
-  module _ (j : ℕ) (below : j < job.shape.stages) (h : Hosted Cell) (is : h ≡ get_or f.hosts j h) where
-    pub host_at : IsHostAt q job f.log.worker f.log.log j h
-    host_at = let all = kept.parts.all_hosts in subst (λ (x : Hosted Cell). IsHostAt q job f.log.worker f.log.log j x) (sym is) (kept.parts.hosts j h (omega arith))
+  module _ (j : ℕ) (below : j < job.shape.stages) (h : Hosted Cell) (is : h ≡ get_or p.hosts j h) where
+    pub host_at : IsHostAt q job p.number p.log j h
+    host_at = let all = kept.parts.all_hosts in subst (λ (x : Hosted Cell). IsHostAt q job p.number p.log j x) (sym is) (kept.parts.hosts j h (omega arith))
 
     -- what it is asked by
-    pub informed : HostMatchesLogAndSeen q job f.log.log f.seen h
+    pub informed : HostMatchesLogAndSeen q job p.log p.seen h
     informed = asked.informed j h host_at
 
-    pub knows : OwnersAreCurrent q job f.notes f.seen h.stage
-    knows = subst (λ (i : ℕ). OwnersAreCurrent q job f.notes f.seen i) (sym host_at.0) (asked.owners j below)
+    pub knows : OwnersAreCurrent q job p.notes p.seen h.stage
+    knows = subst (λ (i : ℕ). OwnersAreCurrent q job p.notes p.seen i) (sym host_at.0) (asked.owners j below)
 
     -- with the same host again its place is as it was
-    pub hosts_again : (new : Hosted Cell) → new ≡ h → set f.hosts j new ≡ f.hosts
-    hosts_again new e = ap (set f.hosts j) (e ∙ is) ∙ set-get_or f.hosts j h
+    pub hosts_again : (new : Hosted Cell) → new ≡ h → set p.hosts j new ≡ p.hosts
+    hosts_again new e = ap (set p.hosts j) (e ∙ is) ∙ set-get_or p.hosts j h
 
-    -- and so it is where nothing but rooms has changed
-    pub kept_so_far : (n : ℕ) → n ≡ length f.routers → (new : WorkerLog) (others : List Routed) (again : Hosted Cell) (rows : Unwritten) → new.log ≡ f.log.log → new.worker ≡ f.log.worker → map content others ≡ map content f.routers → again ≡ h → rows.rows ≡ f.unsent.rows
-        → Keeps q job its (record f { log = new; routers = take n (others ++ drop (length others) f.routers); hosts = set f.hosts j again; unsent = rows })
-    kept_so_far n all new others again rows l w same e r = rw (all_written n f.routers others all (same_length others f.routers same), hosts_again again e) (kept_with_room new others rows l w same r)
+    -- so the parts are as they were
+    pub kept_again : (again : Hosted Cell) → again ≡ h → IsKept q job its number log (record p { hosts = set p.hosts j again })
+    kept_again again e = rw (hosts_again again e) kept
 
-    -- the step of the machine
-    abbrev Step : ℕ → ℕ → Name → Type 0
-    Step w i x = IsNext (outline_of q job) w (machine_worker its_parts) (Apply i) x × IsReady (outline_of q job) w (machine_worker its_parts) (Apply i) x
+    pub none_to_apply : ((t k : ℕ) → IsReadyAt q job p.log p.seen h t k → ⊥) → (x : Name) → CanMake (outline_of q job) (Apply j) (state kept worker) x → ⊥
+    none_to_apply none x can = told.no_apply h host_at.1 none x (subst (λ (i : ℕ). CanDo q job p (Apply i) x) (sym host_at.0) (can_do kept worker (Apply j) x can))
 
-    pub none_to_apply : ((t k : ℕ) → IsReadyAt q job f.log.log f.seen h t k → ⊥) → (x : Name) → CanMake (outline_of q job) (Apply j) state x → ⊥
-    none_to_apply none x can = told.no_apply h host_at.1 none x (subst (λ (i : ℕ). Step f.log.worker i x) (sym host_at.0) (subst (λ (w : ℕ). Step w j x) (sym kept.number) (can.next, can.ready)))
+    module _ (t k : ℕ) (ready : IsReadyAt q job p.log p.seen h t k) where
+      can_apply : CanMake (outline_of q job) (Apply j) (state kept worker) (Group j t k)
+      can_apply = can_make kept worker (Apply j) (Group j t k) below (subst (λ (i : ℕ). CanDo q job p (Apply i) (Group i t k)) host_at.0 (told.apply h t k host_at.1 ready))
 
-    module _ (t k : ℕ) (ready : IsReadyAt q job f.log.log f.seen h t k) where
-      pub can_apply : CanMake (outline_of q job) (Apply j) state (Group j t k)
-      can_apply =
-          let can = subst (λ (i : ℕ). Step f.number i (Group i t k)) host_at.0 (subst (λ (w : ℕ). Step w h.stage (Group h.stage t k)) kept.number (told.apply h t k host_at.1 ready)) in
-          record { fits = below; next = can.0; ready = can.1 }
+      waits : IsWaiting (outline_of q job) p.log j (Group j t k)
+      waits = subst (λ (i : ℕ). IsWaiting (outline_of q job) p.log i (Group i t k)) host_at.0 ready.least.0
 
-      waits : IsWaiting (outline_of q job) f.log.log j (Group j t k)
-      waits = subst (λ (i : ℕ). IsWaiting (outline_of q job) f.log.log i (Group i t k)) host_at.0 ready.least.0
+      hand_on : GroupsHandOn q job p.number p.log j t k
+      hand_on = groups_hand_on q kept.hands_on.nothing job kept.legal kept.sound p.number p.log j t k kept.parts.legal waits
 
-      hand_on : GroupsHandOn q job f.log.worker f.log.log j t k
-      hand_on = groups_hand_on q keeps.nothing job kept.legal o_sound f.log.worker f.log.log j t k kept.parts.legal waits
-
-      pub in_time : t ≤ last_time
-      in_time = group_in_time q keeps.nothing job o_sound j t k below waits.0 keeps.later kept.legal.events
+      in_time : t ≤ last_time
+      in_time = group_in_time q kept.hands_on.nothing job kept.sound j t k below waits.0 kept.hands_on.later kept.legal.events
 
       -- what it gives
       module _ (vs : List Value) (given : vs ≡ values_given q job h.stage t k) where
         given_here : vs ≡ values_given q job j t k
         given_here = subst (λ (i : ℕ). vs ≡ values_given q job i t k) host_at.0 given
 
-        pub keyed : suc j < job.shape.stages → All (λ v. IsSome (q.key (suc j) t v)) vs
-        keyed next = let stages = kept.legal.stages in rw given_here (values_have_keys q keeps.nothing job o_sound j t k below waits.0 keeps.keys (omega arith))
+        keyed : suc j < job.shape.stages → All (λ v. IsSome (q.key (suc j) t v)) vs
+        keyed next = let stages = kept.legal.stages in rw given_here (values_have_keys q kept.hands_on.nothing job kept.sound j t k below waits.0 kept.hands_on.keys (omega arith))
 
-        pub records_are : suc j < job.shape.stages → All (IsRecordOf q job (suc j)) (records_at q (suc j) t k vs)
+        records_are : suc j < job.shape.stages → All (IsRecordOf q job (suc j)) (records_at q (suc j) t k vs)
         records_are next = rw given_here (hand_on.record_is next)
 
-        pub rows_are : suc j ≡ job.shape.stages → All (Contains (answer_rows q job.events)) (outputs_at t k vs)
+        rows_are : suc j ≡ job.shape.stages → All (Contains (answer_rows q job.events)) (outputs_at t k vs)
         rows_are ends = rw given_here (hand_on.row_is ends)
 
         number_is : outputs_of (outline_of q job) j t k ≡ length vs
         number_is =
             rw given_here
             (either_stage (suc j) job.shape.stages (omega arith) _
-            (λ next. let stages = kept.legal.stages in number_of_records q keeps.nothing job o_sound j t k below waits.0 next (values_have_keys q keeps.nothing job o_sound j t k below waits.0 keeps.keys (omega arith)))
-            (λ ends. number_of_rows q keeps.nothing job o_sound j t k below waits.0 ends kept.legal.stages))
+            (λ next. let stages = kept.legal.stages in number_of_records q kept.hands_on.nothing job kept.sound j t k below waits.0 next (values_have_keys q kept.hands_on.nothing job kept.sound j t k below waits.0 kept.hands_on.keys (omega arith)))
+            (λ ends. number_of_rows q kept.hands_on.nothing job kept.sound j t k below waits.0 ends kept.legal.stages))
 
         -- the changes that it brings
-        pub changes_are : (onward : Loc) → onward ≡ location_after j (outline_of q job).stages → (woke : List ℕ) → AllPairs (λ u v. u ≢ v) woke
-            → ((u : ℕ) → (Contains woke u ↔ ((is_pending (outline_of q job) (with_applied f.log.log (Group h.stage t k)) (Group h.stage u k) ≡ true) × (is_pending (outline_of q job) f.log.log (Group h.stage u k) ≡ false))))
-            → AreChanges (outline_of q job) f.log.worker f.log.log (with_applied f.log.log (Group j t k)) (one_less (Host j) t ∷ (some_more onward t (length vs) ++ map (one_more (Host j)) woke))
+        changes_are : (onward : Loc) → onward ≡ location_after j (outline_of q job).stages → (woke : List ℕ) → AllPairs (λ u v. u ≢ v) woke
+            → ((u : ℕ) → (Contains woke u ↔ ((is_pending (outline_of q job) (with_applied p.log (Group h.stage t k)) (Group h.stage u k) ≡ true) × (is_pending (outline_of q job) p.log (Group h.stage u k) ≡ false))))
+            → AreChanges (outline_of q job) p.number p.log (with_applied p.log (Group j t k)) (one_less (Host j) t ∷ (some_more onward t (length vs) ++ map (one_more (Host j)) woke))
         changes_are onward to woke once wakes =
-            let wakes_here = subst (λ (i : ℕ). (u : ℕ) → (Contains woke u ↔ ((is_pending (outline_of q job) (with_applied f.log.log (Group i t k)) (Group i u k) ≡ true) × (is_pending (outline_of q job) f.log.log (Group i u k) ≡ false)))) host_at.0 wakes in
-            rw (to, ← number_is) (applied (outline_of q job) f.log.worker f.log.log o_sound kept.parts.legal j t k woke waits once wakes_here)
+            let wakes_here = subst (λ (i : ℕ). (u : ℕ) → (Contains woke u ↔ ((is_pending (outline_of q job) (with_applied p.log (Group i t k)) (Group i u k) ≡ true) × (is_pending (outline_of q job) p.log (Group i u k) ≡ false)))) host_at.0 wakes in
+            rw (to, ← number_is) (applied (outline_of q job) p.number p.log kept.sound kept.parts.legal j t k woke waits once wakes_here)
 
         -- the parts after it
-        module _ (new : Hosted Cell) (same_stage : new.stage ≡ h.stage) (same_worker : new.worker ≡ h.worker) (held : IsHostOf q job (with_applied f.log.log (Group h.stage t k)) new) (grown : WorkerLog) (grows : grown.log ≡ with_applied f.log.log (Group j t k)) (same_log : grown.worker ≡ f.log.worker) where
-          new_host : IsHostAt q job f.log.worker (with_applied f.log.log (Group j t k)) j new
-          new_host = (same_stage ∙ host_at.0, same_worker ∙ host_at.1, subst (λ (i : ℕ). IsHostOf q job (with_applied f.log.log (Group i t k)) new) host_at.0 held)
+        module _ (new : Hosted Cell) (same_stage : new.stage ≡ h.stage) (same_worker : new.worker ≡ h.worker) (held : IsHostOf q job (with_applied p.log (Group h.stage t k)) new) (grown : WorkerLog) (e : grown.worker ≡ p.number) (grows : grown.log ≡ with_applied p.log (Group j t k)) where
+          new_host : IsHostAt q job p.number (with_applied p.log (Group j t k)) j new
+          new_host = (same_stage ∙ host_at.0, same_worker ∙ host_at.1, subst (λ (i : ℕ). IsHostOf q job (with_applied p.log (Group i t k)) new) host_at.0 held)
 
-          pub kept_with_records : suc j < job.shape.stages → (old r : Routed) → old ≡ get_or f.routers (suc j) old → r.stage ≡ old.stage
+          kept_with_records : suc j < job.shape.stages → (old r : Routed) → old ≡ get_or p.routers (suc j) old → r.stage ≡ old.stage
               → ((w : ℕ) (log : Log) → HoldsAllBut q job w log (map (name_of_record (suc j)) (records_at q (suc j) t k vs)) old → HoldsUnsent q job w log r)
-              → Keeps q job its (record f { log = grown; routers = set f.routers (suc j) r; hosts = set f.hosts j new })
+              → IsKept q job its number grown (record p { number = grown.worker; log = grown.log; routers = set p.routers (suc j) r; hosts = set p.hosts j new })
           kept_with_records next old r at same_router holds =
               let before = router_at (suc j) next old at in
-              let handed = subst (λ (us : List Value). HoldsAllBut q job f.log.worker (with_applied f.log.log (Group j t k)) (map (name_of_record (suc j)) (records_at q (suc j) t k us)) old) (sym given_here) (hand_on.router next old before.0 before.1) in
-              let after = holds f.log.worker (with_applied f.log.log (Group j t k)) handed in
-              kept_as kept grown _ same_log (rw (grows, same_log) (steps.apply j t k h new r host_at ready next new_host (same_router ∙ before.0, after)))
+              let handed = subst (λ (us : List Value). HoldsAllBut q job p.number (with_applied p.log (Group j t k)) (map (name_of_record (suc j)) (records_at q (suc j) t k us)) old) (sym given_here) (hand_on.router next old before.0 before.1) in
+              let after = holds p.number (with_applied p.log (Group j t k)) handed in
+              kept_by kept worker grown e (with_applied p.log (Group j t k)) grows (record p { routers = set p.routers (suc j) r; hosts = set p.hosts j new })
+              (steps.apply j t k h new r host_at ready next new_host (same_router ∙ before.0, after))
 
-          pub kept_with_rows : suc j ≡ job.shape.stages → (rows : Unwritten)
-              → ((w : ℕ) (log : Log) → HoldsRowsBut q job w log (map name_of_row (outputs_at t k vs)) f.unsent.rows → HoldsRowsBut q job w log [] rows.rows)
-              → Keeps q job its (record f { log = grown; hosts = set f.hosts j new; unsent = rows })
+          kept_with_rows : suc j ≡ job.shape.stages → (rows : List Output)
+              → ((w : ℕ) (log : Log) → HoldsRowsBut q job w log (map name_of_row (outputs_at t k vs)) p.unsent → HoldsRowsBut q job w log [] rows)
+              → IsKept q job its number grown (record p { number = grown.worker; log = grown.log; hosts = set p.hosts j new; unsent = rows })
           kept_with_rows ends rows holds =
-              let handed = subst (λ (us : List Value). HoldsRowsBut q job f.log.worker (with_applied f.log.log (Group j t k)) (map name_of_row (outputs_at t k us)) f.unsent.rows) (sym given_here) (hand_on.rows ends f.unsent.rows kept.parts.unsent) in
-              let after = holds f.log.worker (with_applied f.log.log (Group j t k)) handed in
-              kept_as kept grown _ same_log (rw (grows, same_log) (steps.apply_last j t k h new rows.rows host_at ready ends new_host after))
+              let handed = subst (λ (us : List Value). HoldsRowsBut q job p.number (with_applied p.log (Group j t k)) (map name_of_row (outputs_at t k us)) p.unsent) (sym given_here) (hand_on.rows ends p.unsent kept.parts.unsent) in
+              let after = holds p.number (with_applied p.log (Group j t k)) handed in
+              kept_by kept worker grown e (with_applied p.log (Group j t k)) grows (record p { hosts = set p.hosts j new; unsent = rows })
+              (steps.apply_last j t k h new rows host_at ready ends new_host after)
+
+    -- A group that the host applied: it was the one that may be applied, and its outputs and wakes are these
+    module _ (t k : ℕ) (vs : List Value) (woke : List ℕ) (new : Hosted Cell) (ready : IsReadyHere job p.seen p.notes h t k) (gives : vs ≡ values_given q job h.stage t k) (wakes : woke ≡ woken_by q h t k)
+        (held : (l : Log) → HostMatchesLogAndSeen q job l p.seen h → AppliesGroup q job l p.seen h new t k woke) where
+      does : AppliesGroup q job p.log p.seen h new t k woke
+      does = held p.log informed
+
+      to_next : suc j ≡ j + 1
+      to_next = omega arith
+
+      pub applying : IsApplying q job p (state kept worker) j t k vs woke
+      applying = record {
+        in_time = in_time t k does.ready;
+        can = can_apply t k does.ready;
+        keyed = λ next. subst (λ (n : ℕ). All (λ v. IsSome (q.key n t v)) vs) to_next (keyed t k does.ready vs gives (omega arith));
+        records = λ next. subst (λ (n : ℕ). All (IsRecordOf q job n) (records_at q n t k vs)) to_next (records_are t k does.ready vs gives (omega arith));
+        rows = λ ends. rows_are t k does.ready vs gives (omega arith);
+        changes = λ onward to. changes_are t k does.ready vs gives onward to woke (woken_once q h t k woke wakes) does.woken;
+        fits = λ most enough.
+            let all = kept.parts.all_hosts in
+            let there = slice_get-get_or p.hosts j h (omega arith) ∙ ap (λ (x : Hosted Cell). Some x) (sym is) in
+            rw (gives, wakes) (enough h t k there ready);
+      }
+
+      module _ (applied : IsApplied q job t k h new) (grown : WorkerLog) (e : grown.worker ≡ p.number) (grows : grown.log ≡ with_applied p.log (Group j t k)) where
+        pub kept_next : j + 1 < job.shape.stages → (old r : Routed) → old ≡ get_or p.routers (j + 1) old → r.stage ≡ old.stage
+            → ((w : ℕ) (log : Log) → HoldsAllBut q job w log (map (name_of_record (j + 1)) (records_at q (j + 1) t k vs)) old → HoldsUnsent q job w log r)
+            → IsKept q job its number grown (record p { number = grown.worker; log = grown.log; routers = set p.routers (j + 1) r; hosts = set p.hosts j new })
+        kept_next next old r at same holds =
+            let here = subst (λ (n : ℕ). (w : ℕ) (log : Log) → HoldsAllBut q job w log (map (name_of_record n) (records_at q n t k vs)) old → HoldsUnsent q job w log r) (sym to_next) holds in
+            rw (← to_next)
+            (kept_with_records t k does.ready vs gives new applied.stage applied.worker does.held grown e grows (omega arith) old r (subst (λ (n : ℕ). old ≡ get_or p.routers n old) (sym to_next) at) same here)
+
+        pub kept_last : job.shape.stages ≤ j + 1 → (rows : List Output)
+            → ((w : ℕ) (log : Log) → HoldsRowsBut q job w log (map name_of_row (outputs_at t k vs)) p.unsent → HoldsRowsBut q job w log [] rows)
+            → IsKept q job its number grown (record p { number = grown.worker; log = grown.log; hosts = set p.hosts j new; unsent = rows })
+        kept_last ends = kept_with_rows t k does.ready vs gives new applied.stage applied.worker does.held grown e grows (omega arith)

@@ -10,7 +10,6 @@ use Rattle.mp_names.specs.Controls.{control_of, no_control}
 use Rattle.mp_names.specs.Names.{has, is_ctrl}
 use Rattle.mp_names.specs.Keeping.{IsHeld}
 use Rattle.mp_names.specs.Logs.{Log, is_noted, with_sent, with_took}
-use Rattle.mp_names.specs.Outlines.{OutlineIsSound}
 use Rattle.mp_names.proofs.Orders.{least_unique}
 use Rattle.mp_bins.specs.declared.owners.Note.{Note}
 use Rattle.mp_bins.specs.Notes.{IsWithin, Notes, is_noted as has_note}
@@ -50,9 +49,9 @@ module _ {Cell : Type 0} (q : QueryFacts Cell) (job : JobFacts) (legal : JobIsLe
 
 module _ {Cell : Type 0} {q : QueryFacts Cell} {job its : JobFacts} {number : ℕ} {log : WorkerLog} {p : Parts Cell} (kept : IsKept q job its number log p) (worker : p.number ≡ log.worker) where
   -- another worker than the first sends none, and neither does the first where all are sent
-  pub no_control_of_others : OutlineIsSound (outline_of q job) → (number ≡ 0 → length job.controls ≤ p.next.index) → (x : Name) → CanMake (outline_of q job) SendControl (state kept worker) x → ⊥
-  no_control_of_others sound none x can =
-      (told kept worker sound).no_send_control (λ e. none (sym (worker ∙ kept.number) ∙ e)) x (can_do kept worker SendControl x can)
+  pub no_control_of_others : (number ≡ 0 → length job.controls ≤ p.next.index) → (x : Name) → CanMake (outline_of q job) SendControl (state kept worker) x → ⊥
+  no_control_of_others none x can =
+      (told kept worker).no_send_control (λ e. none (sym (worker ∙ kept.number) ∙ e)) x (can_do kept worker SendControl x can)
 
   module _ (first : number ≡ 0) where
     its_first : p.number ≡ 0
@@ -61,9 +60,9 @@ module _ {Cell : Type 0} {q : QueryFacts Cell} {job its : JobFacts} {number : �
     pub receiver_fits : p.next.receiver < job.shape.workers
     receiver_fits = (kept.parts.next its_first).fits
 
-    module _ (sound : OutlineIsSound (outline_of q job)) (listed : p.next.index < length job.controls) where
+    module _ (listed : p.next.index < length job.controls) where
       sends : CanDo q job p SendControl (Ctrl p.next.index p.next.receiver)
-      sends = (told kept worker sound).send_control its_first listed
+      sends = (told kept worker).send_control its_first listed
 
       pub can_send_control : CanMake (outline_of q job) SendControl (state kept worker) (Ctrl p.next.index p.next.receiver)
       can_send_control = can_make kept worker SendControl (Ctrl p.next.index p.next.receiver) tt sends
@@ -75,7 +74,7 @@ module _ {Cell : Type 0} {q : QueryFacts Cell} {job its : JobFacts} {number : �
       may_send_control = held_may (outline_of q job) p.number p.log kept.parts.legal is_ctrl (Ctrl p.next.index p.next.receiver) is_held
 
       pub control_counted : AreChanges (outline_of q job) p.number p.log (with_sent p.log (Ctrl p.next.index p.next.receiver)) (control_sent_at (control_of job.controls p.next.index).time)
-      control_counted = control_sent (outline_of q job) p.number p.log sound p.next.index p.next.receiver is_held
+      control_counted = control_sent (outline_of q job) p.number p.log kept.sound p.next.index p.next.receiver is_held
 
       -- no other is next
       pub one_control : (x : Name) → CanMake (outline_of q job) SendControl (state kept worker) x → Ctrl p.next.index p.next.receiver ≡ x
@@ -86,7 +85,7 @@ module _ {Cell : Type 0} {q : QueryFacts Cell} {job its : JobFacts} {number : �
           → IsKept q job its number new (record p { number = new.worker; log = new.log; next = place_after job.shape.workers p.next })
       control_kept new e f =
           kept_by kept worker new e (with_sent p.log (Ctrl p.next.index p.next.receiver)) f (record p { next = place_after job.shape.workers p.next })
-          ((steps_keep_parts q job sound p kept.parts).send_control its_first listed)
+          ((steps_keep_parts q job kept.sound p kept.parts).send_control its_first listed)
 
 -- Taking
 

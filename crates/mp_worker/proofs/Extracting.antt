@@ -1,5 +1,5 @@
 -- The packet that a worker sends.
-use Rattle.std.proofs.Common.{◌≡◌, ◌∙◌, ℕ, ◌<◌, sym, ap, subst, set}
+use Rattle.std.proofs.Common.{◌≡◌, ◌∙◌, ℕ, ◌<◌, List, get_or, sym, ap, subst, set}
 use Rattle.std.proofs.lemmas.List.{length-set}
 use Rattle.mp_names.specs.declared.controls.Move.{Move}
 use Rattle.mp_names.specs.declared.kinds.Kind.TheVariants.{Extract}
@@ -7,9 +7,9 @@ use Rattle.mp_names.specs.declared.locations.Loc.TheVariants.{Host}
 use Rattle.mp_names.specs.declared.names.Name.{Name}
 use Rattle.mp_names.specs.declared.names.Name.TheVariants.{Packet}
 use Rattle.mp_names.specs.Frontiers.{HasReached}
-use Rattle.mp_names.specs.Logs.{Log, with_sent}
+use Rattle.mp_names.specs.Logs.{Log, LogIsLegal, with_sent}
 use Rattle.mp_names.specs.Names.{IsLeast}
-use Rattle.mp_names.specs.Outlines.{OutlineIsSound, receiver}
+use Rattle.mp_names.specs.Outlines.{receiver}
 use Rattle.mp_names.proofs.Orders.{least_unique}
 use Rattle.mp_machine.specs.Steps.{IsDue}
 use Rattle.mp_stamps.specs.declared.seen.Seen.{Seen}
@@ -18,11 +18,16 @@ use Rattle.mp_bins.specs.Notes.{Notes}
 use Rattle.mp_model.specs.Facts.{JobFacts, QueryFacts}
 use Rattle.mp_outline.specs.JobOutline.{outline_of}
 use Rattle.mp_rows.specs.WorkerLog.{WorkerLog}
+use Rattle.mp_count_laws.specs.Changes.{packet_sent_at}
+use Rattle.mp_msg.specs.Contents.{IsPacketOf}
+use Rattle.mp_msg.specs.States.{IsStateBefore}
+use Rattle.mp_rows.specs.Entries.{AreChanges}
+use Rattle.mp_host.specs.Moves.{GivesUp, NothingLeaves}
 use Rattle.mp_host_laws.specs.declared.held.Held.{Held}
-use Rattle.mp_host_laws.specs.Hosted.{Hosted}
+use Rattle.mp_host_laws.specs.Hosted.{Hosted, StandsInOrder}
 use Rattle.mp_host_laws.specs.HostOf.{IsHostOf}
 use Rattle.mp_host_laws.specs.Laws.{MayLeaveNow}
-use Rattle.mp_host_laws.specs.Moving.{IsPutIn, IsTakenOut}
+use Rattle.mp_host_laws.specs.Moving.{AreNumbersOf, IsPutIn, IsTakenOut, not_waiting}
 use Rattle.mp_handoff.specs.Due.{MoversMatchLogAndSeen, IsDueHere, IsLeastDue, IsMoveAway, MayLeaveHere}
 use Rattle.mp_handoff.specs.MoversState.{MoversState}
 use Rattle.mp_handoff.specs.MoversOf.{IsMoversOf}
@@ -31,18 +36,19 @@ use Rattle.mp_worker_invariant.specs.Machine.{machine_worker}
 use Rattle.mp_worker_invariant.specs.Parts.{AreMoversAt, IsHostAt, Parts}
 use Rattle.mp_worker_invariant.proofs.Kept.{steps_keep_parts}
 use Rattle.mp_worker_invariant.proofs.Legal.{packet_legal}
-use Rattle.mp_refinement.specs.State.{CanMake}
+use Rattle.mp_refinement.specs.State.{CanMake, WorkerState}
 use Rattle.mp_worker.specs.Kept.{IsKept}
 use Rattle.mp_worker.specs.Sending.{MaySend}
 use Rattle.mp_worker.proofs.Going.{put_at}
 use Rattle.mp_worker.proofs.Keeping.{kept_by, other_hosts, other_movers}
+use Rattle.mp_worker.proofs.Leaving.{host_without, packet_changes, packet_content, taken_of_bin}
 use Rattle.mp_worker.proofs.Making.{can_do, can_make, state, told}
-use Rattle.mp_worker.proofs.Movers.{asked, movers_informed}
+use Rattle.mp_worker.proofs.Movers.{asked, host_at, movers_at, movers_informed}
 
-module _ {Cell : Type 0} {q : QueryFacts Cell} {job its : JobFacts} {number : ℕ} {log : WorkerLog} {p : Parts Cell} (kept : IsKept q job its number log p) (worker : p.number ≡ log.worker) (sound : OutlineIsSound (outline_of q job)) (j : ℕ) (below : j < job.shape.stages)
+module _ {Cell : Type 0} {q : QueryFacts Cell} {job its : JobFacts} {number : ℕ} {log : WorkerLog} {p : Parts Cell} (kept : IsKept q job its number log p) (worker : p.number ≡ log.worker) (j : ℕ) (below : j < job.shape.stages)
     (m : MoversState) (at : AreMoversAt q job p.number p.log j m) where
   informed : MoversMatchLogAndSeen (outline_of q job) p.log p.notes p.seen m
-  informed = movers_informed kept sound j below m at
+  informed = movers_informed kept j below m at
 
   -- what is told of movers that are asked by a log
   abbrev IfInformed : (Log → Type 0) → Type 0
@@ -51,7 +57,7 @@ module _ {Cell : Type 0} {q : QueryFacts Cell} {job its : JobFacts} {number : �
   -- where none is due, none may be sent
   pub none_to_extract : ((l : Log) (b t : ℕ) → MoversMatchLogAndSeen (outline_of q job) l p.notes p.seen m → MayLeaveHere (outline_of q job) l p.seen m b t → ⊥) → (x : Name) → CanMake (outline_of q job) (Extract j) (state kept worker) x → ⊥
   none_to_extract none x can =
-      (told kept worker sound).no_extract j
+      (told kept worker).no_extract j
       (λ b t least reached.
       none p.log b t informed (
         subst (λ (w : ℕ). IsLeast (IsDueHere (outline_of q job) p.log p.seen w m.stage) (Packet m.stage b t)) (sym at.1)
@@ -77,7 +83,7 @@ module _ {Cell : Type 0} {q : QueryFacts Cell} {job its : JobFacts} {number : �
     reached_here = subst (λ (i : ℕ). HasReached (seen_at p.seen (Host i)) t) at.0 here.1
 
     extracts : CanDo q job p (Extract j) (Packet j b t)
-    extracts = (told kept worker sound).extract j b t below least_here reached_here
+    extracts = (told kept worker).extract j b t below least_here reached_here
 
     pub can_extract : CanMake (outline_of q job) (Extract j) (state kept worker) (Packet j b t)
     can_extract = can_make kept worker (Extract j) (Packet j b t) below extracts
@@ -88,12 +94,12 @@ module _ {Cell : Type 0} {q : QueryFacts Cell} {job its : JobFacts} {number : �
 
     -- the host may give it up
     pub leaves : (h : Hosted Cell) → IsHostAt q job p.number p.log j h → MayLeaveNow q job p.log h b t
-    leaves h host = (asked kept sound j below).leaves j b t h below host least_here reached_here
+    leaves h host = (asked kept j below).leaves j b t h below host least_here reached_here
 
     pub may_send_packet : MaySend (outline_of q job) p.number p.log (Packet j b t)
     may_send_packet = record {
       owed = least_here.0.0.1;
-      legal = packet_legal q job sound p.number kept.parts.worker p.log kept.parts.legal p.seen kept.parts.done j b t least_here reached_here;
+      legal = packet_legal q job kept.sound p.number kept.parts.worker p.log kept.parts.legal p.seen kept.parts.done j b t least_here reached_here;
     }
 
     -- the movers know that it is sent, where there is room for it
@@ -105,7 +111,7 @@ module _ {Cell : Type 0} {q : QueryFacts Cell} {job its : JobFacts} {number : �
         let due = subst (λ (w : ℕ). IsLeast (IsDueHere (outline_of q job) p.log p.seen w roomy.stage) (Packet roomy.stage b t)) (sym held.1) least in (
           stage ∙ held.0,
           worker ∙ held.1,
-          subst (λ (i : ℕ). IsMoversOf (outline_of q job) (with_sent p.log (Packet i b t)) next) held.0 (holds p.log p.notes p.seen (movers_informed kept sound j below roomy held) due),
+          subst (λ (i : ℕ). IsMoversOf (outline_of q job) (with_sent p.log (Packet i b t)) next) held.0 (holds p.log p.notes p.seen (movers_informed kept j below roomy held) due),
         )
 
     -- it was sent
@@ -114,7 +120,7 @@ module _ {Cell : Type 0} {q : QueryFacts Cell} {job its : JobFacts} {number : �
         → IsKept q job its number new (record p { number = new.worker; log = new.log; hosts = set p.hosts j h; movers = set p.movers j next })
     packet_kept h next host movers new e f =
         kept_by kept worker new e (with_sent p.log (Packet j b t)) f (record p { hosts = set p.hosts j h; movers = set p.movers j next })
-        ((steps_keep_parts q job sound p kept.parts).extract j b t h next least_here reached_here host movers)
+        ((steps_keep_parts q job kept.sound p kept.parts).extract j b t h next least_here reached_here host movers)
 
   -- it wasn't: the host is given back what it gave up
   pub packet_still_kept : (h : Hosted Cell) → IsHostAt q job p.number p.log j h → (new : WorkerLog) → new.worker ≡ p.number → new.log ≡ p.log
@@ -145,3 +151,50 @@ host_back {Cell} q job w log j b t one again h out new at taken same put holds =
   put.worker ∙ taken.worker ∙ at.1,
   holds h log b t at.2 (subst (λ (s : Held Cell). IsTakenOut b t s h out) (sym same) taken),
 )
+
+-- What is known of the state of a bin that is due to leave a stage and was taken out of its host: its packet may be sent, to the bin's new owner, and what that changes
+pub record IsLeaving {Cell : Type 0} (q : QueryFacts Cell) (job : JobFacts) (p : Parts Cell) (s : WorkerState) (j : ℕ) (mv : Move) (one : Held Cell) (h out : Hosted Cell) : Type 0 where
+  pub bin : one.bin ≡ mv.bin
+  pub content : IsPacketOf q job j one.bin mv.time one.state
+  pub state : IsStateBefore q job j mv.bin mv.time one.state
+  pub may : MaySend (outline_of q job) p.number p.log (Packet j mv.bin mv.time)
+  pub to : mv.to ≡ receiver (outline_of q job) (Packet j mv.bin mv.time)
+  pub can : CanMake (outline_of q job) (Extract j) s (Packet j mv.bin mv.time)
+  pub alone : (x : Name) → CanMake (outline_of q job) (Extract j) s x → Packet j mv.bin mv.time ≡ x
+  pub changes : (ns : List (ℕ × ℕ)) → AreNumbersOf (not_waiting out one.state) ns → AreChanges (outline_of q job) p.number p.log (with_sent p.log (Packet j mv.bin mv.time)) (packet_sent_at j mv.time ns)
+  pub without : IsHostAt q job p.number (with_sent p.log (Packet j mv.bin mv.time)) j out
+
+module _ {Cell : Type 0} {q : QueryFacts Cell} {job its : JobFacts} {number : ℕ} {log : WorkerLog} {p : Parts Cell} (kept : IsKept q job its number log p) (worker : p.number ≡ log.worker) (j : ℕ) (below : j < job.shape.stages)
+    (m : MoversState) (m_is : m ≡ get_or p.movers j m) (h : Hosted Cell) (h_is : h ≡ get_or p.hosts j h) (mv : Move) (may : (l : Log) → MoversMatchLogAndSeen (outline_of q job) l p.notes p.seen m → MayLeaveHere (outline_of q job) l p.seen m mv.bin mv.time) where
+  movers : AreMoversAt q job p.number p.log j m
+  movers = movers_at kept j below m m_is
+
+  host : IsHostAt q job p.number p.log j h
+  host = host_at kept j below h h_is
+
+  its_log : LogIsLegal (outline_of q job) h.worker p.log
+  its_log = subst (λ (w : ℕ). LogIsLegal (outline_of q job) w p.log) (sym host.1) kept.parts.legal
+
+  now : MayLeaveNow q job p.log h mv.bin mv.time
+  now = leaves kept worker j below m movers mv.bin mv.time may h host
+
+  -- the host has it
+  pub some_leaves : ((l : Log) → NothingLeaves q job l h mv.bin mv.time) → ⊥
+  some_leaves none = none p.log host.2 its_log now
+
+  pub leaving : (one : Held Cell) (out : Hosted Cell) → IsTakenOut mv.bin mv.time one h out → ((l : Log) → GivesUp q job l mv.bin mv.time one h out) → StandsInOrder q job h
+      → ((l : Log) → MoversMatchLogAndSeen (outline_of q job) l p.notes p.seen m → IsMoveAway (outline_of q job) m.stage m.worker mv)
+      → IsLeaving q job p (state kept worker) j mv one h out
+  leaving one out taken gives denotes away =
+      let left = gives p.log host.2 its_log now in
+      record {
+        bin = taken_of_bin mv.bin mv.time one h out taken;
+        content = packet_content q job p.number p.log j h host mv.bin mv.time now one out taken left.1;
+        state = subst (λ (k : ℕ). IsStateBefore q job k mv.bin mv.time one.state) host.0 left.1;
+        may = may_send_packet kept worker j below m movers mv.bin mv.time may;
+        to = goes_to kept worker j below m movers mv away;
+        can = can_extract kept worker j below m movers mv.bin mv.time may;
+        alone = one_packet kept worker j below m movers mv.bin mv.time may;
+        changes = λ ns told. packet_changes q job p.number p.log j h host mv.bin mv.time now kept.sound kept.parts.legal below one out ns denotes taken left.1 told;
+        without = host_without q job p.number p.log j h host mv.bin mv.time now out taken.stage taken.worker left.0;
+      }

@@ -5,7 +5,6 @@ use Rattle.std.proofs.lemmas.List.{length-set, get_or-set_same, get_or-set_other
 use Rattle.mp_names.specs.declared.kinds.Kind.TheVariants.{Route, SendRow}
 use Rattle.mp_names.specs.declared.names.Name.{Name}
 use Rattle.mp_names.specs.Names.{IsLeast, is_rec, is_row}
-use Rattle.mp_names.specs.Outlines.{OutlineIsSound}
 use Rattle.mp_names.specs.Logs.{Log, with_sent}
 use Rattle.mp_names.specs.Keeping.{IsHeld}
 use Rattle.mp_names.proofs.Orders.{least_unique}
@@ -104,16 +103,16 @@ module _ {Cell : Type 0} {q : QueryFacts Cell} {job its : JobFacts} {number : �
     of_log l f rs rows = kept_by kept worker new e l f (record p { routers = rs; unsent = rows })
 
     -- a record was sent, and is gone from its router
-    pub routed_kept : OutlineIsSound (outline_of q job) → (j : ℕ) (x : Name) (r : Routed)
+    pub routed_kept : (j : ℕ) (x : Name) (r : Routed)
         → new.log ≡ with_sent p.log x → MayGo q job p.number p.log j p.seen x → IsRouterAt q job p.number (with_sent p.log x) j r
         → IsKept q job its number new (record p { number = new.worker; log = new.log; routers = set p.routers j r })
-    routed_kept sound j x r f may at = of_log (with_sent p.log x) f (set p.routers j r) p.unsent ((steps_keep_parts q job sound p kept.parts).route j x r may at)
+    routed_kept j x r f may at = of_log (with_sent p.log x) f (set p.routers j r) p.unsent ((steps_keep_parts q job kept.sound p kept.parts).route j x r may at)
 
     -- an answer row was
-    pub row_sent_kept : OutlineIsSound (outline_of q job) → (x : Name) (rows : List Output)
+    pub row_sent_kept : (x : Name) (rows : List Output)
         → new.log ≡ with_sent p.log x → IsLeast (IsHeld (outline_of q job) p.number p.log is_row) x → HoldsRowsBut q job p.number (with_sent p.log x) [] rows
         → IsKept q job its number new (record p { number = new.worker; log = new.log; unsent = rows })
-    row_sent_kept sound x rows f least holds = of_log (with_sent p.log x) f p.routers rows ((steps_keep_parts q job sound p kept.parts).send_row x rows least holds)
+    row_sent_kept x rows f least holds = of_log (with_sent p.log x) f p.routers rows ((steps_keep_parts q job kept.sound p kept.parts).send_row x rows least holds)
 
     -- nothing was: a router that was taken in hand holds what it held
     pub router_still_kept : (j : ℕ) (r : Routed) → new.log ≡ p.log → IsRouterAt q job p.number p.log j r

@@ -1,5 +1,5 @@
 -- What a worker keeps to where some of its parts are others.
-use Rattle.std.proofs.Common.{◌≡◌, ◌∙◌, ℕ, List, length, subst, sym}
+use Rattle.std.proofs.Common.{◌≡◌, ◌∙◌, ℕ, List, length, refl, subst, sym}
 use Rattle.mp_names.specs.Logs.{Log}
 use Rattle.mp_bins.specs.Notes.{Notes}
 use Rattle.mp_model.specs.Facts.{JobFacts, QueryFacts}
@@ -22,6 +22,8 @@ kept_as kept new parts same are = record {
   same = kept.same;
   legal = kept.legal;
   rows = kept.rows;
+  sound = kept.sound;
+  hands_on = kept.hands_on;
   number = same ∙ kept.number;
   parts = are;
 }
@@ -46,70 +48,36 @@ kept_by {q = q} {job = job} {p = p} kept worker new e names f made are =
 -- Parts of which some are others that hold what the log says too
 
 module _ {Cell : Type 0} {q : QueryFacts Cell} {job : JobFacts} {p : Parts Cell} (are : ArePartsOf q job p) where
-  pub other_notes : (notes : Notes) → AreTaken job p.number p.log notes → ArePartsOf q job (record p { notes = notes })
-  other_notes notes taken = record {
+  others : (notes : Notes) (routers : List Routed) (hosts : List (Hosted Cell)) (movers : List MoversState)
+      → AreTaken job p.number p.log notes
+      → length routers ≡ length p.routers → AtEach routers (IsRouterAt q job p.number p.log)
+      → length hosts ≡ length p.hosts → AtEach hosts (IsHostAt q job p.number p.log)
+      → length movers ≡ length p.movers → AtEach movers (AreMoversAt q job p.number p.log)
+      → ArePartsOf q job (record p { notes = notes; routers = routers; hosts = hosts; movers = movers })
+  others notes routers hosts movers taken all_routers at_routers all_hosts at_hosts all_movers at_movers = record {
     worker = are.worker;
     legal = are.legal;
     done = are.done;
     notes = taken;
     next = are.next;
-    all_routers = are.all_routers;
-    routers = are.routers;
-    all_hosts = are.all_hosts;
-    hosts = are.hosts;
-    all_movers = are.all_movers;
-    movers = are.movers;
+    all_routers = all_routers ∙ are.all_routers;
+    routers = at_routers;
+    all_hosts = all_hosts ∙ are.all_hosts;
+    hosts = at_hosts;
+    all_movers = all_movers ∙ are.all_movers;
+    movers = at_movers;
     unsent = are.unsent;
     unwritten = are.unwritten;
   }
+
+  pub other_notes : (notes : Notes) → AreTaken job p.number p.log notes → ArePartsOf q job (record p { notes = notes })
+  other_notes notes taken = others notes p.routers p.hosts p.movers taken refl are.routers refl are.hosts refl are.movers
 
   pub other_routers : (routers : List Routed) → length routers ≡ length p.routers → AtEach routers (IsRouterAt q job p.number p.log) → ArePartsOf q job (record p { routers = routers })
-  other_routers routers all at = record {
-    worker = are.worker;
-    legal = are.legal;
-    done = are.done;
-    notes = are.notes;
-    next = are.next;
-    all_routers = all ∙ are.all_routers;
-    routers = at;
-    all_hosts = are.all_hosts;
-    hosts = are.hosts;
-    all_movers = are.all_movers;
-    movers = are.movers;
-    unsent = are.unsent;
-    unwritten = are.unwritten;
-  }
+  other_routers routers all at = others p.notes routers p.hosts p.movers are.notes all at refl are.hosts refl are.movers
 
   pub other_hosts : (hosts : List (Hosted Cell)) → length hosts ≡ length p.hosts → AtEach hosts (IsHostAt q job p.number p.log) → ArePartsOf q job (record p { hosts = hosts })
-  other_hosts hosts all at = record {
-    worker = are.worker;
-    legal = are.legal;
-    done = are.done;
-    notes = are.notes;
-    next = are.next;
-    all_routers = are.all_routers;
-    routers = are.routers;
-    all_hosts = all ∙ are.all_hosts;
-    hosts = at;
-    all_movers = are.all_movers;
-    movers = are.movers;
-    unsent = are.unsent;
-    unwritten = are.unwritten;
-  }
+  other_hosts hosts all at = others p.notes p.routers hosts p.movers are.notes refl are.routers all at refl are.movers
 
   pub other_movers : (movers : List MoversState) → length movers ≡ length p.movers → AtEach movers (AreMoversAt q job p.number p.log) → ArePartsOf q job (record p { movers = movers })
-  other_movers movers all at = record {
-    worker = are.worker;
-    legal = are.legal;
-    done = are.done;
-    notes = are.notes;
-    next = are.next;
-    all_routers = are.all_routers;
-    routers = are.routers;
-    all_hosts = are.all_hosts;
-    hosts = are.hosts;
-    all_movers = all ∙ are.all_movers;
-    movers = at;
-    unsent = are.unsent;
-    unwritten = are.unwritten;
-  }
+  other_movers movers all at = others p.notes p.routers p.hosts movers are.notes refl are.routers refl are.hosts all at

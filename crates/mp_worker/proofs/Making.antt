@@ -3,7 +3,6 @@ use Rattle.std.proofs.Common.{◌≡◌, ◌∙◌, ℕ, sym, ap, subst}
 use Rattle.mp_names.specs.declared.kinds.Kind.{Kind}
 use Rattle.mp_names.specs.declared.names.Name.{Name}
 use Rattle.mp_names.specs.Logs.{Log}
-use Rattle.mp_names.specs.Outlines.{OutlineIsSound}
 use Rattle.mp_machine.specs.Steps.{IsNext, IsReady, KindFits, logged}
 use Rattle.mp_model.specs.Facts.{JobFacts, QueryFacts}
 use Rattle.mp_outline.specs.JobOutline.{outline_of}
@@ -20,8 +19,8 @@ module _ {Cell : Type 0} {q : QueryFacts Cell} {job its : JobFacts} {number : �
   abbrev pub state : WorkerState
   state = record { number = number; log = p.log; posted = p.posted; seen = p.seen }
 
-  pub told : OutlineIsSound (outline_of q job) → ConditionsAreTold q job p
-  told sound = conditions_are_told q job sound p kept.parts
+  pub told : ConditionsAreTold q job p
+  told = conditions_are_told q job kept.sound p kept.parts
 
   -- the step of the machine
   abbrev Step : Kind → Name → ℕ → Type 0

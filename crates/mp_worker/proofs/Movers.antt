@@ -1,7 +1,6 @@
 -- The movers and the host of a stage of a worker, and what they are asked by.
 use Rattle.std.proofs.Common.{◌≡◌, ◌∙◌, ℕ, ◌<◌, List, get_or, set, sym, ap, subst}
 use Rattle.std.proofs.lemmas.List.{set-get_or}
-use Rattle.mp_names.specs.Outlines.{OutlineIsSound}
 use Rattle.mp_model.specs.Facts.{JobFacts, QueryFacts}
 use Rattle.mp_outline.specs.JobOutline.{outline_of}
 use Rattle.mp_rows.specs.WorkerLog.{WorkerLog}
@@ -14,9 +13,9 @@ use Rattle.mp_worker_invariant.specs.Parts.{AreMoversAt, IsHostAt, Parts}
 use Rattle.mp_worker_invariant.proofs.Asked.{parts_are_asked}
 use Rattle.mp_worker.specs.Kept.{IsKept}
 
-module _ {Cell : Type 0} {q : QueryFacts Cell} {job its : JobFacts} {number : ℕ} {log : WorkerLog} {p : Parts Cell} (kept : IsKept q job its number log p) (sound : OutlineIsSound (outline_of q job)) (j : ℕ) (below : j < job.shape.stages) where
+module _ {Cell : Type 0} {q : QueryFacts Cell} {job its : JobFacts} {number : ℕ} {log : WorkerLog} {p : Parts Cell} (kept : IsKept q job its number log p) (j : ℕ) (below : j < job.shape.stages) where
   pub asked : PartsAreAsked q job p
-  asked = parts_are_asked q job sound p kept.parts
+  asked = parts_are_asked q job kept.sound p kept.parts
 
   -- the host of a stage
   pub host_at : (h : Hosted Cell) → h ≡ get_or p.hosts j h → IsHostAt q job p.number p.log j h

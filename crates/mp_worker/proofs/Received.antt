@@ -5,18 +5,17 @@ use Rattle.std.proofs.lemmas.Bool.{false≢true}
 use Rattle.mp_names.specs.declared.controls.Control.{Control}
 use Rattle.mp_names.specs.declared.locations.Loc.TheVariants.{Host, Mail}
 use Rattle.mp_names.specs.declared.names.Name.{Name}
-use Rattle.mp_names.specs.declared.names.Name.TheVariants.{Ctrl, Group, Packet, Rec as RecName, Row}
+use Rattle.mp_names.specs.declared.names.Name.TheVariants.{Ctrl, Group, Packet, Row}
 use Rattle.mp_names.specs.declared.names.Tag.{Tag}
-use Rattle.mp_names.specs.declared.pointstamps.ControlCursor.{ControlCursor}
 use Rattle.mp_names.specs.Controls.{control_of}
 use Rattle.mp_names.specs.Names.{has}
 use Rattle.mp_names.specs.Outlines.{IsOwed, IsOwedTo, OutlineIsSound, receiver}
 use Rattle.mp_names.specs.Logs.{Log, LogIsLegal, is_pending, with_took}
-use Rattle.mp_stamps.specs.declared.seen.Seen.{Seen}
 use Rattle.mp_bins.specs.declared.owners.Note.{Note}
 use Rattle.mp_bins.specs.Laws.{AreNotesOf}
 use Rattle.mp_bins.specs.Notes.{Notes, is_noted, with_note}
 use Rattle.mp_model.specs.declared.fields.Field.{Field}
+use Rattle.mp_model.specs.declared.record.Output.{Output}
 use Rattle.mp_model.specs.declared.record.Rec.{Rec}
 use Rattle.mp_model.specs.Facts.{JobFacts, QueryFacts}
 use Rattle.mp_outline.specs.JobOutline.{name_of_record, outline_of}
@@ -27,19 +26,17 @@ use Rattle.mp_count_laws.proofs.Took.{record_taken as taken_is_counted}
 use Rattle.mp_msg.specs.Contents.{IsControlOf, IsPacketOf, IsRecordOf, IsRowOf}
 use Rattle.mp_msg.specs.States.{BinContent}
 use Rattle.mp_msg.proofs.Owed.{controls_are_owed, packets_are_owed, records_are_owed, rows_are_owed}
-use Rattle.mp_route.specs.Routed.{Routed}
 use Rattle.mp_host_laws.specs.Hosted.{Hosted}
 use Rattle.mp_host_laws.specs.HostOf.{IsHostOf}
 use Rattle.mp_host_laws.specs.Applying.{IsReceived}
 use Rattle.mp_host.specs.Telling.{TakesRecord}
 use Rattle.mp_handoff.specs.MoversState.{MoversState}
 use Rattle.mp_output.specs.Holding.{HoldsUnwritten}
-use Rattle.mp_output.specs.Unwritten.{Unwritten}
 use Rattle.mp_worker_invariant.specs.Parts.{AreMoversAt, AreTaken, IsHostAt, Parts}
 use Rattle.mp_worker_invariant.proofs.Kept.{steps_keep_parts}
-use Rattle.mp_worker.specs.Kept.{IsKept, parts_with}
+use Rattle.mp_worker.specs.Kept.{IsKept}
 use Rattle.mp_worker.specs.Rooms.{SameHosts, SameMovers, roomless, without_room}
-use Rattle.mp_worker.proofs.Keeping.{kept_as, other_hosts, other_movers, other_notes}
+use Rattle.mp_worker.proofs.Keeping.{kept_as, kept_by, other_hosts, other_movers, other_notes}
 use Rattle.mp_worker.proofs.Roomy.{same_each, same_host, same_length, same_movers, written_back}
 
 -- what holds of a call that is never refused
@@ -120,75 +117,58 @@ same_taken job w log old new shape noted are = record {
   taken = λ i. ap (λ (ns : List Note). is_noted ns i) noted ∙ are.taken i;
 }
 
-module _ {Cell : Type 0} (q : QueryFacts Cell) (job its : JobFacts) (number : ℕ) (posted : Log) (seen : Seen) (next : ControlCursor) (routers : List Routed) (unsent : Unwritten) where
-  -- a worker with this log, these notes, hosts and movers, and these rows to be written keeps to what it is to
-  abbrev Keeps : WorkerLog → Notes → List (Hosted Cell) → List MoversState → Unwritten → Type 0
-  Keeps log notes hosts movers rows = IsKept q job its number log (parts_with log posted seen notes next routers hosts movers unsent rows)
-
-  -- room is made in the log, the notes and the rows
-  pub front_roomy : (log new : WorkerLog) (notes more : Notes) (hosts : List (Hosted Cell)) (movers : List MoversState) (rows others : Unwritten)
-      → Keeps log notes hosts movers rows → (new.worker ≡ log.worker) × (new.log ≡ log.log) → (more.shape ≡ notes.shape) × (more.noted ≡ notes.noted) → others.rows ≡ rows.rows
-      → Keeps new more hosts movers others
-  front_roomy log new notes more hosts movers rows others kept l n r =
-      kept_as kept new (parts_with new posted seen more next routers hosts movers unsent others) l.0
-      (rw (l.0, l.1, r) (other_notes kept.parts more (same_taken job log.worker log.log notes more n.0 n.1 kept.parts.notes)))
-
+module _ {Cell : Type 0} {q : QueryFacts Cell} {job its : JobFacts} {number : ℕ} {log : WorkerLog} {p : Parts Cell} (kept : IsKept q job its number log p) (worker : p.number ≡ log.worker) where
   -- room is made in the hosts, which are lent as a slice
-  pub hosts_roomy : (log : WorkerLog) (notes : Notes) (hosts lent roomy : List (Hosted Cell)) (movers : List MoversState) (rows : Unwritten) (n : ℕ)
-      → Keeps log notes hosts movers rows → lent ≡ hosts → length lent ≡ n → SameHosts lent roomy
-      → Keeps log notes (take n (roomy ++ drop (length roomy) hosts)) movers rows
-  hosts_roomy log notes hosts lent roomy movers rows n kept is count same =
+  pub hosts_roomy : (lent roomy : List (Hosted Cell)) (n : ℕ) → lent ≡ p.hosts → length lent ≡ n → SameHosts lent roomy → IsKept q job its number log (record p { hosts = take n (roomy ++ drop (length roomy) p.hosts) })
+  hosts_roomy lent roomy n is count same =
       let there = subst (λ (hs : List (Hosted Cell)). SameHosts hs roomy) is same in
-      kept_as kept log (parts_with log posted seen notes next routers (take n (roomy ++ drop (length roomy) hosts)) movers unsent rows) refl
-      (rw (written_back without_room hosts lent roomy n count same)
-      (other_hosts kept.parts roomy (same_length without_room hosts roomy there) (same_each without_room (IsHostAt q job log.worker log.log) (same_host q job log.worker log.log) hosts roomy there kept.parts.hosts)))
+      kept_as kept log (record p { hosts = take n (roomy ++ drop (length roomy) p.hosts) }) refl
+      (rw (written_back without_room p.hosts lent roomy n count same)
+      (other_hosts kept.parts roomy (same_length without_room p.hosts roomy there) (same_each without_room (IsHostAt q job p.number p.log) (same_host q job p.number p.log) p.hosts roomy there kept.parts.hosts)))
 
   -- and in the movers
-  pub movers_roomy : (log : WorkerLog) (notes : Notes) (hosts : List (Hosted Cell)) (movers lent roomy : List MoversState) (rows : Unwritten) (n : ℕ)
-      → Keeps log notes hosts movers rows → lent ≡ movers → length lent ≡ n → SameMovers lent roomy
-      → Keeps log notes hosts (take n (roomy ++ drop (length roomy) movers)) rows
-  movers_roomy log notes hosts movers lent roomy rows n kept is count same =
+  pub movers_roomy : (lent roomy : List MoversState) (n : ℕ) → lent ≡ p.movers → length lent ≡ n → SameMovers lent roomy → IsKept q job its number log (record p { movers = take n (roomy ++ drop (length roomy) p.movers) })
+  movers_roomy lent roomy n is count same =
       let there = subst (λ (ms : List MoversState). SameMovers ms roomy) is same in
-      kept_as kept log (parts_with log posted seen notes next routers hosts (take n (roomy ++ drop (length roomy) movers)) unsent rows) refl
-      (rw (written_back roomless movers lent roomy n count same)
-      (other_movers kept.parts roomy (same_length roomless movers roomy there) (same_each roomless (AreMoversAt q job log.worker log.log) (same_movers q job log.worker log.log) movers roomy there kept.parts.movers)))
+      kept_as kept log (record p { movers = take n (roomy ++ drop (length roomy) p.movers) }) refl
+      (rw (written_back roomless p.movers lent roomy n count same)
+      (other_movers kept.parts roomy (same_length roomless p.movers roomy there) (same_each roomless (AreMoversAt q job p.number p.log) (same_movers q job p.number p.log) p.movers roomy there kept.parts.movers)))
 
-  module _ (sound : OutlineIsSound (outline_of q job)) (log new : WorkerLog) (notes : Notes) (hosts : List (Hosted Cell)) (movers : List MoversState) (rows : Unwritten) (kept : Keeps log notes hosts movers rows) (x : Name) (owed : IsOwedTo (outline_of q job) log.worker x) (fresh : has log.log.took x ≡ false) (l : (new.worker ≡ log.worker) × (new.log ≡ with_took log.log x)) where
-    abbrev p : Parts Cell
-    p = parts_with log posted seen notes next routers hosts movers unsent rows
-
-    owed_as : (y : Name) → x ≡ y → IsOwedTo (outline_of q job) log.worker y
-    owed_as y is = subst (λ (z : Name). IsOwedTo (outline_of q job) log.worker z) is owed
-
-    fresh_as : (y : Name) → x ≡ y → has log.log.took y ≡ false
-    fresh_as y is = subst (λ (z : Name). has log.log.took z ≡ false) is fresh
+  module _ (new : WorkerLog) (e : new.worker ≡ p.number) where
+    -- room is made in the log, the notes and the rows
+    pub front_roomy : (more : Notes) (others : List Output) → new.log ≡ p.log → (more.shape ≡ p.notes.shape) × (more.noted ≡ p.notes.noted) → others ≡ p.unwritten
+        → IsKept q job its number new (record p { number = new.worker; log = new.log; notes = more; unwritten = others })
+    front_roomy more others f n r =
+        kept_by kept worker new e p.log f (record p { notes = more; unwritten = others })
+        (rw r (other_notes kept.parts more (same_taken job p.number p.log p.notes more n.0 n.1 kept.parts.notes)))
 
     -- a control record is taken
-    pub control_taken : (i : ℕ) (c : Control) → x ≡ Ctrl i log.worker → c ≡ control_of job.controls i → (noted : Notes) → noted ≡ record notes { noted = with_note notes.noted (record { index = i; control = c }); room = noted.room }
-        → (m : MoversState) → AreMoversAt q job log.worker (with_took log.log x) c.stage m → Keeps new noted hosts (set movers c.stage m) rows
-    control_taken i c is of_job noted with_it m at =
-        let taken = (steps_keep_parts q job sound p kept.parts).receive_control i noted m (owed_as (Ctrl i log.worker) is) (fresh_as (Ctrl i log.worker) is)
-        (subst (λ (d : Control). noted ≡ record notes { noted = with_note notes.noted (record { index = i; control = d }); room = noted.room }) of_job with_it)
-        (subst (λ (y : Name). AreMoversAt q job log.worker (with_took log.log y) (control_of job.controls i).stage m) is (subst (λ (d : Control). AreMoversAt q job log.worker (with_took log.log x) d.stage m) of_job at)) in
-        kept_as kept new (parts_with new posted seen noted next routers hosts (set movers c.stage m) unsent rows) l.0 (rw (l.0, l.1, is, of_job) taken)
+    pub control_taken : (i : ℕ) (c : Control) → IsOwedTo (outline_of q job) p.number (Ctrl i p.number) → has p.log.took (Ctrl i p.number) ≡ false → new.log ≡ with_took p.log (Ctrl i p.number)
+        → c ≡ control_of job.controls i → (noted : Notes) → noted ≡ record p.notes { noted = with_note p.notes.noted (record { index = i; control = c }); room = noted.room }
+        → (m : MoversState) → AreMoversAt q job p.number (with_took p.log (Ctrl i p.number)) c.stage m
+        → IsKept q job its number new (record p { number = new.worker; log = new.log; notes = noted; movers = set p.movers c.stage m })
+    control_taken i c owed fresh f of_job noted with_it m at =
+        let taken = (steps_keep_parts q job kept.sound p kept.parts).receive_control i noted m owed fresh
+        (subst (λ (d : Control). noted ≡ record p.notes { noted = with_note p.notes.noted (record { index = i; control = d }); room = noted.room }) of_job with_it)
+        (subst (λ (d : Control). AreMoversAt q job p.number (with_took p.log (Ctrl i p.number)) d.stage m) of_job at) in
+        kept_by kept worker new e (with_took p.log (Ctrl i p.number)) f (record p { notes = noted; movers = set p.movers c.stage m }) (rw of_job taken)
 
     -- a record is taken
-    pub record_taken : (j t k : ℕ) (g : Tag) → x ≡ RecName j t k g → (h : Hosted Cell) → IsHostAt q job log.worker (with_took log.log x) j h → Keeps new notes (set hosts j h) movers rows
-    record_taken j t k g is h holds =
-        let taken = (steps_keep_parts q job sound p kept.parts).receive j t k g h (owed_as (RecName j t k g) is) (fresh_as (RecName j t k g) is)
-        (subst (λ (y : Name). IsHostAt q job log.worker (with_took log.log y) j h) is holds) in
-        kept_as kept new (parts_with new posted seen notes next routers (set hosts j h) movers unsent rows) l.0 (rw (l.0, l.1, is) taken)
+    pub record_taken : (j : ℕ) (r : Rec) (x : Name) → x ≡ name_of_record j r → IsOwedTo (outline_of q job) p.number x → has p.log.took x ≡ false → new.log ≡ with_took p.log x
+        → (h : Hosted Cell) → IsHostAt q job p.number (with_took p.log x) j h → IsKept q job its number new (record p { number = new.worker; log = new.log; hosts = set p.hosts j h })
+    record_taken j r x is owed fresh f h holds =
+        let taken = (steps_keep_parts q job kept.sound p kept.parts).receive j r.time r.key r.tag h (rw is at owed) (rw is at fresh) (rw is at holds) in
+        kept_by kept worker new e (with_took p.log x) f (record p { hosts = set p.hosts j h }) (rw is taken)
 
     -- the state of a bin is taken
-    pub packet_taken : (j b t : ℕ) → x ≡ Packet j b t → (h : Hosted Cell) → IsHostAt q job log.worker (with_took log.log x) j h → Keeps new notes (set hosts j h) movers rows
-    packet_taken j b t is h holds =
-        let taken = (steps_keep_parts q job sound p kept.parts).receive_packet j b t h (owed_as (Packet j b t) is) (fresh_as (Packet j b t) is)
-        (subst (λ (y : Name). IsHostAt q job log.worker (with_took log.log y) j h) is holds) in
-        kept_as kept new (parts_with new posted seen notes next routers (set hosts j h) movers unsent rows) l.0 (rw (l.0, l.1, is) taken)
+    pub packet_taken : (j b t : ℕ) → IsOwedTo (outline_of q job) p.number (Packet j b t) → has p.log.took (Packet j b t) ≡ false → new.log ≡ with_took p.log (Packet j b t)
+        → (h : Hosted Cell) → IsHostAt q job p.number (with_took p.log (Packet j b t)) j h → IsKept q job its number new (record p { number = new.worker; log = new.log; hosts = set p.hosts j h })
+    packet_taken j b t owed fresh f h holds =
+        kept_by kept worker new e (with_took p.log (Packet j b t)) f (record p { hosts = set p.hosts j h }) ((steps_keep_parts q job kept.sound p kept.parts).receive_packet j b t h owed fresh holds)
 
     -- an answer row is taken
-    pub row_taken : (t : ℕ) (g : Tag) → x ≡ Row t g → (more : Unwritten) → HoldsUnwritten (with_took log.log x) more.rows → Keeps new notes hosts movers more
-    row_taken t g is more holds =
-        let taken = (steps_keep_parts q job sound p kept.parts).receive_row t g more.rows (owed_as (Row t g) is) (fresh_as (Row t g) is)
-        (subst (λ (y : Name). HoldsUnwritten (with_took log.log y) more.rows) is holds) in
-        kept_as kept new (parts_with new posted seen notes next routers hosts movers unsent more) l.0 (rw (l.0, l.1, is) taken)
+    pub row_taken : (t : ℕ) (g : Tag) (x : Name) → x ≡ Row t g → IsOwedTo (outline_of q job) p.number x → has p.log.took x ≡ false → new.log ≡ with_took p.log x
+        → (rows : List Output) → HoldsUnwritten (with_took p.log x) rows → IsKept q job its number new (record p { number = new.worker; log = new.log; unwritten = rows })
+    row_taken t g x is owed fresh f rows holds =
+        let taken = (steps_keep_parts q job kept.sound p kept.parts).receive_row t g rows (rw is at owed) (rw is at fresh) (rw is at holds) in
+        kept_by kept worker new e (with_took p.log x) f (record p { unwritten = rows }) (rw is taken)

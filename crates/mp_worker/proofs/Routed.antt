@@ -2,7 +2,7 @@
 use Rattle.std.proofs.Common.{◌≡◌, ℕ, ◌<◌, List, get_or, sym, ap, ◌∙◌, subst}
 use Rattle.mp_names.specs.declared.controls.Shape.{Shape}
 use Rattle.mp_names.specs.declared.names.Name.{Name}
-use Rattle.mp_names.specs.Outlines.{OutlineIsSound, receiver}
+use Rattle.mp_names.specs.Outlines.{receiver}
 use Rattle.mp_names.specs.Logs.{Log, with_sent}
 use Rattle.mp_stamps.specs.declared.seen.Seen.{Seen}
 use Rattle.mp_bins.specs.Bins.{bin_of_key}
@@ -35,12 +35,12 @@ same_record i j r s e = cc
 
 module _ {Cell : Type 0} {q : QueryFacts Cell} {job : JobFacts} where
   -- where a record may go, the owner by the notes is the receiver of its name
-  pub owner_is : {its : JobFacts} {number : ℕ} {log : WorkerLog} {p : Parts Cell} → IsKept q job its number log p → OutlineIsSound (outline_of q job)
+  pub owner_is : {its : JobFacts} {number : ℕ} {log : WorkerLog} {p : Parts Cell} → IsKept q job its number log p
       → (j : ℕ) (r : Record) → MayGo q job p.number p.log j p.seen (name_of_record j r)
       → (shape : Shape) (bin n : ℕ) → shape ≡ its.shape → bin ≡ bin_of_key r.key shape.bins → n ≡ noted_owner p.notes j bin r.time → n ≡ receiver (outline_of q job) (name_of_record j r)
-  owner_is {p = p} kept sound j r may shape bin n its_shape at owns =
+  owner_is {p = p} kept j r may shape bin n its_shape at owns =
       let same : shape ≡ job.shape = its_shape ∙ ap (λ (f : JobFacts). f.shape) kept.same in
-      let known = (parts_are_asked q job sound p kept.parts).moves j in
+      let known = (parts_are_asked q job kept.sound p kept.parts).moves j in
       owns ∙ ap (λ (b : ℕ). noted_owner p.notes j b r.time) (at ∙ ap (λ (s : Shape). bin_of_key r.key s.bins) same) ∙ (known.owners (bin_of_key r.key job.shape.bins) r.time may.1).1
 
   -- the router of a stage

@@ -6,7 +6,7 @@ use Rattle.mp_names.specs.declared.names.Name.TheVariants.{Packet, Settled}
 use Rattle.mp_names.specs.Logs.{Log, with_settled}
 use Rattle.mp_names.specs.Names.{In, IsLeast}
 use Rattle.mp_names.specs.Keeping.{IsUnsettled}
-use Rattle.mp_names.specs.Outlines.{IsOwedBy, OutlineIsSound}
+use Rattle.mp_names.specs.Outlines.{IsOwedBy}
 use Rattle.mp_model.specs.Facts.{JobFacts, QueryFacts}
 use Rattle.mp_outline.specs.JobOutline.{outline_of}
 use Rattle.mp_rows.specs.Entries.{AreChanges}
@@ -24,10 +24,10 @@ use Rattle.mp_worker.proofs.Keeping.{kept_by}
 use Rattle.mp_worker.proofs.Making.{can_do, can_make, state, told}
 use Rattle.mp_worker.proofs.Movers.{movers_informed}
 
-module _ {Cell : Type 0} {q : QueryFacts Cell} {job its : JobFacts} {number : ℕ} {log : WorkerLog} {p : Parts Cell} (kept : IsKept q job its number log p) (worker : p.number ≡ log.worker) (sound : OutlineIsSound (outline_of q job)) (j : ℕ) (below : j < job.shape.stages)
+module _ {Cell : Type 0} {q : QueryFacts Cell} {job its : JobFacts} {number : ℕ} {log : WorkerLog} {p : Parts Cell} (kept : IsKept q job its number log p) (worker : p.number ≡ log.worker) (j : ℕ) (below : j < job.shape.stages)
     (m : MoversState) (at : AreMoversAt q job p.number p.log j m) where
   informed : MoversMatchLogAndSeen (outline_of q job) p.log p.notes p.seen m
-  informed = movers_informed kept sound j below m at
+  informed = movers_informed kept j below m at
 
   -- what is told of movers that are asked by a log
   abbrev IfInformed : (Log → Type 0) → Type 0
@@ -36,7 +36,7 @@ module _ {Cell : Type 0} {q : QueryFacts Cell} {job its : JobFacts} {number : �
   -- where they settle none, none may be settled
   pub none_to_settle : ((l : Log) (t : ℕ) → MoversMatchLogAndSeen (outline_of q job) l p.notes p.seen m → MaySettleHere (outline_of q job) l p.seen m t → ⊥) → (x : Name) → CanMake (outline_of q job) (Settle j) (state kept worker) x → ⊥
   none_to_settle none x can =
-      (told kept worker sound).no_settle j
+      (told kept worker).no_settle j
       (λ t least passed sent.
       none p.log t informed (record {
         least = subst (λ (i : ℕ). IsLeast (IsUnsettled (outline_of q job) p.log i) (Settled i t)) (sym at.0) least;
@@ -59,7 +59,7 @@ module _ {Cell : Type 0} {q : QueryFacts Cell} {job its : JobFacts} {number : �
         (here.sent b (subst (λ (w : ℕ). IsOwedBy (outline_of q job) w (Packet m.stage b t)) (sym at.1) (subst (λ (i : ℕ). IsOwedBy (outline_of q job) p.number (Packet i b t)) (sym at.0) owed)))
 
     pub can_settle : CanMake (outline_of q job) (Settle j) (state kept worker) (Settled j t)
-    can_settle = can_make kept worker (Settle j) (Settled j t) below ((told kept worker sound).settle j t least_here here.passed all_sent)
+    can_settle = can_make kept worker (Settle j) (Settled j t) below ((told kept worker).settle j t least_here here.passed all_sent)
 
     -- it is to be settled no longer
     pub settled_counted : AreChanges (outline_of q job) p.number p.log (with_settled p.log (Settled j t)) (settled_at j t)
@@ -72,4 +72,4 @@ module _ {Cell : Type 0} {q : QueryFacts Cell} {job its : JobFacts} {number : �
         let moved : AreMoversAt q job p.number (with_settled p.log (Settled j t)) j next =
         (stage ∙ at.0, same ∙ at.1, subst (λ (i : ℕ). IsMoversOf (outline_of q job) (with_settled p.log (Settled i t)) next) at.0 (holds p.log informed)) in
         kept_by kept worker new e (with_settled p.log (Settled j t)) f (record p { movers = set p.movers j next })
-        ((steps_keep_parts q job sound p kept.parts).settle j t next least_here here.passed all_sent moved)
+        ((steps_keep_parts q job kept.sound p kept.parts).settle j t next least_here here.passed all_sent moved)

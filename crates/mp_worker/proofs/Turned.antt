@@ -40,6 +40,11 @@ module _ (had_room was_full was_empty : ℕ → ℕ → Type 0) (o : Outline) (m
   answers_refused WriteFault (Err s) is write same = subst (λ (t : Stop). Answers had_room was_full was_empty o made old new (Err t)) (sym is) (write, same)
   answers_refused NoMemory (Err s) is write same = subst (λ (t : Stop). Answers had_room was_full was_empty o made old new (Err t)) (sym is) same
 
+  -- the answer of a step for which there was no memory
+  pub answers_no_memory : (r : Result Turn Stop) → IsErrAnd r (λ s. s ≡ stop.Memory) → new ≡ old → Answers had_room was_full was_empty o made old new r
+  answers_no_memory (Ok x) is same = absurd is
+  answers_no_memory (Err s) is same = subst (λ (t : Stop). Answers had_room was_full was_empty o made old new (Err t)) (sym is) same
+
   -- a worker that makes a step, or doesn't, stays at its hub
   module _ {H : Type 0} (serves : H → ℕ → Type 0) (posted : H → ℕ → Log) (version : H → ℕ) (hub : H) (at : IsAtHub serves posted version old hub) where
     pub stays_at_hub : {E : Type 0} (r : Result (Option Name) E) → StepsByMail had_room was_full was_empty o made old new r → IsAtHub serves posted version new hub

@@ -1,6 +1,8 @@
 -- What the contracts of this crate cite.
 pub mod Done
 pub mod Exchanging
+pub mod Applying
+pub mod Contents
 pub mod Kept
 pub mod Rooms
 pub mod Sending

@@ -1,13 +1,16 @@
 //! How a worker applies groups.
-ghost use Rattle.std.specs.Prelude.{◌≡◌, ◌≤◌, ◌<◌, ◌+◌, ◌^◌, ◌++◌, ◌∷◌, [], IfOk, IsOk, OnOk, length, map, vec_len};
+ghost use Rattle.std.specs.Prelude.{◌≡◌, ◌≤◌, ◌<◌, ◌+◌, ◌^◌, ◌++◌, ◌∷◌, ℕ, [], IfNone, IfOk, IfSome, IsOk, OnOk, length, map, vec_len};
 ghost use Rattle.std.specs.Vec.{vec_capacity};
 ghost use Rattle.mp_names.specs.declared.locations.Loc.TheVariants.{Host as HostLoc};
 ghost use Rattle.mp_names.specs.declared.kinds.Kind.TheVariants.{Apply};
+ghost use Rattle.mp_names.specs.declared.names.Name.{Name};
 ghost use Rattle.mp_count_laws.specs.Changes.{one_less, one_more, some_more};
 ghost use Rattle.mp_outline.specs.JobOutline.{outline_of};
+ghost use Rattle.mp_refinement.specs.State.{CanMake};
 ghost use Rattle.mp_refinement.specs.Steps.{StepsAlone};
+ghost use Rattle.mp_worker.specs.Applying.{HasRoomToApply, IsEnoughFor, SomeGroupIsReady};
 
-use crate::Worker;
+use crate::parts::Parts;
 use mp_host::Applied;
 use mp_model::{Naming, Query, Time};
 use mp_names::{Loc, Name};
@@ -15,25 +18,67 @@ use mp_parts::{hold_records, hold_rows, location_after, make_room_onward, one_le
 use mp_rows::{Change, Log, LogList, OutlineOf, Pointstamp};
 use std::alloc::{AllocError, Global};
 
-impl<'a, Q: Query, J: Naming> Worker<'a, Q, J> {
+impl<'a, Q: Query, J: Naming> Parts<'a, Q, J> {
     /// The least group of a stage that waits is applied, once all that belongs to it has come; what it gives goes to the
     /// router of the next stage, or from the last stage to the answer rows to be sent: its name, or `None` exactly where
     /// no group may be applied. `AllocError`: no memory, and nothing changes.
     pub(crate) fn apply(&mut self, stage: u32) -> Result<Option<Name>, AllocError>
         requires stage { stage < J.job.shape.stages }
         ensures { let o = outline_of (Q.facts J.job.rules) J.job in
-            StepsAlone o (Apply stage) self.old self.new result }
+            StepsAlone o (Apply stage) self.old.worker self.new.worker result }
+    {
+        let Some(most) = self.most_of_ready(stage) else {
+            return Ok(None);
+        };
+        let changes = self.make_room_to_apply(stage as usize + 1, most)?;
+        self.apply_ready(stage, changes)
+    }
+
+    // No fewer than the outputs and the wakes of the group of a stage that may be applied, `None` exactly where there is none.
+    fn most_of_ready(&self, stage: u32) -> Option<u64>
+        requires stage { stage < J.job.shape.stages }
+        ensures none { let o = outline_of (Q.facts J.job.rules) J.job in
+            IfNone result ((x : Name) → CanMake o (Apply stage) self.now.worker x → ⊥) }
+        ensures ready { IfSome result (λ _. SomeGroupIsReady J.job stage self.now) }
+        ensures enough { IfSome result (λ most. most + 2 < 2 ^ 64 → IsEnoughFor (Q.facts J.job.rules) J.job stage most self.now) }
+    {
+        let host = &self.hosts[stage as usize];
+        if host.ready(&self.seen, &self.owners).is_none() {
+            return None;
+        }
+        Some(host.most(self.alloc, &self.seen, &self.owners))
+    }
+
+    // Makes room for a group that gives and wakes no more than `most` in all, and whose outputs go to a stage, and the list of
+    // its changes, which is still empty. `AllocError`: no memory, and nothing but rooms changes.
+    fn make_room_to_apply(&mut self, onward: usize, most: u64) -> Result<Vec<Change>, AllocError>
+        ensures same { self.new.worker ≡ self.old.worker }
+        ensures held { (self.new.hosts ≡ self.old.hosts) × (self.new.notes ≡ self.old.notes) }
+        ensures room { IfOk result (λ changes. HasRoomToApply onward most (vec_capacity changes) self.new) }
+        ensures empty { IfOk result (λ changes. (changes.items ≡ []) × (most + 2 < 2 ^ 64)) }
+    {
+        make_room_onward(onward, most, &mut self.routers, &mut self.unsent)?;
+        let changes = room_in_log(self.alloc, most, &mut self.log)?;
+        Ok(changes)
+    }
+
+    // Applies the group of a stage that may be applied. There is room for it.
+    fn apply_ready(
+        &mut self,
+        stage: u32,
+        mut changes: Vec<Change>,
+    ) -> Result<Option<Name>, AllocError>
+        requires stage { stage < J.job.shape.stages }
+        requires empty { changes.items ≡ [] }
+        requires ready { SomeGroupIsReady J.job stage self.old }
+        requires room { (most : ℕ) × HasRoomToApply (stage + 1) most (vec_capacity changes) self.old × IsEnoughFor (Q.facts J.job.rules) J.job stage most self.old }
+        ensures { let o = outline_of (Q.facts J.job.rules) J.job in
+            StepsAlone o (Apply stage) self.old.worker self.new.worker result }
     {
         let stages = self.job.shape().stages;
         let host = &mut self.hosts[stage as usize];
-        if host.ready(&self.seen, &self.owners).is_none() {
-            return Ok(None);
-        }
-        let most = host.most(self.alloc, &self.seen, &self.owners);
-        make_room_onward(stage + 1, most, &mut self.routers, &mut self.unsent)?;
-        let mut changes = room_in_log(self.alloc, most, &mut self.log)?;
         let Some(applied) = host.apply(self.alloc, &self.seen, &self.owners)? else {
-            return Ok(None);
+            unreachable!()
         };
         let name = Name::Group {
             stage,

@@ -5,7 +5,7 @@ ghost use Rattle.mp_outline.specs.JobOutline.{outline_of};
 ghost use Rattle.mp_refinement.specs.Served.{IsAtPost, PostFollows};
 ghost use Rattle.mp_refinement.specs.Steps.{StepsByMail};
 
-use crate::Worker;
+use crate::parts::Parts;
 use crate::send::send;
 use mp_handoff::count_of_keys;
 use mp_host_laws::Held;
@@ -16,7 +16,7 @@ use mp_names::Name;
 use mp_parts::changes_of_leaving;
 use std::alloc::AllocError;
 
-impl<'a, Q: Query, J: Naming> Worker<'a, Q, J> {
+impl<'a, Q: Query, J: Naming> Parts<'a, Q, J> {
     /// The state of the bin that is due to leave a stage goes to its new owner as one packet, once all groups before the
     /// move are applied: its name, or `None` exactly where no packet may leave or the mailbox was full; the bin is then in
     /// hand as it was. `AllocError`: no memory, and nothing changes.
@@ -27,11 +27,11 @@ impl<'a, Q: Query, J: Naming> Worker<'a, Q, J> {
     ) -> Result<Option<Name>, AllocError>
         requires stage { stage < J.job.shape.stages }
         requires at_post { let o = outline_of (Q.facts J.job.rules) J.job in
-            IsAtPost P.workers P.depth P.serves P.denotes o self.old.number self.old.log post.old }
+            IsAtPost P.workers P.depth P.serves P.denotes o self.old.worker.number self.old.worker.log post.old }
         ensures steps { let o = outline_of (Q.facts J.job.rules) J.job in
-            StepsByMail (P.had_room post.old) (P.was_full post.old) (P.was_empty post.old) o (Extract stage) self.old self.new result }
+            StepsByMail (P.had_room post.old) (P.was_full post.old) (P.was_empty post.old) o (Extract stage) self.old.worker self.new.worker result }
         ensures mail { let o = outline_of (Q.facts J.job.rules) J.job in
-            PostFollows P.workers P.depth P.serves P.denotes o self.old.number self.old.log self.new.log post.old post.new }
+            PostFollows P.workers P.depth P.serves P.denotes o self.old.worker.number self.old.worker.log self.new.worker.log post.old post.new }
     {
         let movers = &mut self.movers[stage as usize];
         let host = &mut self.hosts[stage as usize];

@@ -17,8 +17,9 @@ impl<'a, Q: Query, J: Naming> Worker<'a, Q, J> {
     pub fn is_finished(&self) -> bool
         ensures { IsTrue result ↔ KnowsTheEnd (outline_of (Q.facts J.job.rules) J.job) self.now }
     {
-        let stages = self.job.shape().stages;
-        all_are_done(&self.seen, stages) && (self.number != 0 || self.rows.is_empty())
+        let parts = &self.parts;
+        let stages = parts.job.shape().stages;
+        all_are_done(&parts.seen, stages) && (parts.number != 0 || parts.rows.is_empty())
     }
 }
 

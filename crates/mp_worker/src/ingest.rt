@@ -3,19 +3,19 @@ ghost use Rattle.mp_names.specs.declared.kinds.Kind.TheVariants.{Ingest};
 ghost use Rattle.mp_outline.specs.JobOutline.{outline_of};
 ghost use Rattle.mp_refinement.specs.Steps.{StepsAlone};
 
-use crate::Worker;
+use crate::parts::Parts;
 use mp_model::{Naming, Query};
 use mp_names::{Loc, Name};
 use mp_parts::{one_less, one_more};
 use mp_rows::LogList;
 use std::alloc::AllocError;
 
-impl<'a, Q: Query, J: Naming> Worker<'a, Q, J> {
+impl<'a, Q: Query, J: Naming> Parts<'a, Q, J> {
     /// The next record of the worker's share goes to the router of stage 0: its name, or `None` exactly where all of the
     /// share is ingested. `AllocError`: no memory, and nothing changes.
     pub(crate) fn ingest(&mut self) -> Result<Option<Name>, AllocError>
         ensures { let o = outline_of (Q.facts J.job.rules) J.job in
-            StepsAlone o Ingest self.old self.new result }
+            StepsAlone o Ingest self.old.worker self.new.worker result }
     {
         let next = self.log.ingested() as usize;
         let Some(index) = self.job.share(self.number).get(next) else {

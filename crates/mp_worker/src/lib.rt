@@ -8,6 +8,7 @@ mod exchange;
 mod extract;
 mod finished;
 mod ingest;
+mod parts;
 mod receive;
 mod room;
 mod route;

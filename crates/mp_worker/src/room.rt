@@ -1,8 +1,10 @@
 //! Room for what a message may bring. All of it is made before one is taken, as nothing may be refused after that.
 ghost use Rattle.std.specs.Prelude.{◌≡◌, ◌≤◌, ◌<◌, ◌+◌, ◌^◌, [], All, OnOk};
 ghost use Rattle.std.specs.Vec.{vec_capacity};
-ghost use Rattle.mp_worker.specs.Rooms.{SameHosts, SameMovers};
+ghost use Rattle.mp_worker.specs.Contents.{number_of_times};
+ghost use Rattle.mp_worker.specs.Rooms.{HasRoomToTake, SameHosts, SameMovers};
 
+use crate::parts::Parts;
 use mp_bins::Owners;
 use mp_handoff::Movers;
 use mp_host::Host;
@@ -43,9 +45,24 @@ impl PacketLists {
     }
 }
 
-/// Makes room for one message, whatever it holds, where a packet's wakes are of so many times. `AllocError`: no memory, and
-/// nothing but rooms changes.
-pub(crate) fn make_room_to_take<Q: Query, J: Naming>(
+impl<'a, Q: Query, J: Naming> Parts<'a, Q, J> {
+    /// Makes room for one message, whatever it holds. `AllocError`: no memory, and nothing but rooms changes.
+    pub(crate) fn make_room_to_take(&mut self) -> Result<(), AllocError>
+        ensures same { self.new.worker ≡ self.old.worker }
+        ensures room { OnOk result (HasRoomToTake (number_of_times (Q.facts J.job.rules) J.job) self.new) }
+    {
+        let times = self.job.times().len();
+        self.lists.make_room(times)?;
+        make_room_to_take(times, &mut self.log, &mut self.rows, &mut self.owners)?;
+        make_room_in_hosts(&mut self.hosts)?;
+        make_room_in_movers(&mut self.movers)?;
+        Ok(())
+    }
+}
+
+// Makes room in the log, the rows and the owners for one message, whatever it holds, where a packet's wakes are of so many times. `AllocError`: no memory, and
+// nothing but rooms changes.
+fn make_room_to_take<Q: Query, J: Naming>(
     times: usize,
     log: &mut Log<OutlineOf<Q, J>>,
     rows: &mut Rows<Q, J>,
@@ -65,8 +82,8 @@ pub(crate) fn make_room_to_take<Q: Query, J: Naming>(
     owners.make_room(1)
 }
 
-/// Makes room in each host for a record and for a bin. `AllocError`: no memory, and nothing but rooms changes.
-pub(crate) fn make_room_in_hosts<'a, Q: Query, J: Naming>(
+// Makes room in each host for a record and for a bin. `AllocError`: no memory, and nothing but rooms changes.
+fn make_room_in_hosts<'a, Q: Query, J: Naming>(
     hosts: &mut [Host<'a, Q, J>],
 ) -> Result<(), AllocError>
     ensures same { SameHosts hosts.old hosts.new }
@@ -78,10 +95,8 @@ pub(crate) fn make_room_in_hosts<'a, Q: Query, J: Naming>(
     Ok(())
 }
 
-/// Makes room in the movers of each stage for a note. `AllocError`: no memory, and nothing but rooms changes.
-pub(crate) fn make_room_in_movers<Q: Query, J: Naming>(
-    movers: &mut [Movers<Q, J>],
-) -> Result<(), AllocError>
+// Makes room in the movers of each stage for a note. `AllocError`: no memory, and nothing but rooms changes.
+fn make_room_in_movers<Q: Query, J: Naming>(movers: &mut [Movers<Q, J>]) -> Result<(), AllocError>
     ensures same { SameMovers movers.old movers.new }
     ensures room { OnOk result (All (λ m. 1 ≤ m.room) movers.new) }
 {

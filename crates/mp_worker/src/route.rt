@@ -5,7 +5,7 @@ ghost use Rattle.mp_outline.specs.JobOutline.{outline_of};
 ghost use Rattle.mp_refinement.specs.Served.{IsAtPost, PostFollows};
 ghost use Rattle.mp_refinement.specs.Steps.{StepsByMail};
 
-use crate::Worker;
+use crate::parts::Parts;
 use crate::send::send;
 use mp_bins::bin_of;
 use mp_mailbox::Post;
@@ -15,7 +15,7 @@ use mp_names::{Loc, Name};
 use mp_parts::{one_less, one_more};
 use std::alloc::AllocError;
 
-impl<'a, Q: Query, J: Naming> Worker<'a, Q, J> {
+impl<'a, Q: Query, J: Naming> Parts<'a, Q, J> {
     /// The least record that a stage's router holds goes to the owner of its bin, once the owner is known: its name, or
     /// `None` exactly where no record may go or the mailbox was full. `AllocError`: no memory, and nothing changes.
     pub(crate) fn route<P: Post<Msg<Q, J>>>(
@@ -25,11 +25,11 @@ impl<'a, Q: Query, J: Naming> Worker<'a, Q, J> {
     ) -> Result<Option<Name>, AllocError>
         requires stage { stage < J.job.shape.stages }
         requires at_post { let o = outline_of (Q.facts J.job.rules) J.job in
-            IsAtPost P.workers P.depth P.serves P.denotes o self.old.number self.old.log post.old }
+            IsAtPost P.workers P.depth P.serves P.denotes o self.old.worker.number self.old.worker.log post.old }
         ensures steps { let o = outline_of (Q.facts J.job.rules) J.job in
-            StepsByMail (P.had_room post.old) (P.was_full post.old) (P.was_empty post.old) o (Route stage) self.old self.new result }
+            StepsByMail (P.had_room post.old) (P.was_full post.old) (P.was_empty post.old) o (Route stage) self.old.worker self.new.worker result }
         ensures mail { let o = outline_of (Q.facts J.job.rules) J.job in
-            PostFollows P.workers P.depth P.serves P.denotes o self.old.number self.old.log self.new.log post.old post.new }
+            PostFollows P.workers P.depth P.serves P.denotes o self.old.worker.number self.old.worker.log self.new.worker.log post.old post.new }
     {
         self.log.make_room(2)?;
         let router = &mut self.routers[stage as usize];

@@ -6,7 +6,7 @@ ghost use Rattle.mp_worker_invariant.specs.Parts.{place_after};
 ghost use Rattle.mp_refinement.specs.Served.{IsAtPost, PostFollows};
 ghost use Rattle.mp_refinement.specs.Steps.{StepsByMail};
 
-use crate::Worker;
+use crate::parts::Parts;
 use crate::send::send;
 use mp_mailbox::Post;
 use mp_model::{Naming, Query};
@@ -15,7 +15,7 @@ use mp_names::{ControlCursor, Loc, Name};
 use mp_parts::{one_less, one_more};
 use std::alloc::AllocError;
 
-impl<'a, Q: Query, J: Naming> Worker<'a, Q, J> {
+impl<'a, Q: Query, J: Naming> Parts<'a, Q, J> {
     /// Worker 0 sends the first control record that isn't sent, by index and then by receiver, itself among them: its name,
     /// or `None` exactly where all are sent, the mailbox was full, or this is another worker. `AllocError`: no memory, and
     /// nothing changes.
@@ -24,11 +24,11 @@ impl<'a, Q: Query, J: Naming> Worker<'a, Q, J> {
         post: &mut P,
     ) -> Result<Option<Name>, AllocError>
         requires at_post { let o = outline_of (Q.facts J.job.rules) J.job in
-            IsAtPost P.workers P.depth P.serves P.denotes o self.old.number self.old.log post.old }
+            IsAtPost P.workers P.depth P.serves P.denotes o self.old.worker.number self.old.worker.log post.old }
         ensures steps { let o = outline_of (Q.facts J.job.rules) J.job in
-            StepsByMail (P.had_room post.old) (P.was_full post.old) (P.was_empty post.old) o SendControl self.old self.new result }
+            StepsByMail (P.had_room post.old) (P.was_full post.old) (P.was_empty post.old) o SendControl self.old.worker self.new.worker result }
         ensures mail { let o = outline_of (Q.facts J.job.rules) J.job in
-            PostFollows P.workers P.depth P.serves P.denotes o self.old.number self.old.log self.new.log post.old post.new }
+            PostFollows P.workers P.depth P.serves P.denotes o self.old.worker.number self.old.worker.log self.new.worker.log post.old post.new }
     {
         let ControlCursor { index, receiver } = self.next;
         if self.number != 0 {

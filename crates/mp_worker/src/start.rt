@@ -7,6 +7,7 @@ ghost use Rattle.mp_output.specs.Rows.{GivesRows};
 ghost use Rattle.mp_worker_invariant.specs.Parts.{AreMoversAt, AtEach, IsHostAt, IsRouterAt};
 
 use crate::Worker;
+use crate::parts::Parts;
 use crate::room::PacketLists;
 use mp_bins::Owners;
 use mp_handoff::Movers;
@@ -46,7 +47,7 @@ impl<'a, Q: Query, J: Naming> Worker<'a, Q, J> {
         let routers = new_routers(alloc, shape.stages)?;
         let hosts = new_hosts(alloc, job, number)?;
         let movers = new_movers(alloc, shape.stages, number)?;
-        Ok(Worker {
+        let parts = Parts {
             alloc,
             job,
             number,
@@ -64,7 +65,8 @@ impl<'a, Q: Query, J: Naming> Worker<'a, Q, J> {
             unsent: Unsent::new(alloc),
             rows: Rows::new(alloc),
             lists: PacketLists::new(alloc),
-        })
+        };
+        Ok(Worker { parts })
     }
 }
 

@@ -5,7 +5,7 @@ ghost use Rattle.mp_names.specs.declared.names.Name.{Name};
 ghost use Rattle.mp_names.specs.declared.names.Name.TheVariants.{Ctrl, Packet as PacketName, Row as RowName, Written};
 ghost use Rattle.mp_names.specs.Logs.{LogIsLegal, with_took};
 ghost use Rattle.mp_names.specs.Names.{has};
-ghost use Rattle.mp_names.specs.Outlines.{IsOwedTo};
+ghost use Rattle.mp_names.specs.Outlines.{IsOwedTo, receiver};
 ghost use Rattle.mp_bins.specs.Notes.{with_note};
 ghost use Rattle.mp_count_laws.specs.Changes.{packet_taken_at};
 ghost use Rattle.mp_job.specs.Legal.{JobIsLegal};
@@ -14,22 +14,108 @@ ghost use Rattle.mp_outline.specs.JobOutline.{name_of_record, outline_of};
 ghost use Rattle.mp_msg.specs.Contents.{IsControlOf, IsPacketOf, IsRecordOf, IsRowOf};
 ghost use Rattle.mp_output.specs.Holding.{HoldsUnwritten};
 ghost use Rattle.mp_worker_invariant.specs.Parts.{AreMoversAt, AreTaken, IsHostAt};
+ghost use Rattle.mp_worker.specs.Contents.{number_of_times, with_taken};
+ghost use Rattle.mp_worker.specs.Rooms.{HasRoomToTake};
 
+use crate::parts::Parts;
 use crate::room::PacketLists;
 use mp_bins::Owners;
 use mp_handoff::Movers;
 use mp_host::Host;
 use mp_model::{Fields, Naming, Query, Rec, Time};
-use mp_msg::BinState;
+use mp_msg::{BinState, Body, Msg};
 use mp_names::{Control, Loc, Name, Tag};
 use mp_output::Rows;
 use mp_parts::{one_less, one_more};
 use mp_rows::{Change, Log, LogList, OutlineOf, Pointstamp};
 use std::alloc::AllocError;
 
-/// Takes a control record that is owed to this worker: it is noted, and its time is to be settled from now on. There is room
-/// for it.
-pub(crate) fn take_control<Q: Query, J: Naming>(
+impl<'a, Q: Query, J: Naming> Parts<'a, Q, J> {
+    /// Takes a message that came to this worker to the part that it is for. There is room for it.
+    pub(crate) fn take(&mut self, message: Msg<Q, J>) -> Result<(), AllocError>
+        requires to { receiver (outline_of (Q.facts J.job.rules) J.job) message ≡ self.old.worker.number }
+        requires fresh { has self.old.worker.log.took message ≡ false }
+        requires room { HasRoomToTake (number_of_times (Q.facts J.job.rules) J.job) self.old }
+        ensures never_refused { IsOk result }
+        ensures took { self.new.worker ≡ with_taken message self.old.worker }
+    {
+        let name = message.name();
+        match message.into_body() {
+            Body::Ctrl { index, control, .. } => self.take_control(index, control),
+            Body::Rec { stage, rec } => self.take_record(name, stage, rec),
+            Body::Packet {
+                stage,
+                bin,
+                time,
+                state,
+            } => self.take_packet(Packet {
+                stage,
+                bin,
+                time,
+                state,
+            }),
+            Body::Row { time, tag, fields } => self.take_row(name, time, tag, fields),
+        }
+    }
+
+    fn take_control(&mut self, index: u32, control: Control) -> Result<(), AllocError>
+        requires content { IsControlOf J.job index self.old.worker.number control }
+        requires fresh { has self.old.worker.log.took (Ctrl index self.old.worker.number) ≡ false }
+        requires room { HasRoomToTake (number_of_times (Q.facts J.job.rules) J.job) self.old }
+        ensures never_refused { IsOk result }
+        ensures took { self.new.worker ≡ with_taken (Ctrl index self.old.worker.number) self.old.worker }
+    {
+        let movers = &mut self.movers[control.stage as usize];
+        take_control(&mut self.log, &mut self.owners, movers, index, control)
+    }
+
+    fn take_record(&mut self, name: Name, stage: u32, rec: Rec) -> Result<(), AllocError>
+        requires record { IsRecordOf (Q.facts J.job.rules) J.job stage rec }
+        requires name { name ≡ name_of_record stage rec }
+        requires owed { IsOwedTo (outline_of (Q.facts J.job.rules) J.job) self.old.worker.number name }
+        requires fresh { has self.old.worker.log.took name ≡ false }
+        requires room { HasRoomToTake (number_of_times (Q.facts J.job.rules) J.job) self.old }
+        ensures never_refused { IsOk result }
+        ensures took { self.new.worker ≡ with_taken name self.old.worker }
+    {
+        let host = &mut self.hosts[stage as usize];
+        take_record(&mut self.log, host, name, stage, rec)
+    }
+
+    fn take_packet(&mut self, packet: Packet<Q::Cell>) -> Result<(), AllocError>
+        requires state { IsPacketOf (Q.facts J.job.rules) J.job packet.stage packet.bin packet.time packet.state }
+        requires owed { IsOwedTo (outline_of (Q.facts J.job.rules) J.job) self.old.worker.number (PacketName packet.stage packet.bin packet.time) }
+        requires fresh { has self.old.worker.log.took (PacketName packet.stage packet.bin packet.time) ≡ false }
+        requires room { HasRoomToTake (number_of_times (Q.facts J.job.rules) J.job) self.old }
+        ensures never_refused { IsOk result }
+        ensures took { self.new.worker ≡ with_taken (PacketName packet.stage packet.bin packet.time) self.old.worker }
+    {
+        let host = &mut self.hosts[packet.stage as usize];
+        take_packet(&mut self.log, host, packet, &mut self.lists)
+    }
+
+    fn take_row(
+        &mut self,
+        name: Name,
+        time: Time,
+        tag: Tag,
+        fields: Fields,
+    ) -> Result<(), AllocError>
+        requires row { IsRowOf (Q.facts J.job.rules) J.job time tag fields }
+        requires name { name ≡ RowName time tag }
+        requires owed { IsOwedTo (outline_of (Q.facts J.job.rules) J.job) self.old.worker.number name }
+        requires fresh { has self.old.worker.log.took name ≡ false }
+        requires room { HasRoomToTake (number_of_times (Q.facts J.job.rules) J.job) self.old }
+        ensures never_refused { IsOk result }
+        ensures took { self.new.worker ≡ with_taken name self.old.worker }
+    {
+        take_row(&mut self.log, &mut self.rows, name, time, tag, fields)
+    }
+}
+
+// Takes a control record that is owed to this worker: it is noted, and its time is to be settled from now on. There is room
+// for it.
+fn take_control<Q: Query, J: Naming>(
     log: &mut Log<OutlineOf<Q, J>>,
     owners: &mut Owners,
     movers: &mut Movers<Q, J>,
@@ -65,9 +151,9 @@ pub(crate) fn take_control<Q: Query, J: Naming>(
     movers.note(time)
 }
 
-/// What a packet holds.
+// What a packet holds.
 #[derive(Drop)]
-pub struct Packet<C: Drop> {
+struct Packet<C: Drop> {
     /// From 0.
     pub stage: u32,
     /// From 0.
@@ -78,8 +164,8 @@ pub struct Packet<C: Drop> {
     pub state: BinState<C>,
 }
 
-/// Takes a packet that is owed to this worker: its state is in hand from now on. There is room for it.
-pub(crate) fn take_packet<'a, Q: Query, J: Naming>(
+// Takes a packet that is owed to this worker: its state is in hand from now on. There is room for it.
+fn take_packet<'a, Q: Query, J: Naming>(
     log: &mut Log<OutlineOf<Q, J>>,
     host: &mut Host<'a, Q, J>,
     packet: Packet<Q::Cell>,
@@ -144,8 +230,8 @@ fn list_coming(
     Ok(())
 }
 
-/// Takes a record that is owed to this worker to its host. There is room for it.
-pub(crate) fn take_record<'a, Q: Query, J: Naming>(
+// Takes a record that is owed to this worker to its host. There is room for it.
+fn take_record<'a, Q: Query, J: Naming>(
     log: &mut Log<OutlineOf<Q, J>>,
     host: &mut Host<'a, Q, J>,
     name: Name,
@@ -177,8 +263,8 @@ pub(crate) fn take_record<'a, Q: Query, J: Naming>(
     host.receive(rec)
 }
 
-/// Takes an answer row that is owed to this worker to those that are to be written. There is room for it.
-pub(crate) fn take_row<Q: Query, J: Naming>(
+// Takes an answer row that is owed to this worker to those that are to be written. There is room for it.
+fn take_row<Q: Query, J: Naming>(
     log: &mut Log<OutlineOf<Q, J>>,
     rows: &mut Rows<Q, J>,
     name: Name,

@@ -14,8 +14,9 @@ impl<'a, Q: Query, J: Naming> Worker<'a, Q, J> {
         ensures moved { IfOk result (λ t. map name_of_moved t.moved.items ≡ sent_packets J.job.shape.stages self.now.log) }
         ensures keys { IfOk result (λ t. All (MovedHasKeys (Q.facts J.job.rules) J.job) t.moved.items) }
     {
-        let groups = self.log.applied();
-        let moved = moved_so_far(alloc, self.movers.as_slice())?;
+        let parts = &self.parts;
+        let groups = parts.log.applied();
+        let moved = moved_so_far(alloc, parts.movers.as_slice())?;
         Ok(Tally { groups, moved })
     }
 }

@@ -15,11 +15,11 @@ new-requires g c =
     let sound = outline_is_sound q (laws.has_stages job.rules) (laws.posts_are_later job.rules) (laws.later_stages_post_nothing job.rules) job legal in
     rw (c.shape-shape.ensures.shape, c.requires.job) (some_of_each q job sound)
 
-pub invariant_of-result : goal.invariant_of-result
-invariant_of-result g c = (c.open-log.ensures.posted ∙ sym (ap (λ (l : WorkerLog). l.log) c.of-posted.ensures ∙ c.open-log.ensures.log), tt)
+pub invariant_of-parts-inside : goal.invariant_of-parts-inside
+invariant_of-parts-inside g c = (c.open-log.ensures.posted ∙ sym (ap (λ (l : WorkerLog). l.log) c.of-posted.ensures ∙ c.open-log.ensures.log), tt)
 
-pub invariant_of-result-2 : goal.invariant_of-result-2
-invariant_of-result-2 g c =
+pub invariant_of-parts : goal.invariant_of-parts
+invariant_of-parts g c =
     let laws = g.met.Q.Query g.world.𝓛 g.world.𝓜 g.world.𝓡 ((λ s x. x), (λ x. x), (λ x. x), λ x. x) in
     let job = g.J.Naming.job in
     let q = g.Q.Query.facts job.rules in
@@ -37,6 +37,8 @@ invariant_of-result-2 g c =
       same = c.requires.job;
       legal = legal;
       rows = c.requires.rows;
+      sound = sound;
+      hands_on = record { later = laws.posts_are_later job.rules; nothing = laws.later_stages_post_nothing job.rules; keys = laws.outputs_have_keys job.rules };
       number = log.worker;
       parts = parts;
     }
