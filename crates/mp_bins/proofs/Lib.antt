@@ -7,4 +7,4 @@ pub mod Ranking
 pub mod Nexts
 pub mod Noting
 pub mod Hashing
-pub mod Gaps
+pub mod Sorted

@@ -88,7 +88,7 @@ module _ (notes : Notes) where
   packets : (x : Name) → In x names → IsOnePacket x
   packets x i = of_control controls x (In_ascending x (map packet_of controls) (In_filter (is_move_of notes) x (ascending (map packet_of controls)) i).0)
 
-  moves_in_order : AllPairs ComesFirst (moves_of notes)
+  pub moves_in_order : AllPairs ComesFirst (moves_of notes)
   moves_in_order = in_turn (move_of notes) (λ j b t. (refl, refl, refl)) names (filter_ascends (is_move_of notes) (ascending (map packet_of controls)) (ascending_ascends (map packet_of controls))) packets
 
   abbrev before : ℕ → ℕ → ℕ → ℕ

@@ -1,6 +1,5 @@
 pub mod Bins
 pub mod Notes
-pub mod Places
 pub mod Leaving
 pub mod Laws
 pub mod Changes

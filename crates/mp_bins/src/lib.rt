@@ -8,7 +8,6 @@ mod changes;
 mod finding;
 mod laws;
 mod owners;
-mod places;
 mod ranked;
 
 pub use bin::bin_of;

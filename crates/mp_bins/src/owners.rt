@@ -1,12 +1,10 @@
 //! The control records that were noted, and the owners that they give.
 ghost use Rattle.std.specs.Prelude.{◌≡◌, ◌<◌, ◌≤◌, ◌-◌, [], false, None, Some, cond, IfOk, OnOk, OnErr, IsOk, IfSome, IfNone};
-ghost use Rattle.mp_bins.specs.Places.{name_of};
 ghost use Rattle.mp_bins.specs.Notes.{IsShape, IsWithin, first_owner, is_move_of, is_noted, move_of, moves_of, owner_at, owner_before, with_note};
 ghost use Rattle.mp_bins.specs.Leaving.{IsNextLeaving, NoneLeaves};
 
 use crate::changes::put_down;
 use crate::finding::{StageBin, owner_below};
-use crate::places::{Place, places_of};
 use crate::ranked::first_from;
 use mp_names::{Control, Move, Shape, Time, TimedBin};
 use std::alloc::{AllocError, Global};
@@ -142,33 +140,9 @@ impl Owners {
     pub fn moves(&self) -> Result<Vec<Move>, AllocError>
         ensures { IfOk result (λ moves. moves.items ≡ moves_of self.now) }
     {
-        let alloc = *self.notes.allocator();
-        let places = places_of(alloc, &self.notes)?;
-        let mut moves = Vec::new(alloc);
-        for place in &places {
-            if let Some(change) = self.move_at(*place) {
-                moves.push(change)?;
-            }
-        }
+        let mut moves = Vec::from_slice(*self.notes.allocator(), &self.changes)?;
+        moves.sort_unstable();
         Ok(moves)
-    }
-
-    // The move at a place, if the owner changes there.
-    fn move_at(&self, place: Place) -> Option<Move>
-        ensures { result ≡ cond (is_move_of self.now (name_of place)) (Some (move_of self.now (name_of place))) None }
-    {
-        let from = self.worker_below(place.stage, place.bin, u128::from(place.time));
-        let to = self.worker_below(place.stage, place.bin, u128::from(place.time) + 1);
-        if from == to {
-            return None;
-        }
-        Some(Move {
-            time: place.time,
-            stage: place.stage,
-            bin: place.bin,
-            from,
-            to,
-        })
     }
 
     /// The next move, by time and then by bin, by which a bin of a stage leaves a worker, of those after a
