@@ -1,2 +1,6 @@
 mod Behind
+mod Blocked
+mod Changed
+mod Placed
 pub mod Placing
+mod Running

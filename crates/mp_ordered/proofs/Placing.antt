@@ -11,7 +11,7 @@ use Rattle.mp_ordered.specs.InOrder.{IsInOrder, put_in_order, GoesBack}
 -- lists of numbers
 
 -- what comes after one list of two that aren't in this order
-split_before : (zs xs ys : List ℕ) → is_before zs xs ≡ true → (is_before zs ys ≡ true) ⊎ (is_before ys xs ≡ true)
+pub split_before : (zs xs ys : List ℕ) → is_before zs xs ≡ true → (is_before zs ys ≡ true) ⊎ (is_before ys xs ≡ true)
 split_before zs [] ys h = absurd (none zs h)
   where
     none : (zs : List ℕ) → is_before zs [] ≡ true → ⊥

@@ -1,5 +1,6 @@
 -- Lists in the order of ranks: of two ranks, lists of numbers, the first comes first as words in a dictionary do.
-use Rattle.std.specs.Prelude.{◌≡◌, ℕ, false, cond, List, [], ◌∷◌, AllPairs}
+use Rattle.std.specs.Prelude.{◌≡◌, ℕ, Bool, false, not, cond, Option, List, [], ◌∷◌, AllPairs, take}
+use Rattle.std.specs.List.{find, prefix_len}
 use Rattle.mp_names.specs.Names.{is_before}
 
 module _ {T : Type 0} where
@@ -15,6 +16,15 @@ module _ {T : Type 0} where
   -- an item that stands first goes back to its place
   abbrev pub GoesBack : (T → List ℕ) → Type 0
   GoesBack rank = (x : T) (xs : List T) → IsInOrder rank (x ∷ xs) → put_in_order rank x xs ≡ x ∷ xs
+
+  -- the first item that doesn't come before another
+  abbrev pub first_from : (T → List ℕ) → T → List T → Option T
+  first_from rank x items = find (λ y. not (is_before (rank y) (rank x))) items
+
+  -- the first item and those that follow it, up to the first of another kind
+  abbrev pub first_run : (T → T → Bool) → List T → List T
+  first_run same [] = []
+  first_run same (x ∷ xs) = x ∷ take (prefix_len (same x) xs) xs
 
 -- What contracts see of items in order: the items, and how many more there is room for
 pub record InOrder (T : Type 0) : Type 0 where

@@ -1,2 +1,4 @@
 -- What the contracts of this crate cite.
+pub mod Blocks
 pub mod InOrder
+pub mod Runs

@@ -3,11 +3,15 @@
 //! Items kept in the order of their ranks.
 #![tactic(auto)]
 
+mod block;
+mod blocks;
 mod gone;
 mod order;
 mod ordered;
 mod queue;
+mod runs;
 
 pub use order::Order;
 pub use ordered::Ordered;
 pub use queue::OrderedQueue;
+pub use runs::{Kinds, OrderedRuns};

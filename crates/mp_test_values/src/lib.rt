@@ -16,6 +16,8 @@ mod outside;
 #[cfg(test)]
 mod postdated;
 #[cfg(test)]
+mod runs;
+#[cfg(test)]
 mod stamps;
 #[cfg(test)]
 mod text;

@@ -1,0 +1,56 @@
+//! Numbers of two digits and more in ascending order, those of the same tens together, with ample memory.
+use mp_ordered::{Kinds, Order, OrderedRuns};
+use std::process::Abort;
+use std::test::*;
+
+struct ByTens;
+
+impl Order<u64> for ByTens {
+    ghost use Rattle.std.specs.Prelude.{◌∷◌, []};
+
+    ghost rank = { λ n. n ∷ [] };
+
+    fn is_before(first: &u64, second: &u64) -> bool {
+        first < second
+    }
+}
+
+impl Kinds<u64> for ByTens {
+    ghost use Rattle.std.specs.Prelude.{◌/◌, ◌==◌};
+
+    ghost same = { λ m n. m / 10 == n / 10 };
+
+    fn is_same(first: &u64, second: &u64) -> bool {
+        first / 10 == second / 10
+    }
+}
+
+// Takes out the runs in front, until none is left: each as long as its tens have numbers below 700, in order.
+fn take_all(rt: &impl Abort, numbers: &mut OrderedRuns<u64, ByTens>) -> Result<u64, Fail> {
+    let mut next = 0;
+    for _run in 0..70 {
+        for number in numbers.first_run() {
+            assert_eq!(rt; *number, next);
+            next += 1;
+        }
+        assert_eq!(rt; next % 10, 0);
+        numbers.drop_run();
+    }
+    Ok(next)
+}
+
+#[test]
+fn mixed_numbers_come_in_runs(rt: HostRuntime) -> Result<(), Fail> {
+    let mut numbers = OrderedRuns::<u64, ByTens>::new(rt.alloc());
+    for place in 0..700 {
+        if place % 64 == 0 {
+            numbers.make_room(64)?;
+        }
+        numbers.insert(place * 463 % 700)?;
+    }
+    assert_eq!(rt; numbers.first_from(&333), Some(&333));
+    assert_eq!(rt; numbers.first_from(&700), None);
+    assert_eq!(rt; take_all(&rt, &mut numbers)?, 700);
+    assert_eq!(rt; numbers.first(), None);
+    Ok(())
+}
