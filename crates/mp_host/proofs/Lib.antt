@@ -2,6 +2,7 @@ pub mod Kept
 pub mod WakesOf
 pub mod Numbered
 pub mod Finding
+mod FirstRun
 pub mod Standing
 pub mod Stepped
 pub mod Told

@@ -1,14 +1,14 @@
 -- Whether a group has a record, by the first record that doesn't come before it.
-use Rattle.std.proofs.Common.{◌≡◌, ◌≢◌, ◌<◌, ◌≤◌, ◌⊎◌, ◌==◌, ◌&&◌, ◌||◌, ℕ, Bool, true, false, None, Some, List, [], ◌∷◌, get_or, length, nat_lt, refl, ap, sym, ◌∙◌, subst, inl, inr, ⊎_elim, arith}
+use Rattle.std.proofs.Common.{◌≡◌, ◌<◌, ◌⊎◌, ◌==◌, ◌&&◌, ◌||◌, ℕ, Bool, true, false, None, Some, List, [], ◌∷◌, nat_lt, refl, sym, ◌∙◌, subst, inl, inr, ⊎_elim, arith}
 use Rattle.std.specs.Prelude.{All}
 use Rattle.std.specs.List.{list_any}
-use Rattle.std.specs.List.Sorted.{IsPartitionPoint}
-use Rattle.std.proofs.lemmas.Bool.{false≢true, and_from, and_parts, both_ways, cases_Bool, cases_order, eq-eqb, eqb-true, false_from_ne_true, lt-ltb, ltb-true, or_cases, or_left, or_right}
-use Rattle.std.proofs.lemmas.List.{get_or_default}
-use Rattle.std.proofs.lemmas.List.Folds.{list_any_at, list_any_none}
+use Rattle.std.proofs.lemmas.Bool.{false≢true, and_from, and_parts, both_ways, cases_Bool, eq-eqb, eqb-true, false_from_ne_true, lt-ltb, ltb-true, or_cases, or_left, or_right}
+use Rattle.std.proofs.lemmas.List.Elements.{All-weaker}
+use Rattle.std.proofs.lemmas.List.Folds.{list_any_none}
 use Rattle.mp_names.specs.Names.{is_before}
 use Rattle.mp_model.specs.declared.record.Rec.{Rec}
-use Rattle.mp_ordered.specs.InOrder.{IsInOrder}
+use Rattle.mp_ordered.specs.InOrder.{IsInOrder, first_from}
+use Rattle.mp_ordered.proofs.Placing.{pairs_head, pairs_tail}
 use Rattle.mp_host_laws.specs.Hosted.{group_rank, is_of}
 
 -- lists of numbers by their first two
@@ -71,32 +71,37 @@ not_after T K r s from order none =
     let key : r.key ≡ K = omega (arith, not_less, not_more, p.1) in
     both_ways (is_of T K r) none (both_of T K r time key))
 
-module _ (T K : ℕ) (rs : List Rec) (at : ℕ) (point : IsPartitionPoint (λ r. is_before (group_rank r) (limit T K) ≡ true) (λ r. is_before (group_rank r) (limit T K) ≡ false) rs at) where
-  -- past the end there is none
-  pub none_past : length rs ≤ at → list_any (is_of T K) rs ≡ false
-  none_past past = list_any_none (is_of T K) rs (λ k d low. not_before T K (get_or rs k d) (point.0 k d (omega arith) (omega (arith, low, past))))
+module _ (T K : ℕ) (x : Rec) (is : group_rank x ≡ limit T K) where
+  -- where all come before the group there is none
+  pub none_found : (rs : List Rec) → first_from group_rank x rs ≡ None → list_any (is_of T K) rs ≡ false
+  none_found [] h = refl
+  none_found (r ∷ rs) h =
+      ⊎_elim
+      (λ (e : is_before (group_rank r) (group_rank x) ≡ true).
+      let rest : first_from group_rank x rs ≡ None = rw e at h in
+      rw (not_before T K r (subst (λ l. is_before (group_rank r) l ≡ true) is e)) (none_found rs rest))
+      (λ (e : is_before (group_rank r) (group_rank x) ≡ false). let bad : Some r ≡ None = rw e at h in absurd (cc))
+      (cases_Bool (is_before (group_rank r) (group_rank x)))
 
   -- else the first that doesn't come before the group tells
-  pub first_tells : (r : Rec) → IsInOrder group_rank rs → at < length rs → get_or rs at r ≡ r → is_of T K r ≡ list_any (is_of T K) rs
-  first_tells r order here is = cases (is_of T K r) refl
+  pub found_tells : (rs : List Rec) (y : Rec) → IsInOrder group_rank rs → first_from group_rank x rs ≡ Some y → is_of T K y ≡ list_any (is_of T K) rs
+  found_tells [] y order h = absurd (cc)
+  found_tells (r ∷ rs) y order h =
+      ⊎_elim
+      (λ (e : is_before (group_rank r) (group_rank x) ≡ true).
+      let rest : first_from group_rank x rs ≡ Some y = rw e at h in
+      rw (not_before T K r (subst (λ l. is_before (group_rank r) l ≡ true) is e)) (found_tells rs y (pairs_tail (λ a b. is_before (group_rank b) (group_rank a) ≡ false) r rs order) rest))
+      (λ (e : is_before (group_rank r) (group_rank x) ≡ false).
+      let same : Some r ≡ Some y = rw e at h in
+      let first : r ≡ y = cc in
+      subst (λ (z : Rec). is_of T K z ≡ list_any (is_of T K) (r ∷ rs)) first (tells r rs (subst (λ l. is_before (group_rank r) l ≡ false) is e) (pairs_head (λ a b. is_before (group_rank b) (group_rank a) ≡ false) r rs order)))
+      (cases_Bool (is_before (group_rank r) (group_rank x)))
     where
-      own : is_before (group_rank r) (limit T K) ≡ false
-      own = subst (λ (x : Rec). is_before (group_rank x) (limit T K) ≡ false) is (point.1 at r (omega arith) here)
-
-      later : is_of T K r ≡ false → (k : ℕ) (d : Rec) → at < k → k < length rs → is_of T K (get_or rs k d) ≡ false
-      later none k d after low =
-          let before = order at k r after low in
-          let first = subst (λ (x : Rec). is_before (group_rank (get_or rs k r)) (group_rank x) ≡ false) is before in
-          let end : is_of T K (get_or rs k r) ≡ false = not_after T K r (get_or rs k r) own first none in
-          subst (λ (x : Rec). is_of T K x ≡ false) (get_or_default rs k r d low) end
-
-      each : is_of T K r ≡ false → (k : ℕ) (d : Rec) → k < length rs → is_of T K (get_or rs k d) ≡ false
-      each none k d low =
+      tells : (r : Rec) (rs : List Rec) → is_before (group_rank r) (limit T K) ≡ false → All (λ s. is_before (group_rank s) (group_rank r) ≡ false) rs → is_of T K r ≡ list_any (is_of T K) (r ∷ rs)
+      tells r rs from behind =
           ⊎_elim
-          (λ (e : k ≡ at). subst (λ (i : ℕ). is_of T K (get_or rs i d) ≡ false) (sym e) (subst (λ (x : Rec). is_of T K x ≡ false) (sym is ∙ get_or_default rs at r d here) none))
-          (λ (e : (k < at) ⊎ (at < k)). ⊎_elim (λ (f : k < at). not_before T K (get_or rs k d) (point.0 k d (omega arith) f)) (λ (f : at < k). later none k d f low) e)
-          (cases_order k at)
-
-      cases : (b : Bool) → is_of T K r ≡ b → is_of T K r ≡ list_any (is_of T K) rs
-      cases true e = e ∙ sym (list_any_at (is_of T K) rs at r here (ap (is_of T K) is ∙ e))
-      cases false e = e ∙ sym (list_any_none (is_of T K) rs (each e))
+          (λ (e : is_of T K r ≡ true). e ∙ sym (or_left (is_of T K r) (list_any (is_of T K) rs) e))
+          (λ (e : is_of T K r ≡ false).
+          let none = list_any_none (is_of T K) rs (All-weaker (λ s. is_before (group_rank s) (group_rank r) ≡ false) (λ s. is_of T K s ≡ false) (λ s k. not_after T K r s from k e) rs behind) in
+          rw (e, none) refl)
+          (cases_Bool (is_of T K r))

@@ -1,5 +1,6 @@
 -- The keys of records that wait at a time with no wake: they rise, and each such key is among them.
-use Rattle.std.proofs.Common.{◌≡◌, ◌⊎◌, ℕ, suc, ◌+◌, ◌<◌, ◌≤◌, ◌==◌, ◌&&◌, ◌||◌, nat_lt, Bool, true, false, not, cond, Option, Some, List, [], ◌∷◌, All, Contains, drop, get_or, add-one, length, sym, ap, ◌∙◌, subst, inl, inr, ⊎_elim, refl, arith}
+use Rattle.std.proofs.Common.{◌≡◌, ◌⊎◌, ℕ, zero, suc, ◌+◌, ◌<◌, ◌≤◌, ◌==◌, ◌&&◌, ◌||◌, nat_lt, Bool, true, false, not, cond, Option, Some, List, [], ◌∷◌, All, Contains, drop, get_or, add-one, length, sym, ap, ◌∙◌, subst, inl, inr, ⊎_elim, refl, arith}
+use Rattle.std.specs.Prelude.{slice_get}
 use Rattle.std.specs.List.{list_any}
 use Rattle.std.specs.Option.{option_map_or}
 use Rattle.std.proofs.lemmas.Bool.{and_cases, and_from, and_parts, both_ways, cases_Bool, cases_order, eq-eqb, eqb-true, false≢true, ltb-false, not-true, not_from_false, or_cases, or_left, or_parts, or_right}
@@ -18,6 +19,12 @@ use Rattle.mp_host.specs.Waiting.{begins_unwoken, unwoken_after}
 -- the list from a place on begins with what stands there
 drop_step : (rs : List Rec) (i : ℕ) (r : Rec) → i < length rs → r ≡ get_or rs i r → drop i rs ≡ r ∷ drop (i + 1) rs
 drop_step rs i r l is = rw add-one (drop-cons rs i r l ∙ ap (λ (s : Rec). s ∷ drop (suc i) rs) (sym is))
+
+-- what is got from a place stands there
+pub standing_at : (rs : List Rec) (i : ℕ) (r : Rec) → slice_get rs i ≡ Some r → (i < length rs) × (r ≡ get_or rs i r)
+standing_at [] i r e = absurd (cc)
+standing_at (s ∷ rs) zero r e = let same : s ≡ r = cc in (omega arith, sym same)
+standing_at (s ∷ rs) (suc i) r e = let at = standing_at rs i r e in (omega (arith, at.0), at.1)
 
 -- the group of a key at the time comes after the record's
 abbrev IsAfter : ℕ → Rec → ℕ → Type 0

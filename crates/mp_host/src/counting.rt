@@ -78,11 +78,13 @@ impl<'a, Q: Query, J: Naming> Host<'a, Q, J> {
     {
         let mut count = 0;
         let mut last = None;
-        for rec in self.records.as_slice() {
+        let mut at = 0;
+        while let Some(rec) = self.records.get(at) {
             if self.begins_unwoken(time, last, rec) {
                 count += 1;
             }
             last = Some(rec);
+            at += 1;
         }
         count
     }

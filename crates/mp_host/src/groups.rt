@@ -1,40 +1,51 @@
 //! The records of the first group.
-ghost use Rattle.std.specs.Prelude.{◌≡◌, ◌≤◌, ◌∷◌, [], All, drop, filter, length, not};
+ghost use Rattle.std.specs.Prelude.{◌≡◌, ◌≤◌, ◌⊎◌, ◌∷◌, [], All, drop, filter, length, not};
 ghost use Rattle.std.specs.List.{list_any, prefix_len};
-ghost use Rattle.mp_names.specs.Names.{is_before};
+ghost use Rattle.mp_ordered.specs.InOrder.{first_run};
 ghost use Rattle.mp_postdated.specs.Wakes.{ComesNoLater};
 ghost use Rattle.mp_host_laws.specs.Hosted.{group_rank, is_of};
 
 use crate::order::ByGroup;
-use mp_model::{Rec, Time};
+use mp_model::{Rec, Time, Value};
 use mp_names::Tag;
-use mp_ordered::Ordered;
+use mp_ordered::OrderedRuns;
 
 /// The records of the group of a key at a time, of which no record here comes before: they stand first.
-pub fn first_records<'a>(records: &'a Ordered<Rec, ByGroup>, time: Time, key: u64) -> &'a [Rec]
+pub fn first_records<'a>(records: &'a OrderedRuns<Rec, ByGroup>, time: Time, key: u64) -> &'a [Rec]
     requires { All (λ r. ComesNoLater (time, key) (r.time, r.key)) records.now.items }
     ensures inside { length result.now ≤ length records.now.items }
     ensures records { result.now ≡ filter (is_of time key) records.now.items }
     ensures others { drop (length result.now) records.now.items ≡ filter (λ r. not (is_of time key r)) records.now.items }
+    ensures whole { (length result.now ≡ 0) ⊎ (length result.now ≡ length (first_run (λ r s. is_of r.time r.key s) records.now.items)) }
 {
-    let all = records.as_slice();
-    &all[..count_first(all, time, key)]
+    let run = records.first_run();
+    &run[..count_first(run, time, key)]
 }
 
 /// Whether there is a record of the group of a key at a time. Found by halving.
-pub fn has_group(records: &Ordered<Rec, ByGroup>, time: Time, key: u64) -> bool
+pub fn has_group(records: &OrderedRuns<Rec, ByGroup>, time: Time, key: u64) -> bool
     ensures { result ≡ list_any (is_of time key) records.now.items }
 {
-    let all = records.as_slice();
-    let at = all.partition_point(
-        |rec: &Rec| -> bool
-            ensures { result ≡ is_before (group_rank rec.now) (time ∷ key ∷ 0 ∷ 0 ∷ []) }
-        { (rec.time, rec.key, rec.tag) < (time, key, Tag(0, 0)) },
-    );
-    if at == all.len() {
-        return false;
+    match records.first_from(&before_group(time, key)) {
+        Some(rec) => is_in(rec, time, key),
+        None => false,
     }
-    is_in(&all[at], time, key)
+}
+
+// A record that comes before no other of the group of a key at a time, and after those of earlier groups.
+fn before_group(time: Time, key: u64) -> Rec
+    ensures { group_rank result ≡ time ∷ key ∷ 0 ∷ 0 ∷ [] }
+{
+    let value = Value::Count {
+        auction: 0,
+        count: 0,
+    };
+    Rec {
+        time,
+        key,
+        tag: Tag(0, 0),
+        value,
+    }
 }
 
 // Whether a record is of the group of a key at a time.

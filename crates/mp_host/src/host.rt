@@ -14,7 +14,7 @@ use mp_host_laws::Held;
 use mp_job::Job;
 use mp_model::{Naming, Query, Rec};
 use mp_msg::BinState;
-use mp_ordered::Ordered;
+use mp_ordered::OrderedRuns;
 use std::alloc::{AllocError, Global};
 use std::marker::{Model, PhantomData};
 
@@ -25,7 +25,7 @@ pub struct Host<'a, Q: Query, J: Naming> {
     pub(crate) stage: u32,
     pub(crate) worker: u32,
     // Those whose group isn't applied.
-    pub(crate) records: Ordered<Rec, ByGroup>,
+    pub(crate) records: OrderedRuns<Rec, ByGroup>,
     // The states of bins in hand, each as the packet that brought it left it and the groups applied since.
     pub(crate) held: Vec<Held<Q::Cell>>,
     pub(crate) of: PhantomData<J>,
@@ -65,7 +65,7 @@ impl<'a, Q: Query, J: Naming> Host<'a, Q, J> {
             job,
             stage,
             worker,
-            records: Ordered::new(alloc),
+            records: OrderedRuns::new(alloc),
             held: first_held::<Q>(alloc, worker, job)?,
             of: PhantomData,
         })

@@ -1,5 +1,5 @@
 -- Items in blocks.
-use Rattle.std.proofs.Common.{◌≡◌, ℕ, zero, suc, ◌+◌, ◌*◌, ◌-◌, ◌<◌, ◌≤◌, Bool, true, false, cond, Option, None, Some, List, [], ◌∷◌, ◌++◌, All, AllPairs, length, get_or, set, take, drop, refl, ap, sym, ◌∙◌, subst, ⊎_elim, ◌⊎◌, arith, length-append, append_assoc}
+use Rattle.std.proofs.Common.{◌≡◌, ℕ, zero, suc, ◌+◌, ◌-◌, ◌<◌, ◌≤◌, Bool, true, false, None, Some, List, [], ◌∷◌, ◌++◌, All, AllPairs, length, get_or, set, take, drop, refl, ap, sym, ◌∙◌, ⊎_elim, ◌⊎◌, arith}
 use Rattle.std.specs.declared.vec.Vec.{Vec}
 use Rattle.std.specs.Prelude.{slice_get}
 use Rattle.std.specs.List.{insert}
@@ -9,7 +9,7 @@ use Rattle.std.proofs.lemmas.List.{drop_more}
 use Rattle.std.proofs.lemmas.List.Elements.{All-nil, All-cons, All-head, All-tail, All-weaker, All-get_or}
 use Rattle.std.proofs.lemmas.List.Kept.{AllPairs-cons}
 use Rattle.mp_names.specs.Names.{is_before}
-use Rattle.mp_ordered.specs.Blocks.{AreFilled, IsBlock, IsBlockFor, IsFilled, begins_before, items_of}
+use Rattle.mp_ordered.specs.Blocks.{AreFilled, IsBlockFor, IsFilled, begins_before, items_of}
 use Rattle.mp_ordered.specs.InOrder.{IsInOrder, first_from, put_in_order}
 use Rattle.mp_ordered.proofs.Placing.{pairs_head, pairs_tail}
 use Rattle.mp_ordered.proofs.Placed.{all_front, all_back, pairs_front, pairs_back, put_behind, put_within, still_before, from_none, found_within, none_from}
@@ -143,3 +143,17 @@ pub put_two : {X : Type 0} (xs : List X) (at : ℕ) (x y : X) → at < length xs
 put_two [] at x y l = absurd (omega arith)
 put_two (z ∷ xs) zero x y l = refl
 put_two (z ∷ xs) (suc at) x y l = ap (λ (r : List _). z ∷ r) (put_two xs at x y (omega arith))
+
+-- what stands in the first part, and behind it
+in_front_part : {T : Type 0} (xs ys : List T) (i : ℕ) (y : T) → i < length xs → y ≡ get_or xs i y → slice_get (xs ++ ys) i ≡ Some y
+in_front_part [] ys i y l e = absurd (omega arith)
+in_front_part (x ∷ xs) ys zero y l e = ap (λ (w : _). Some w) (sym e)
+in_front_part (x ∷ xs) ys (suc i) y l e = in_front_part xs ys i y (omega arith) e
+
+pub in_first : {T Z : Type 0} (b : Vec T Z) (bs : List (Vec T Z)) (i : ℕ) (y : T) → i < length b.items → y ≡ get_or b.items i y → slice_get (items_of (b ∷ bs)) i ≡ Some y
+in_first b bs i y l e = in_front_part b.items (items_of bs) i y l e
+
+pub past_first : {T : Type 0} (xs ys : List T) (i : ℕ) → length xs ≤ i → slice_get (xs ++ ys) i ≡ slice_get ys (i - length xs)
+past_first [] ys i l = let e : i - 0 ≡ i = omega arith in rw e refl
+past_first (x ∷ xs) ys zero l = absurd (omega arith)
+past_first (x ∷ xs) ys (suc i) l = let e : suc i - suc (length xs) ≡ i - length xs = omega arith in rw e (past_first xs ys i (omega arith))

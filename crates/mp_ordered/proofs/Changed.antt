@@ -1,13 +1,13 @@
 -- Blocks after an item was put in or taken out.
-use Rattle.std.proofs.Common.{◌≡◌, ℕ, zero, suc, ◌+◌, ◌*◌, ◌-◌, ◌<◌, ◌≤◌, Bool, true, false, cond, List, [], ◌∷◌, ◌++◌, All, AllPairs, length, get_or, set, take, drop, refl, ap, sym, ◌∙◌, subst, ◌⊎◌, ⊎_elim, arith, length-append, length-set, append_assoc}
+use Rattle.std.proofs.Common.{◌≡◌, ℕ, zero, suc, ◌+◌, ◌*◌, ◌-◌, ◌<◌, ◌≤◌, Bool, true, false, cond, List, [], ◌∷◌, ◌++◌, All, length, get_or, set, take, drop, refl, ap, sym, ◌∙◌, subst, ◌⊎◌, ⊎_elim, arith, length-append, length-set, append_assoc}
 use Rattle.std.specs.declared.vec.Vec.{Vec}
 use Rattle.std.specs.List.{remove}
 use Rattle.std.specs.Vec.{vec_capacity}
 use Rattle.std.proofs.lemmas.Bool.{cases_order}
 use Rattle.std.proofs.lemmas.List.{length-drop, take-set, drop-set-lt, get_or-set_same}
-use Rattle.std.proofs.lemmas.List.Elements.{All-nil, All-cons, All-head, All-tail, All-append, All-take, All-drop, All-set, All-push, All-get_or}
+use Rattle.std.proofs.lemmas.List.Elements.{All-cons, All-head, All-tail, All-append, All-take, All-drop, All-set, All-push, All-get_or}
 use Rattle.mp_names.specs.Names.{is_before}
-use Rattle.mp_ordered.specs.Blocks.{AreBlocks, AreFilled, HasMemory, IsBlock, IsBlockFor, IsFilled, IsSpare, IsSplit, items_of}
+use Rattle.mp_ordered.specs.Blocks.{AreBlocks, AreFilled, IsBlock, IsBlockFor, IsFilled, IsSpare, IsSplit, items_of}
 use Rattle.mp_ordered.specs.InOrder.{IsInOrder, put_in_order}
 use Rattle.mp_ordered.proofs.Placing.{pairs_drop, put_keeps}
 use Rattle.mp_ordered.proofs.Blocked.{all_filled, put_in_block}

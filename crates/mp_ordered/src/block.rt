@@ -1,5 +1,5 @@
 //! Blocks of items, each with memory for 128 and with fewer items.
-ghost use Rattle.std.specs.Prelude.{◌≡◌, ◌≤◌, ◌<◌, ◌+◌, ◌⊎◌, ◌++◌, ◌∷◌, [], All, drop, get_or, length, slice_get, OnOk};
+ghost use Rattle.std.specs.Prelude.{◌≡◌, ◌≤◌, ◌<◌, ◌+◌, ◌⊎◌, ◌++◌, ◌∷◌, [], All, drop, get_or, length, slice_get, IfNone, IfSome, OnOk, Some};
 ghost use Rattle.std.specs.List.{insert};
 ghost use Rattle.std.specs.declared.vec.Vec.{Vec};
 ghost use Rattle.std.specs.Vec.{vec_capacity};
@@ -51,6 +51,21 @@ fn begins_before<T, O: Order<T>>(block: &[T], item: &T) -> bool
         Some(first) => O::is_before(first, item),
         None => false,
     }
+}
+
+/// The item at an index, from 0, of those of all blocks; `None` exactly where there are no more.
+pub fn item_at<T>(blocks: &[Vec<T>], index: usize) -> Option<&T>
+    ensures some { IfSome result (λ x. slice_get (items_of blocks.now) index ≡ Some x.now) }
+    ensures none { IfNone result (length (items_of blocks.now) ≤ index) }
+{
+    let mut left = index;
+    for block in blocks {
+        if left < block.len() {
+            return Some(&block[left]);
+        }
+        left -= block.len();
+    }
+    None
 }
 
 /// Puts an item at a place in a block, which has memory for it.
@@ -143,7 +158,11 @@ pub fn have_blocks<T: Drop>(
 }
 
 // Makes spare blocks, until there are so many. `AllocError`: no memory, and there may be some more.
-fn add_spare<T: Drop>(alloc: Global, spare: &mut Vec<Vec<T>>, wanted: usize) -> Result<(), AllocError>
+fn add_spare<T: Drop>(
+    alloc: Global,
+    spare: &mut Vec<Vec<T>>,
+    wanted: usize,
+) -> Result<(), AllocError>
     requires spare { All IsSpare spare.old.items }
     requires few { length spare.old.items ≤ wanted }
     requires memory { wanted ≤ vec_capacity spare.old }

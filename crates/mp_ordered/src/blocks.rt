@@ -2,7 +2,7 @@
 ghost use Rattle.std.specs.Prelude.{◌≡◌, ◌≤◌, ◌<◌, ◌+◌, ◌*◌, ◌-◌, ◌∷◌, [], length, max, slice_get, IfNone, IfSome, None, OnErr, OnOk, Some};
 ghost use Rattle.mp_ordered.specs.InOrder.{IsInOrder, first_from, put_in_order};
 
-use crate::block::{FULL, block_of, have_blocks, place_of, put, retire_first, split};
+use crate::block::{FULL, block_of, have_blocks, item_at, place_of, put, retire_first, split};
 use crate::order::Order;
 use std::alloc::{AllocError, Global};
 use std::marker::{Model, PhantomData};
@@ -114,6 +114,14 @@ impl<T: Drop, O: Order<T>> Blocks<T, O> {
             Some(found) => Some(found),
             None => self.blocks.get(at + 1)?.first(),
         }
+    }
+
+    /// The item at an index, from 0 in order; `None` exactly where there are no more. Goes from block to block.
+    pub fn get(&self, index: usize) -> Option<&T>
+        ensures some { IfSome result (λ x. slice_get self.now.items index ≡ Some x.now) }
+        ensures none { IfNone result (length self.now.items ≤ index) }
+    {
+        item_at(&self.blocks, index)
     }
 
     /// Takes out the first item; `None` exactly where there is none. It leaves its room.

@@ -1,5 +1,5 @@
 //! Items in order, the first ones of a kind together.
-ghost use Rattle.std.specs.Prelude.{◌≡◌, ◌≤◌, ◌<◌, ◌+◌, ◌++◌, [], Bool, drop, false, length, slice_get, IfNone, IfSome, IsOk, IsTrue, None, OnErr, OnOk, Some};
+ghost use Rattle.std.specs.Prelude.{◌≡◌, ◌≤◌, ◌<◌, ◌+◌, ◌⊎◌, ◌^◌, ◌++◌, [], Bool, drop, false, length, slice_get, IfNone, IfSome, IsOk, IsTrue, None, OnErr, OnOk, Some};
 ghost use Rattle.std.specs.Vec.{vec_capacity};
 ghost use Rattle.mp_ordered.specs.Blocks.{begins_before};
 ghost use Rattle.mp_ordered.specs.InOrder.{IsInOrder, first_from, first_run, put_in_order};
@@ -129,13 +129,28 @@ impl<T: Drop, O: Order<T> + Kinds<T>> OrderedRuns<T, O> {
         }
     }
 
-    /// Drops the first item and those of its kind that follow it. They leave their room.
-    pub fn drop_run(&mut self)
-        ensures items { self.new.items ≡ drop (length (first_run O.same self.old.items)) self.old.items }
-        ensures room { self.new.room ≡ self.old.room + length (first_run O.same self.old.items) }
+    /// The item at an index, from 0 in order; `None` exactly where there are no more. Goes from block to block.
+    pub fn get(&self, index: usize) -> Option<&T>
+        ensures some { IfSome result (λ x. slice_get self.now.items index ≡ Some x.now) }
+        ensures none { IfNone result (length self.now.items ≤ index) }
+        ensures few { length self.now.items < 2 ^ 63 }
     {
-        self.run.clear();
-        take_run(&mut self.run, &mut self.rest);
+        if index < self.run.len() {
+            return Some(&self.run[index]);
+        }
+        self.rest.get(index - self.run.len())
+    }
+
+    /// Drops the first `count` items: none, or the first and those of its kind that follow it. They leave their room.
+    pub fn drop_first(&mut self, count: usize)
+        requires { (count ≡ 0) ⊎ (count ≡ length (first_run O.same self.old.items)) }
+        ensures items { self.new.items ≡ drop count self.old.items }
+        ensures room { self.new.room ≡ self.old.room + count }
+    {
+        if count > 0 {
+            self.run.clear();
+            take_run(&mut self.run, &mut self.rest);
+        }
     }
 }
 

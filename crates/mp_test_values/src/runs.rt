@@ -34,7 +34,8 @@ fn take_all(rt: &impl Abort, numbers: &mut OrderedRuns<u64, ByTens>) -> Result<u
             next += 1;
         }
         assert_eq!(rt; next % 10, 0);
-        numbers.drop_run();
+        let count = numbers.first_run().len();
+        numbers.drop_first(count);
     }
     Ok(next)
 }
@@ -50,6 +51,9 @@ fn mixed_numbers_come_in_runs(rt: HostRuntime) -> Result<(), Fail> {
     }
     assert_eq!(rt; numbers.first_from(&333), Some(&333));
     assert_eq!(rt; numbers.first_from(&700), None);
+    assert_eq!(rt; numbers.get(5), Some(&5));
+    assert_eq!(rt; numbers.get(555), Some(&555));
+    assert_eq!(rt; numbers.get(700), None);
     assert_eq!(rt; take_all(&rt, &mut numbers)?, 700);
     assert_eq!(rt; numbers.first(), None);
     Ok(())

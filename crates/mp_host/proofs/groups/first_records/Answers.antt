@@ -1,14 +1,20 @@
+use Rattle.std.proofs.Common.{◌∙◌, ap, drop, length}
 use Rattle.std.proofs.lemmas.List.Folds.{length-prefix_len}
 use Rattle.mp_host_laws.specs.Hosted.{is_of}
+use Rattle.mp_host.proofs.FirstRun.{run_taken, run_whole}
 use Rattle.mp_host.proofs.Standing.{standing}
 use Rattle.mp_host.proofs.groups.first_records.Goals as goal
 
 pub returns-clause-records : goal.returns-clause-records
 returns-clause-records c =
-    rw (c.count_first.ensures, c.as_slice-all.ensures.items) ((standing c.args.time c.args.key c.args.records.now.items c.as_slice-all.ensures.in_order c.requires).0)
+    let rs = c.args.records.now.items in
+    rw (c.count_first.ensures, c.first_run-run.ensures.run) (run_taken c.args.time c.args.key rs ∙ (standing c.args.time c.args.key rs c.first_run-run.ensures.in_order c.requires).0)
 
 pub returns-clause-others : goal.returns-clause-others
 returns-clause-others c =
     let p = is_of c.args.time c.args.key in
     let rs = c.args.records.now.items in
-    rw (c.count_first.ensures, c.as_slice-all.ensures.items, length-prefix_len p rs) ((standing c.args.time c.args.key rs c.as_slice-all.ensures.in_order c.requires).1)
+    rw (c.count_first.ensures, c.first_run-run.ensures.run) (ap (λ ss. drop (length ss) rs) (run_taken c.args.time c.args.key rs) ∙ rw (length-prefix_len p rs) ((standing c.args.time c.args.key rs c.first_run-run.ensures.in_order c.requires).1))
+
+pub returns-clause-whole : goal.returns-clause-whole
+returns-clause-whole c = rw (c.count_first.ensures, c.first_run-run.ensures.run) (run_whole c.args.time c.args.key c.args.records.now.items)

@@ -1,6 +1,5 @@
 -- There are spare blocks up to the number that the loop has come to.
 use Rattle.std.proofs.Common.{◌≡◌, ◌≤◌, All, length}
-use Rattle.std.specs.Prelude.{max}
 use Rattle.std.specs.Vec.{vec_capacity}
 use Rattle.mp_ordered.specs.Blocks.{IsSpare}
 use Rattle.mp_ordered.proofs.block.add_spare.Given as goal

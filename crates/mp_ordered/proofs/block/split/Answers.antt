@@ -1,4 +1,4 @@
-use Rattle.std.proofs.Common.{◌≡◌, ◌∙◌, ◌+◌, ap, sym, arith, add-one}
+use Rattle.std.proofs.Common.{◌∙◌, ap, arith, add-one}
 use Rattle.std.proofs.lemmas.List.{get_or_default}
 use Rattle.std.proofs.lemmas.List.Elements.{All-pop}
 use Rattle.std.specs.Vec.{vec_capacity}

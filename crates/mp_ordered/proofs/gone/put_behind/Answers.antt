@@ -1,4 +1,4 @@
-use Rattle.std.proofs.Common.{◌≡◌, ◌+◌, ◌≤◌, ap, ◌∙◌, arith, drop, length, refl}
+use Rattle.std.proofs.Common.{◌+◌, ◌≤◌, ap, ◌∙◌, arith, drop, length, refl}
 use Rattle.std.specs.List.{insert}
 use Rattle.mp_ordered.proofs.Behind.{drop_insert}
 use Rattle.mp_ordered.proofs.gone.put_behind.Goals as goal

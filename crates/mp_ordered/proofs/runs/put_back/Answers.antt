@@ -1,4 +1,4 @@
-use Rattle.std.proofs.Common.{◌≡◌, ◌∙◌, ◌++◌, ◌∷◌, [], List, ap, sym, subst, arith, length, length-append}
+use Rattle.std.proofs.Common.{◌∙◌, ◌++◌, ◌∷◌, [], ap, sym, subst, arith, length, length-append}
 use Rattle.mp_ordered.specs.InOrder.{IsInOrder}
 use Rattle.mp_ordered.proofs.Running.{last_back}
 use Rattle.mp_ordered.proofs.runs.put_back.Goals as goal

@@ -1,5 +1,5 @@
 -- Those that are put back stand in front of the others, as they did, and take up so much room.
-use Rattle.std.proofs.Common.{◌≡◌, ◌+◌, ◌≤◌, ◌++◌, length}
+use Rattle.std.proofs.Common.{◌≡◌, ◌+◌, ◌++◌, length}
 use Rattle.std.specs.Vec.{vec_capacity}
 use Rattle.mp_ordered.proofs.runs.put_back.Given as goal
 

@@ -1,4 +1,4 @@
-use Rattle.std.proofs.Common.{◌≡◌, ◌+◌, ◌∙◌, drop, false, sym, subst}
+use Rattle.std.proofs.Common.{◌≡◌, ◌∙◌, drop, false, sym, subst}
 use Rattle.std.proofs.lemmas.List.{drop-drop}
 use Rattle.mp_names.specs.Names.{is_before}
 use Rattle.mp_ordered.specs.InOrder.{IsInOrder}

@@ -1,5 +1,4 @@
-use Rattle.std.proofs.Common.{◌≡◌, ◌∙◌, ◌≤◌, Ok, Err, Result, OnErr, OnOk, ap, drop, length, sym, subst, arith}
-use Rattle.std.specs.List.{insert}
+use Rattle.std.proofs.Common.{◌∙◌, Ok, Err, Result, OnErr, OnOk, ap, drop, length, sym, subst, arith}
 use Rattle.mp_ordered.specs.InOrder.{IsInOrder}
 use Rattle.mp_ordered.proofs.Placing.{put_keeps}
 use Rattle.mp_ordered.proofs.ordered.Ordered.insert.Goals as goal

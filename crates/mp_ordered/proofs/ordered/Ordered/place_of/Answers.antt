@@ -1,8 +1,7 @@
-use Rattle.std.proofs.Common.{◌≡◌, ap, sym, subst, arith, rules, of_calls, List, length}
-use Rattle.std.specs.List.{insert}
+use Rattle.std.proofs.Common.{sym, subst, arith, rules, of_calls}
 use Rattle.std.proofs.lemmas.Fn.{always_returns_same}
 use Rattle.mp_names.specs.Names.{is_before}
-use Rattle.mp_ordered.specs.InOrder.{IsInOrder, put_in_order}
+use Rattle.mp_ordered.specs.InOrder.{IsInOrder}
 use Rattle.mp_ordered.proofs.Placing.{placed_at, partitioned}
 use Rattle.mp_ordered.proofs.ordered.Ordered.place_of.Goals as goal
 

@@ -1,6 +1,5 @@
-use Rattle.std.proofs.Common.{sym, ◌∙◌, ap, subst, ◌≡◌, List}
-use Rattle.std.specs.List.{insert}
-use Rattle.mp_ordered.specs.InOrder.{InOrder, IsInOrder}
+use Rattle.std.proofs.Common.{sym, ◌∙◌, subst}
+use Rattle.mp_ordered.specs.InOrder.{IsInOrder}
 use Rattle.mp_ordered.proofs.Placing.{put_keeps}
 use Rattle.mp_ordered.proofs.queue.OrderedQueue.insert.Goals as goal
 

@@ -1,4 +1,4 @@
-use Rattle.std.proofs.Common.{ℕ, Bool, arith, rules, of_calls}
+use Rattle.std.proofs.Common.{arith, rules, of_calls}
 use Rattle.std.proofs.lemmas.Fn.{always_returns_same}
 use Rattle.mp_names.specs.Names.{is_before}
 use Rattle.mp_ordered.proofs.Placing.{placed_at, partitioned}

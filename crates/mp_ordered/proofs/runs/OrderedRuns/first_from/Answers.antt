@@ -1,5 +1,4 @@
-use Rattle.std.proofs.Common.{◌≡◌, ◌∙◌, sym, ap, arith, None, Some}
-use Rattle.mp_ordered.specs.InOrder.{first_from}
+use Rattle.std.proofs.Common.{◌∙◌, sym}
 use Rattle.mp_ordered.proofs.Placed.{found_within, from_none, got, got_past, none_from}
 use Rattle.mp_ordered.proofs.runs.OrderedRuns.first_from.Goals as goal
 

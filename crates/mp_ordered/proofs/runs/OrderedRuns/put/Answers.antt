@@ -1,5 +1,4 @@
-use Rattle.std.proofs.Common.{◌≡◌, ◌≤◌, ◌<◌, ◌-◌, ◌∙◌, ◌++◌, ap, sym, subst, arith, length, length-append}
-use Rattle.std.specs.List.{insert}
+use Rattle.std.proofs.Common.{◌∙◌, ◌++◌, ap, sym, subst, arith, length, length-append}
 use Rattle.mp_ordered.specs.InOrder.{IsInOrder, put_in_order}
 use Rattle.mp_ordered.proofs.Changed.{length-put}
 use Rattle.mp_ordered.proofs.Placing.{put_keeps}

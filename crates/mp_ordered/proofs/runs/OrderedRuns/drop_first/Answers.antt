@@ -1,10 +1,10 @@
-use Rattle.std.proofs.Common.{◌≡◌, ◌∙◌, ◌++◌, ◌+◌, drop, sym, ap, subst, length, arith, length-append, refl, false}
+use Rattle.std.proofs.Common.{◌≡◌, ◌∙◌, ◌<◌, false, sym, ap, subst, length, ℕ, ⊎_elim, ◌⊎◌, arith, length-append, refl}
 use Rattle.std.proofs.lemmas.List.{drop_at}
 use Rattle.mp_names.specs.Names.{is_before}
 use Rattle.mp_ordered.specs.InOrder.{IsInOrder, first_run}
 use Rattle.mp_ordered.proofs.Placed.{pairs_back}
 use Rattle.mp_ordered.proofs.Running.{first_run_is}
-use Rattle.mp_ordered.proofs.runs.OrderedRuns.drop_run.Goals as goal
+use Rattle.mp_ordered.proofs.runs.OrderedRuns.drop_first.Goals as goal
 
 pub invariant_of-self : goal.invariant_of-self
 invariant_of-self g c =
@@ -20,14 +20,19 @@ invariant_of-self g c =
       memory = omega (arith, c.take_run.ensures.room, c.take_run.ensures.memory, c.clear.ensures.capacity, inv.memory, ap length c.take_run.ensures.items, parts);
     }
 
-pub returns-clause-items : goal.returns-clause-items
-returns-clause-items g c =
-    let s = c.self.inside in
-    let run = first_run_is g.O.Kinds.same s.run.items s.rest.items c.self.invariant.kind c.self.invariant.ends in
-    rw (← c.self.view_is, run) (c.take_run.ensures.items ∙ sym (drop_at s.run.items s.rest.items (length s.run.items) refl))
+whole : (count run : ℕ) → (count ≡ 0) ⊎ (count ≡ run) → 0 < count → count ≡ run
+whole count run e l = ⊎_elim (λ (f : count ≡ 0). absurd (omega arith)) (λ (f : count ≡ run). f) e
 
-pub returns-clause-room : goal.returns-clause-room
-returns-clause-room g c =
+pub returns-then-count-gt0-clause-items : goal.returns-then-count-gt0-clause-items
+returns-then-count-gt0-clause-items g c =
     let s = c.self.inside in
     let run = first_run_is g.O.Kinds.same s.run.items s.rest.items c.self.invariant.kind c.self.invariant.ends in
-    rw (← c.self.view_is, run) (omega (arith, c.take_run.ensures.room, c.self.invariant.room))
+    let is = whole c.args.count _ c.requires c.if-count-gt0.true ∙ ap (λ o. length (first_run g.O.Kinds.same o.items)) (sym c.self.view_is) ∙ ap length run in
+    rw (← c.self.view_is, is) (c.take_run.ensures.items ∙ sym (drop_at s.run.items s.rest.items (length s.run.items) refl))
+
+pub returns-then-count-gt0-clause-room : goal.returns-then-count-gt0-clause-room
+returns-then-count-gt0-clause-room g c =
+    let s = c.self.inside in
+    let run = first_run_is g.O.Kinds.same s.run.items s.rest.items c.self.invariant.kind c.self.invariant.ends in
+    let is = whole c.args.count _ c.requires c.if-count-gt0.true ∙ ap (λ o. length (first_run g.O.Kinds.same o.items)) (sym c.self.view_is) ∙ ap length run in
+    rw (← c.self.view_is, is) (omega (arith, c.take_run.ensures.room, c.self.invariant.room))
