@@ -25,6 +25,7 @@ pub record Contents (Cell : Type 0) : Type 0 where
   pub unwritten : Unwritten
   pub lists : PacketLists
 
+-- the worker that they are of
 abbrev pub worker_of : {Cell : Type 0} → Contents Cell → WorkerState
 worker_of p = p.worker
 

@@ -40,7 +40,8 @@ impl<'a, Q: Query, J: Naming> Parts<'a, Q, J> {
         ensures none { let o = outline_of (Q.facts J.job.rules) J.job in
             IfNone result ((x : Name) → CanMake o (Apply stage) self.now.worker x → ⊥) }
         ensures ready { IfSome result (λ _. SomeGroupIsReady J.job stage self.now) }
-        ensures enough { IfSome result (λ most. most + 2 < 2 ^ 64 → IsEnoughFor (Q.facts J.job.rules) J.job stage most self.now) }
+        ensures enough { IfSome result (λ most. most + 2 < 2 ^ 64
+            → IsEnoughFor (Q.facts J.job.rules) J.job stage most self.now) }
     {
         let host = &self.hosts[stage as usize];
         if host.ready(&self.seen, &self.owners).is_none() {
@@ -71,7 +72,9 @@ impl<'a, Q: Query, J: Naming> Parts<'a, Q, J> {
         requires stage { stage < J.job.shape.stages }
         requires empty { changes.items ≡ [] }
         requires ready { SomeGroupIsReady J.job stage self.old }
-        requires room { (most : ℕ) × HasRoomToApply (stage + 1) most (vec_capacity changes) self.old × IsEnoughFor (Q.facts J.job.rules) J.job stage most self.old }
+        requires room { (most : ℕ)
+            × HasRoomToApply (stage + 1) most (vec_capacity changes) self.old
+            × IsEnoughFor (Q.facts J.job.rules) J.job stage most self.old }
         ensures { let o = outline_of (Q.facts J.job.rules) J.job in
             StepsAlone o (Apply stage) self.old.worker self.new.worker result }
     {

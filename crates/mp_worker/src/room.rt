@@ -1,7 +1,6 @@
 //! Room for what a message may bring. All of it is made before one is taken, as nothing may be refused after that.
 ghost use Rattle.std.specs.Prelude.{◌≡◌, ◌≤◌, ◌<◌, ◌+◌, ◌^◌, [], All, OnOk};
 ghost use Rattle.std.specs.Vec.{vec_capacity};
-ghost use Rattle.mp_worker.specs.Contents.{number_of_times};
 ghost use Rattle.mp_worker.specs.Rooms.{HasRoomToTake, SameHosts, SameMovers};
 
 use crate::parts::Parts;
@@ -49,7 +48,7 @@ impl<'a, Q: Query, J: Naming> Parts<'a, Q, J> {
     /// Makes room for one message, whatever it holds. `AllocError`: no memory, and nothing but rooms changes.
     pub(crate) fn make_room_to_take(&mut self) -> Result<(), AllocError>
         ensures same { self.new.worker ≡ self.old.worker }
-        ensures room { OnOk result (HasRoomToTake (number_of_times (Q.facts J.job.rules) J.job) self.new) }
+        ensures room { OnOk result (HasRoomToTake (Q.facts J.job.rules) J.job self.new) }
     {
         let times = self.job.times().len();
         self.lists.make_room(times)?;
@@ -60,8 +59,8 @@ impl<'a, Q: Query, J: Naming> Parts<'a, Q, J> {
     }
 }
 
-// Makes room in the log, the rows and the owners for one message, whatever it holds, where a packet's wakes are of so many times. `AllocError`: no memory, and
-// nothing but rooms changes.
+// Makes room in the log, the rows and the owners for one message, whatever it holds, where a packet's wakes are of so many
+// times. `AllocError`: no memory, and nothing but rooms changes.
 fn make_room_to_take<Q: Query, J: Naming>(
     times: usize,
     log: &mut Log<OutlineOf<Q, J>>,

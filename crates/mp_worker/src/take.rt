@@ -14,7 +14,7 @@ ghost use Rattle.mp_outline.specs.JobOutline.{name_of_record, outline_of};
 ghost use Rattle.mp_msg.specs.Contents.{IsControlOf, IsPacketOf, IsRecordOf, IsRowOf};
 ghost use Rattle.mp_output.specs.Holding.{HoldsUnwritten};
 ghost use Rattle.mp_worker_invariant.specs.Parts.{AreMoversAt, AreTaken, IsHostAt};
-ghost use Rattle.mp_worker.specs.Contents.{number_of_times, with_taken};
+ghost use Rattle.mp_worker.specs.Contents.{with_taken};
 ghost use Rattle.mp_worker.specs.Rooms.{HasRoomToTake};
 
 use crate::parts::Parts;
@@ -33,9 +33,10 @@ use std::alloc::AllocError;
 impl<'a, Q: Query, J: Naming> Parts<'a, Q, J> {
     /// Takes a message that came to this worker to the part that it is for. There is room for it.
     pub(crate) fn take(&mut self, message: Msg<Q, J>) -> Result<(), AllocError>
-        requires to { receiver (outline_of (Q.facts J.job.rules) J.job) message ≡ self.old.worker.number }
+        requires to { let o = outline_of (Q.facts J.job.rules) J.job in
+            receiver o message ≡ self.old.worker.number }
         requires fresh { has self.old.worker.log.took message ≡ false }
-        requires room { HasRoomToTake (number_of_times (Q.facts J.job.rules) J.job) self.old }
+        requires room { HasRoomToTake (Q.facts J.job.rules) J.job self.old }
         ensures never_refused { IsOk result }
         ensures took { self.new.worker ≡ with_taken message self.old.worker }
     {
@@ -58,10 +59,11 @@ impl<'a, Q: Query, J: Naming> Parts<'a, Q, J> {
         }
     }
 
+    // Takes a control record to the owners and to the movers of its stage.
     fn take_control(&mut self, index: u32, control: Control) -> Result<(), AllocError>
         requires content { IsControlOf J.job index self.old.worker.number control }
         requires fresh { has self.old.worker.log.took (Ctrl index self.old.worker.number) ≡ false }
-        requires room { HasRoomToTake (number_of_times (Q.facts J.job.rules) J.job) self.old }
+        requires room { HasRoomToTake (Q.facts J.job.rules) J.job self.old }
         ensures never_refused { IsOk result }
         ensures took { self.new.worker ≡ with_taken (Ctrl index self.old.worker.number) self.old.worker }
     {
@@ -69,12 +71,14 @@ impl<'a, Q: Query, J: Naming> Parts<'a, Q, J> {
         take_control(&mut self.log, &mut self.owners, movers, index, control)
     }
 
+    // Takes a record to the host of its stage.
     fn take_record(&mut self, name: Name, stage: u32, rec: Rec) -> Result<(), AllocError>
         requires record { IsRecordOf (Q.facts J.job.rules) J.job stage rec }
         requires name { name ≡ name_of_record stage rec }
-        requires owed { IsOwedTo (outline_of (Q.facts J.job.rules) J.job) self.old.worker.number name }
+        requires owed { let o = outline_of (Q.facts J.job.rules) J.job in
+            IsOwedTo o self.old.worker.number name }
         requires fresh { has self.old.worker.log.took name ≡ false }
-        requires room { HasRoomToTake (number_of_times (Q.facts J.job.rules) J.job) self.old }
+        requires room { HasRoomToTake (Q.facts J.job.rules) J.job self.old }
         ensures never_refused { IsOk result }
         ensures took { self.new.worker ≡ with_taken name self.old.worker }
     {
@@ -82,11 +86,13 @@ impl<'a, Q: Query, J: Naming> Parts<'a, Q, J> {
         take_record(&mut self.log, host, name, stage, rec)
     }
 
+    // Takes the state of a bin to the host of its stage.
     fn take_packet(&mut self, packet: Packet<Q::Cell>) -> Result<(), AllocError>
         requires state { IsPacketOf (Q.facts J.job.rules) J.job packet.stage packet.bin packet.time packet.state }
-        requires owed { IsOwedTo (outline_of (Q.facts J.job.rules) J.job) self.old.worker.number (PacketName packet.stage packet.bin packet.time) }
+        requires owed { let o = outline_of (Q.facts J.job.rules) J.job in
+            IsOwedTo o self.old.worker.number (PacketName packet.stage packet.bin packet.time) }
         requires fresh { has self.old.worker.log.took (PacketName packet.stage packet.bin packet.time) ≡ false }
-        requires room { HasRoomToTake (number_of_times (Q.facts J.job.rules) J.job) self.old }
+        requires room { HasRoomToTake (Q.facts J.job.rules) J.job self.old }
         ensures never_refused { IsOk result }
         ensures took { self.new.worker ≡ with_taken (PacketName packet.stage packet.bin packet.time) self.old.worker }
     {
@@ -94,6 +100,7 @@ impl<'a, Q: Query, J: Naming> Parts<'a, Q, J> {
         take_packet(&mut self.log, host, packet, &mut self.lists)
     }
 
+    // Takes an answer row to those that are to be written.
     fn take_row(
         &mut self,
         name: Name,
@@ -103,9 +110,10 @@ impl<'a, Q: Query, J: Naming> Parts<'a, Q, J> {
     ) -> Result<(), AllocError>
         requires row { IsRowOf (Q.facts J.job.rules) J.job time tag fields }
         requires name { name ≡ RowName time tag }
-        requires owed { IsOwedTo (outline_of (Q.facts J.job.rules) J.job) self.old.worker.number name }
+        requires owed { let o = outline_of (Q.facts J.job.rules) J.job in
+            IsOwedTo o self.old.worker.number name }
         requires fresh { has self.old.worker.log.took name ≡ false }
-        requires room { HasRoomToTake (number_of_times (Q.facts J.job.rules) J.job) self.old }
+        requires room { HasRoomToTake (Q.facts J.job.rules) J.job self.old }
         ensures never_refused { IsOk result }
         ensures took { self.new.worker ≡ with_taken name self.old.worker }
     {

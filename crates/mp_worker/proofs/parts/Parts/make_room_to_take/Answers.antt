@@ -39,5 +39,5 @@ returns-clause-room g c =
     let times = ap length c.times-times.ensures ∙ ap (λ (f : JobFacts). number_of_times (g.Q.Query.facts f.rules) f) c.self.invariant.same in
     let hosts = written_back without_room i.hosts.items c.deref_mut.result.now c.make_room_in_hosts.new.hosts i.hosts.len c.deref_mut.ensures.len c.make_room_in_hosts.ensures.same in
     let movers = written_back roomless i.movers.items c.deref_mut-2.result.now c.make_room_in_movers.new.movers i.movers.len c.deref_mut-2.ensures.len c.make_room_in_movers.ensures.same in
-    rw (← times, hosts, movers)
-    (record { names = ok.log.0; changes = ok.log.1; notes = ok.owners; rows = ok.rows; hosts = c.in_ok-make_room_in_hosts.ensures.room; movers = c.in_ok-make_room_in_movers.ensures.room; empty = lists.empty; lists = lists.room })
+    rw (hosts, movers)
+    (record { names = ok.log.0; changes = rw (← times) ok.log.1; notes = ok.owners; rows = ok.rows; hosts = c.in_ok-make_room_in_hosts.ensures.room; movers = c.in_ok-make_room_in_movers.ensures.room; empty = lists.empty; lists = (rw (← times) lists.room.0, rw (← times) lists.room.1) })
