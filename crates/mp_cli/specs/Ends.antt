@@ -11,9 +11,9 @@ use Rattle.mp_names.specs.declared.controls.Control.{Control}
 use Rattle.mp_names.specs.declared.controls.Shape.{Shape}
 use Rattle.mp_words.specs.Values.{CheckAsked, MakeAsked, Options}
 use Rattle.mp_words.specs.Words.{Asked, Run, Check, Make, Demo}
-use Rattle.mp_cli.specs.Config.{check_reading}
+use Rattle.mp_cli.specs.Config.{check_reading, reading_of}
 use Rattle.mp_cli.specs.Queries.{answer_of}
-use Rattle.mp_cli.specs.Outcome.{Outcome, Answered, IsReadBy, MayCome, called_for, status_of}
+use Rattle.mp_cli.specs.Outcome.{Outcome, IsNamedIn, MayCome, status_of}
 use Rattle.mp_cli.specs.Writing.{made_file}
 
 -- the event file holds these events
@@ -104,7 +104,7 @@ ComesWhere status code cause = (code ≡ status → cause) × (cause → (code �
 -- the name is that of the events or of the configuration
 abbrev pub IsInput : Option Asked → List ℕ → Type 0
 IsInput None name = ⊥
-IsInput (Some asked) name = IsReadBy asked name
+IsInput (Some asked) name = IsNamedIn (reading_of asked) name
 
 module _ {D : Type 0} (found : D → List ℕ → Bool → D → Type 0) where
   -- a `find` of a file that the command reads answered that it isn't there, and left the depot in this state

@@ -115,47 +115,46 @@ files_call_for told (Some reading) line =
 abbrev pub called_for : Option Files → Asked → Outcome
 called_for told asked = files_call_for told (reading_of asked) (line_after asked)
 
--- the command reads files
-abbrev pub ReadsFiles : Asked → Type 0
-ReadsFiles asked = IsSome (reading_of asked)
-
 -- A fault of the outside, or want of memory, may come in place of what is called for. A read may fail only where
 -- files are read, and a write only where an answer is called for
-abbrev pub MayFail : Asked → Outcome → Outcome → Type 0
-MayFail asked called ReadFault = ReadsFiles asked
-MayFail asked called WriteFault = status_of called ≡ 0
-MayFail asked called NoMemory = Unit {0}
-MayFail asked called _ = ⊥
+abbrev pub MayFail : Option Reading → Outcome → Outcome → Type 0
+MayFail reading called ReadFault = IsSome reading
+MayFail reading called WriteFault = status_of called ≡ 0
+MayFail reading called NoMemory = Unit {0}
+MayFail reading called _ = ⊥
 
 -- what may stop the writing of an answer: a fault, or want of memory
 abbrev pub StopsAnswer : Outcome → Type 0
 StopsAnswer outcome = (outcome ≡ WriteFault) ⊎ (outcome ≡ NoMemory)
 
--- the name is that of the events or of the configuration
-abbrev pub IsReadBy : Asked → List ℕ → Type 0
-IsReadBy asked name = IsSomeAnd (reading_of asked) (λ reading. (name ≡ reading.events) ⊎ (name ≡ reading.config))
+-- the name is that of the events or of the configuration, where these are read
+abbrev pub IsNamedIn : Option Reading → List ℕ → Type 0
+IsNamedIn reading name = IsSomeAnd reading (λ files. (name ≡ files.events) ⊎ (name ≡ files.config))
 
 -- the line is that of some events and control records
-abbrev pub IsLineOf : Asked → List ℕ → Type 0
-IsLineOf asked line = (events : List Event) × (controls : List Control) × (line ≡ line_after asked events controls)
+abbrev pub IsLineOf : (List Event → List Control → List ℕ) → List ℕ → Type 0
+IsLineOf line said = (events : List Event) × (controls : List Control) × (said ≡ line events controls)
 
--- An outcome of a command: files are spoken of only where it reads files, and a name is that of the events or of
--- the configuration
-abbrev pub IsOfCommand : Asked → Outcome → Type 0
-IsOfCommand asked (Answered line) = IsLineOf asked line
-IsOfCommand asked Usage = ⊥
-IsOfCommand asked (EventsRefused line why) = ReadsFiles asked
-IsOfCommand asked (ConfigRefused line why) = ReadsFiles asked
-IsOfCommand asked (NoFile name) = IsReadBy asked name
-IsOfCommand asked ReadFault = ReadsFiles asked
-IsOfCommand asked WriteFault = Unit {0}
-IsOfCommand asked NoMemory = Unit {0}
-IsOfCommand asked (TooLarge name) = IsReadBy asked name
+-- An outcome of a command, whatever the files hold: files are spoken of only where it reads files, and a name is that
+-- of the events or of the configuration
+abbrev pub IsOfCommand : Option Reading → (List Event → List Control → List ℕ) → Outcome → Type 0
+IsOfCommand reading line (Answered said) = IsLineOf line said
+IsOfCommand reading line Usage = ⊥
+IsOfCommand reading line (EventsRefused number why) = IsSome reading
+IsOfCommand reading line (ConfigRefused number why) = IsSome reading
+IsOfCommand reading line (NoFile name) = IsNamedIn reading name
+IsOfCommand reading line ReadFault = IsSome reading
+IsOfCommand reading line WriteFault = Unit {0}
+IsOfCommand reading line NoMemory = Unit {0}
+IsOfCommand reading line (TooLarge name) = IsNamedIn reading name
 
--- The outcomes that may come. Words that are no command end as usage. Where the depot tells its files, a command
--- ends as these call for, or fails
+-- the outcomes of a command that may come: where the depot tells its files, it ends as these call for, or fails
+abbrev pub MayEnd : Option Files → Option Reading → (List Event → List Control → List ℕ) → Outcome → Type 0
+MayEnd told reading line outcome =
+    MatchOption told (IsOfCommand reading line outcome)
+    (λ _. (outcome ≡ files_call_for told reading line) ⊎ MayFail reading (files_call_for told reading line) outcome)
+
+-- The outcomes that may come. Words that are no command end as usage
 abbrev pub MayCome : Option Asked → Option Files → Outcome → Type 0
 MayCome None told outcome = (outcome ≡ Usage) ⊎ (outcome ≡ NoMemory)
-MayCome (Some asked) told outcome =
-    MatchOption told (IsOfCommand asked outcome)
-    (λ _. (outcome ≡ called_for told asked) ⊎ MayFail asked (called_for told asked) outcome)
+MayCome (Some asked) told outcome = MayEnd told (reading_of asked) (line_after asked) outcome

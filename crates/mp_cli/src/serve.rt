@@ -1,9 +1,9 @@
 //! A command carried out on the files of a depot.
 ghost use Rattle.std.specs.Prelude.{◌≡◌, [], Some, OnErr, OnOk, IfErr, IfOk};
 ghost use Rattle.mp_outside.specs.Fault.{Rose};
-ghost use Rattle.mp_words.specs.Limits.{AreWithinLimits};
+ghost use Rattle.mp_words.specs.Limits.{AreWithinLimits, IsWithinLimits};
 ghost use Rattle.mp_words.specs.Values.{options_in};
-ghost use Rattle.mp_words.specs.Words.{Run, command_in};
+ghost use Rattle.mp_words.specs.Words.{Run, asked_in, command_in};
 ghost use Rattle.mp_cli.specs.Ends.{IsCommandAnswered, IsCommandAnsweredInPart, IsRefusal, LacksInput};
 ghost use Rattle.mp_cli.specs.Ends.{OthersStay, WritesFile};
 ghost use Rattle.mp_cli.specs.Outcome.{Answered, MayCome, status_of};
@@ -52,12 +52,46 @@ pub fn serve<'a, D: Depot, G: Gate>(
     ensures others { OthersStay (command_in words.now) (D.files depot.old) (D.files depot.new) }
 {
     match parse(alloc, words) {
-        Ok(Command::Run(options)) => answer(alloc, depot, &options, gate),
-        Ok(Command::Check(options)) => check(alloc, depot, &options),
-        Ok(Command::Make(options)) => make(alloc, depot, &options),
-        Ok(Command::Demo(options)) => demo(alloc, &options, gate),
+        Ok(command) => carry_out(alloc, command, depot, gate),
         Err(WordsRefused::Usage) => Err(Refusal::Usage),
         Err(WordsRefused::NoMemory) => Err(Refusal::NoMemory),
+    }
+}
+
+/// Carries out a command: the line that it says when all is done.
+fn carry_out<'a, D: Depot, G: Gate>(
+    alloc: Global,
+    command: Command<'a>,
+    depot: &mut D,
+    gate: &G,
+) -> Result<Vec<u8>, Refusal<'a>>
+    requires { IsWithinLimits command }
+    ensures line { IfOk result (λ line.
+        MayCome (Some (asked_in command.entry)) (D.files depot.old) (Answered line.items)) }
+    ensures quiet { IfOk result (λ line. WritesFile (Some (asked_in command.entry)) → line.items ≡ []) }
+    ensures refused { IfErr result (λ r.
+        MayCome (Some (asked_in command.entry)) (D.files depot.old) (outcome_of r)) }
+    ensures not_found { IfErr result (λ r. EndsAs r 5
+        → LacksInput D.found (Some (asked_in command.entry)) depot.new) }
+    ensures read_fault { IfErr result (λ r. EndsAs r 6
+        → Rose (D.read_faults depot.old) (D.read_faults depot.new)) }
+    ensures writes_file { IfErr result (λ r. EndsAs r 7 → WritesFile (Some (asked_in command.entry))) }
+    ensures write_fault { IfErr result (λ r. EndsAs r 7
+        → Rose (D.write_faults depot.old) (D.write_faults depot.new)) }
+
+    ensures answered { OnOk result
+        (IsCommandAnswered (Some (asked_in command.entry)) (D.files depot.old) (D.files depot.new)) }
+    ensures untouched { IfErr result (λ r. IsRefusal (status_of (outcome_of r))
+        → D.files depot.new ≡ D.files depot.old) }
+    ensures part { OnErr result
+        (IsCommandAnsweredInPart (Some (asked_in command.entry)) (D.files depot.old) (D.files depot.new)) }
+    ensures others { OthersStay (Some (asked_in command.entry)) (D.files depot.old) (D.files depot.new) }
+{
+    match command {
+        Command::Run(options) => answer(alloc, depot, &options, gate),
+        Command::Check(options) => check(alloc, depot, &options),
+        Command::Make(options) => make(alloc, depot, &options),
+        Command::Demo(options) => demo(alloc, &options, gate),
     }
 }
 
