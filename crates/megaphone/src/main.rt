@@ -8,7 +8,8 @@ ghost use Rattle.std.specs.Process.{exit_status};
 ghost use Rattle.mp_outside.specs.Fault.{Rose};
 ghost use Rattle.mp_outside.specs.Files.{SameFiles};
 ghost use Rattle.mp_words.specs.Words.{command_in};
-ghost use Rattle.mp_cli.specs.Ends.{CameTo, ComesWhere, IsCommandAnswered, IsRefusal, SaysLine};
+ghost use Rattle.mp_cli.specs.Ends.{CameTo, ComesWhere, IsCommandAnswered, IsRefusal, SaysAnswer, SaysLine};
+ghost use Rattle.mp_cli.specs.Ends.{WritesFile};
 ghost use Rattle.mp_cli.specs.Outcome.{MayCome, Outcome, line_said, status_of};
 
 use mp_cli::{lack_memory, run};
@@ -47,8 +48,10 @@ fn answer<D: Depot, S: Sink, R: AllocGlobal>(
         × (status_of outcome ≡ exit_status result) }
     ensures read_fault { exit_status result ≡ 6
         → Rose (D.read_faults depot.old) (D.read_faults depot.new) }
-    ensures write_fault { exit_status result ≡ 7
+    ensures write_fault { WritesFile (command_in words.now) → exit_status result ≡ 7
         → Rose (D.write_faults depot.old) (D.write_faults depot.new) }
+    ensures said_fault { SaysAnswer (command_in words.now) → exit_status result ≡ 7
+        → Rose (S.faults said.old) (S.faults said.new) }
     ensures answer { exit_status result ≡ 0
         → IsCommandAnswered (command_in words.now) (D.files depot.old) (D.files depot.new) }
     ensures untouched { IsRefusal (exit_status result) → SameFiles (D.files depot.old) (D.files depot.new) }

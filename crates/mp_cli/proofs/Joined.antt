@@ -1,7 +1,7 @@
 -- Pieces joined one after the other.
 use Rattle.std.proofs.Common.{ℕ, suc, ◌≡◌, ◌+◌, ◌<◌, ◌≤◌, ◌++◌, List, [], ◌∷◌, length, take, drop, get_or, sym, ap, ◌∙◌, append-nil, add-one, arith}
 use Rattle.std.specs.List.{flat_map}
-use Rattle.std.proofs.Math.Seq.{take-append-add, take-suc, drop-cons}
+use Rattle.std.proofs.Math.Seq.{take-append-add, take-length, take-suc, drop-cons}
 use Rattle.std.proofs.lemmas.List.{length-append, take-append-le, take-append-drop}
 use Rattle.std.proofs.lemmas.Grind.{flat_map-append}
 
@@ -12,6 +12,14 @@ module _ {X : Type 0} (f : X → List ℕ) where
       let rest : drop i xs ≡ x ∷ drop (i + 1) xs = rw add-one (drop-cons xs i x lt ∙ ap (λ (y : X). y ∷ drop (suc i) xs) (sym is)) in
       let whole : xs ≡ take i xs ++ (x ∷ drop (i + 1) xs) = sym (take-append-drop i xs) ∙ ap (λ (ys : List X). take i xs ++ ys) rest in
       ap (flat_map f) whole ∙ flat_map-append f (take i xs) (x ∷ drop (i + 1) xs)
+
+  -- the pieces before one
+  pub joined-before : (xs : List X) (i : ℕ) → flat_map f (take i xs) ≡ take (length (flat_map f (take i xs))) (flat_map f xs)
+  joined-before xs i =
+      let done = flat_map f (take i xs) in
+      let whole : flat_map f xs ≡ done ++ flat_map f (drop i xs) = ap (flat_map f) (sym (take-append-drop i xs)) ∙ flat_map-append f (take i xs) (drop i xs) in
+      let le : length done ≤ length done = omega arith in
+      sym (ap (take (length done)) whole ∙ take-append-le (length done) done (flat_map f (drop i xs)) le ∙ take-length done)
 
   -- one more piece
   pub joined-take : (xs : List X) (i : ℕ) (x : X) → i < length xs → x ≡ get_or xs i x → flat_map f (take (i + 1) xs) ≡ flat_map f (take i xs) ++ f x

@@ -4,4 +4,5 @@ mod Ending
 pub mod GivingRows
 mod Joined
 mod Parts
+mod TwoMoves
 mod Written

@@ -22,3 +22,8 @@ all_of_next w before now a b first next = next ∙ ap (λ (x : Option (List ℕ)
 pub part_at_exit : {T E : Type 0} (r : Result T E) (w now : Option (List ℕ)) (line : List ℕ) (k : ℕ) → k < length line → now ≡ grown w (take k line) → OnErr r ((n : ℕ) × (n < length line) × (now ≡ grown w (take n line)))
 part_at_exit (Ok x) w now line k less e = tt
 part_at_exit (Err x) w now line k less e = (k, less, e)
+
+-- a part of a file, at the exit of a call that failed
+pub some_at_exit : {T E : Type 0} (r : Result T E) (w now : Option (List ℕ)) (file : List ℕ) (k : ℕ) → now ≡ grown w (take k file) → OnErr r ((n : ℕ) × (now ≡ grown w (take n file)))
+some_at_exit (Ok x) w now file k e = tt
+some_at_exit (Err x) w now file k e = (k, e)

@@ -1,6 +1,7 @@
 -- What the contracts of this crate cite.
 pub mod Config
 pub mod Ends
+pub mod Lines
 pub mod Outcome
 pub mod Queries
 pub mod Reading

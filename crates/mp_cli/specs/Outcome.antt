@@ -1,6 +1,6 @@
 -- How a call can end: its status and its line.
 use Rattle.std.specs.Prelude.{ℕ, ◌≡◌, ◌⊎◌, ◌++◌, Option, Some, None, Result, Ok, Err, List, []}
-use Rattle.std.specs.Prelude.{length, nat_le, codes, MatchOption, if◌then◌else◌}
+use Rattle.std.specs.Prelude.{length, nat_le, codes, IsSome, IsSomeAnd, MatchOption, if◌then◌else◌}
 use Rattle.std.specs.Fmt.{decimal}
 use Rattle.mp_model.specs.declared.record.Event.{Event}
 use Rattle.mp_events.specs.declared.refused.EventsReason.{EventsReason}
@@ -12,13 +12,14 @@ use Rattle.mp_control.specs.Reasons.{reason_text as text_of_control}
 use Rattle.mp_names.specs.declared.controls.Control.{Control}
 use Rattle.mp_names.specs.declared.controls.Shape.{Shape}
 use Rattle.mp_outside.specs.Files.{Files, file_at}
-use Rattle.mp_words.specs.Values.{Options}
+use Rattle.mp_words.specs.Words.{Asked}
 use Rattle.mp_names.specs.Limits.{most_bytes}
-use Rattle.mp_cli.specs.Config.{shape_of}
+use Rattle.mp_cli.specs.Config.{Reading, reading_of}
+use Rattle.mp_cli.specs.Lines.{line_after}
 
--- how a call can end
+-- how a call can end: all is done, and this line is said; or a refusal
 pub data Outcome : Type 0 where
-  Answered : Outcome
+  Answered : (line : List ℕ) → Outcome
   Usage : Outcome
   EventsRefused : (line : ℕ) (why : EventsReason) → Outcome
   ConfigRefused : (line : ℕ) (why : ControlReason) → Outcome
@@ -30,7 +31,7 @@ pub data Outcome : Type 0 where
 
 -- the status of the process
 abbrev pub status_of : Outcome → ℕ
-status_of Answered = 0
+status_of (Answered line) = 0
 status_of Usage = 2
 status_of (EventsRefused line why) = 3
 status_of (ConfigRefused line why) = 4
@@ -40,9 +41,9 @@ status_of WriteFault = 7
 status_of NoMemory = 8
 status_of (TooLarge name) = 9
 
--- the line that is said, with its line feed; nothing where there is an answer
+-- the line that is said, with its line feed
 abbrev pub line_said : Outcome → List ℕ
-line_said Answered = []
+line_said (Answered line) = line
 line_said Usage = codes "usage: megaphone run|replay|check|make|demo\n"
 line_said (EventsRefused line why) =
     codes "events line " ++ (decimal line ++ (codes ": " ++ (reason_text why ++ codes "\n")))
@@ -65,12 +66,7 @@ abbrev pub with_text : List ℕ → Option (List ℕ) → (List ℕ → Outcome)
 with_text name None next = NoFile name
 with_text name (Some text) next = if nat_le (length text) most_bytes then next text else TooLarge name
 
--- a file that is refused, else what comes next
-abbrev pub unless_refused : Option Outcome → Outcome → Outcome
-unless_refused (Some outcome) next = outcome
-unless_refused None next = next
-
--- events, or why there are none: the number of the first bad line and the first check that it fails
+-- why there are no events: the number of the first bad line and the first check that it fails
 abbrev pub events_refusal : Result (List Event) (ℕ × EventsReason) → Option Outcome
 events_refusal (Ok events) = None
 events_refusal (Err bad) = Some (EventsRefused bad.0 bad.1)
@@ -79,7 +75,7 @@ events_refusal (Err bad) = Some (EventsRefused bad.0 bad.1)
 abbrev pub refusal_of_events : List ℕ → Option Outcome
 refusal_of_events text = events_refusal (events_of text)
 
--- control records, or why there are none: the number of the first bad line and the first check that it fails
+-- why there are no control records: the number of the first bad line and the first check that it fails
 abbrev pub config_refusal : Result (List Control) (ℕ × ControlReason) → Option Outcome
 config_refusal (Ok controls) = None
 config_refusal (Err bad) = Some (ConfigRefused bad.0 bad.1)
@@ -88,44 +84,77 @@ config_refusal (Err bad) = Some (ConfigRefused bad.0 bad.1)
 abbrev pub refusal_of_config : Shape → List ℕ → Option Outcome
 refusal_of_config shape text = config_refusal (controls_of text shape)
 
--- what comes of the configuration for a job of this shape, where the events are read
-abbrev pub after_config : Shape → List ℕ → Outcome
-after_config shape text = unless_refused (refusal_of_config shape text) Answered
+-- the first bad line of events, else what comes next
+abbrev pub with_events : (List Event → Outcome) → Result (List Event) (ℕ × EventsReason) → Outcome
+with_events next (Ok events) = next events
+with_events next (Err bad) = EventsRefused bad.0 bad.1
 
--- what comes of the events, and then of the configuration
-abbrev pub after_events : Outcome → List ℕ → Outcome
-after_events config text = unless_refused (refusal_of_events text) config
+-- the first bad line of a configuration, else what comes next
+abbrev pub with_controls : (List Control → Outcome) → Result (List Control) (ℕ × ControlReason) → Outcome
+with_controls next (Ok controls) = next controls
+with_controls next (Err bad) = ConfigRefused bad.0 bad.1
 
--- What a command calls for, by what the files hold: the events come first, then the configuration, which
--- is read for the shape that the command asks for
-abbrev pub called_for : Option Files → Options → Outcome
-called_for told asked =
-    with_text asked.events (file_at told asked.events)
-    (after_events (with_text asked.config (file_at told asked.config) (after_config (shape_of asked))))
+-- what comes of the text of a configuration for a job of this shape
+abbrev pub after_config : Shape → (List Control → Outcome) → List ℕ → Outcome
+after_config shape next text = with_controls next (controls_of text shape)
 
--- A fault of the outside, or want of memory, may come in place of what is called for. The writing may fail only
--- where an answer is called for
-abbrev pub MayFail : Outcome → Outcome → Type 0
-MayFail called ReadFault = Unit {0}
-MayFail called WriteFault = called ≡ Answered
-MayFail called NoMemory = Unit {0}
-MayFail called _ = ⊥
+-- what comes of the text of events
+abbrev pub after_events : (List Event → Outcome) → List ℕ → Outcome
+after_events next text = with_events next (events_of text)
+
+-- What the files that are read call for: the events come first, then the configuration, which is read for a shape;
+-- then this line is said. Where nothing is read, it is said as of no events and no control records
+abbrev pub files_call_for : Option Files → Option Reading → (List Event → List Control → List ℕ) → Outcome
+files_call_for told None line = Answered (line [] [])
+files_call_for told (Some reading) line =
+    with_text reading.events (file_at told reading.events)
+    (after_events (λ events. with_text reading.config (file_at told reading.config)
+    (after_config reading.shape (λ controls. Answered (line events controls)))))
+
+-- what a command calls for, by what the files hold
+abbrev pub called_for : Option Files → Asked → Outcome
+called_for told asked = files_call_for told (reading_of asked) (line_after asked)
+
+-- A fault of the outside, or want of memory, may come in place of what is called for. A read may fail only where
+-- files are read, and a write only where an answer is called for
+abbrev pub MayFail : Option Reading → Outcome → Outcome → Type 0
+MayFail reading called ReadFault = IsSome reading
+MayFail reading called WriteFault = status_of called ≡ 0
+MayFail reading called NoMemory = Unit {0}
+MayFail reading called _ = ⊥
 
 -- what may stop the writing of an answer: a fault, or want of memory
 abbrev pub StopsAnswer : Outcome → Type 0
 StopsAnswer outcome = (outcome ≡ WriteFault) ⊎ (outcome ≡ NoMemory)
 
--- an outcome of a command: a name that it speaks of is that of the events or of the configuration
-abbrev pub IsOfCommand : Options → Outcome → Type 0
-IsOfCommand asked Usage = ⊥
-IsOfCommand asked (NoFile name) = (name ≡ asked.events) ⊎ (name ≡ asked.config)
-IsOfCommand asked (TooLarge name) = (name ≡ asked.events) ⊎ (name ≡ asked.config)
-IsOfCommand asked _ = Unit {0}
+-- the name is that of the events or of the configuration, where these are read
+abbrev pub IsNamedIn : Option Reading → List ℕ → Type 0
+IsNamedIn reading name = IsSomeAnd reading (λ files. (name ≡ files.events) ⊎ (name ≡ files.config))
 
--- The outcomes that may come. Words that are no command end as usage. Where the depot tells its files, a command
--- ends as these call for, or fails
-abbrev pub MayCome : Option Options → Option Files → Outcome → Type 0
+-- the line is that of some events and control records
+abbrev pub IsLineOf : (List Event → List Control → List ℕ) → List ℕ → Type 0
+IsLineOf line said = (events : List Event) × (controls : List Control) × (said ≡ line events controls)
+
+-- An outcome of a command, whatever the files hold: files are spoken of only where it reads files, and a name is that
+-- of the events or of the configuration
+abbrev pub IsOfCommand : Option Reading → (List Event → List Control → List ℕ) → Outcome → Type 0
+IsOfCommand reading line (Answered said) = IsLineOf line said
+IsOfCommand reading line Usage = ⊥
+IsOfCommand reading line (EventsRefused number why) = IsSome reading
+IsOfCommand reading line (ConfigRefused number why) = IsSome reading
+IsOfCommand reading line (NoFile name) = IsNamedIn reading name
+IsOfCommand reading line ReadFault = IsSome reading
+IsOfCommand reading line WriteFault = Unit {0}
+IsOfCommand reading line NoMemory = Unit {0}
+IsOfCommand reading line (TooLarge name) = IsNamedIn reading name
+
+-- the outcomes of a command that may come: where the depot tells its files, it ends as these call for, or fails
+abbrev pub MayEnd : Option Files → Option Reading → (List Event → List Control → List ℕ) → Outcome → Type 0
+MayEnd told reading line outcome =
+    MatchOption told (IsOfCommand reading line outcome)
+    (λ _. (outcome ≡ files_call_for told reading line) ⊎ MayFail reading (files_call_for told reading line) outcome)
+
+-- The outcomes that may come. Words that are no command end as usage
+abbrev pub MayCome : Option Asked → Option Files → Outcome → Type 0
 MayCome None told outcome = (outcome ≡ Usage) ⊎ (outcome ≡ NoMemory)
-MayCome (Some asked) told outcome =
-    MatchOption told (IsOfCommand asked outcome)
-    (λ _. (outcome ≡ called_for told asked) ⊎ MayFail (called_for told asked) outcome)
+MayCome (Some asked) told outcome = MayEnd told (reading_of asked) (line_after asked) outcome

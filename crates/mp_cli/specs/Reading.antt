@@ -7,6 +7,8 @@ use Rattle.mp_names.specs.Limits.{most_bytes}
 use Rattle.mp_control.specs.Controls.{controls_of}
 use Rattle.mp_names.specs.declared.controls.Control.{Control}
 use Rattle.mp_names.specs.declared.controls.Shape.{Shape}
+use Rattle.mp_words.specs.Values.{CheckAsked}
+use Rattle.mp_cli.specs.Config.{check_reading}
 use Rattle.mp_cli.specs.Outcome.{Outcome, NoFile, TooLarge, ReadFault, NoMemory}
 
 -- the text is the file's, where files are told, and no longer than is allowed
@@ -35,3 +37,9 @@ ReadsEvents told name events = (text : List ℕ) × IsRead told name text × (ev
 abbrev pub ReadsConfig : Option Files → List ℕ → Shape → List Control → Type 0
 ReadsConfig told name shape controls =
     (text : List ℕ) × IsRead told name text × (controls_of text shape ≡ Ok controls)
+
+-- both files of `check` were read
+abbrev pub ReadsBoth : Option Files → CheckAsked → Type 0
+ReadsBoth told asked =
+    (events : List Event) × (controls : List Control) × ReadsEvents told asked.events events
+    × ReadsConfig told asked.config (check_reading asked).shape controls

@@ -1,15 +1,13 @@
 -- What a refusal says, as plain data.
-use Rattle.std.specs.Prelude.{ℕ, ◌≡◌, Option, Result, List, MatchResult}
-use Rattle.mp_outside.specs.Files.{Files}
-use Rattle.mp_words.specs.Values.{Options}
+use Rattle.std.specs.Prelude.{ℕ, ◌≡◌, List}
 use Rattle.mp_drive.specs.declared.stop.DriveStop.{DriveStop}
 use Rattle.mp_drive.specs.declared.stop.DriveStop.TheVariants as stop
 use Rattle.mp_outside.specs.declared.fault.Fault.{Fault}
 use Rattle.mp_outside.specs.declared.fault.Fault.TheVariants as fault
 use Rattle.mp_cli.specs.declared.refusal.Refusal.{Refusal}
 use Rattle.mp_cli.specs.declared.refusal.Refusal.TheVariants as refusal
-use Rattle.mp_cli.specs.Outcome.{Outcome, Answered, Usage, EventsRefused, ConfigRefused, NoFile, ReadFault}
-use Rattle.mp_cli.specs.Outcome.{WriteFault, NoMemory, TooLarge, MayCome, line_said, status_of}
+use Rattle.mp_cli.specs.Outcome.{Outcome, Usage, EventsRefused, ConfigRefused, NoFile, ReadFault}
+use Rattle.mp_cli.specs.Outcome.{WriteFault, NoMemory, TooLarge, line_said, status_of}
 
 -- how a call ends with this refusal
 abbrev pub outcome_of : Refusal → Outcome
@@ -29,12 +27,6 @@ EndsAs refusal status = status_of (outcome_of refusal) ≡ status
 -- the line of a refusal, with its line feed
 abbrev pub line_of : Refusal → List ℕ
 line_of refusal = line_said (outcome_of refusal)
-
-module _ {T : Type 0} (command : Option Options) (told : Option Files) where
-  -- how a command ended may come: with an answer, or with this refusal
-  abbrev pub EndMayCome : Result T Refusal → Type 0
-  EndMayCome result =
-      MatchResult result (λ _. MayCome command told Answered) (λ r. MayCome command told (outcome_of r))
 
 -- the refusal at a fault of the writing
 abbrev pub refused_for : Fault → Refusal

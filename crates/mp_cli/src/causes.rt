@@ -6,12 +6,22 @@ ghost use Rattle.mp_cli.specs.Refused.{refused_at, refused_for};
 use crate::refusal::Refusal;
 use mp_drive::DriveStop;
 use mp_outside::Fault;
+use mp_plans::PlanRefused;
 use std::alloc::AllocError;
 
 impl<'a> From<AllocError> for Refusal<'a> {
     ghost from_gives = { λ _ refusal. refusal ≡ NoMemory };
 
     fn from(_: AllocError) -> Self {
+        Refusal::NoMemory
+    }
+}
+
+// The plans of a demo have 512 records at most, so that they aren't too many.
+impl<'a> From<PlanRefused> for Refusal<'a> {
+    ghost from_gives = { λ _ refusal. refusal ≡ NoMemory };
+
+    fn from(_: PlanRefused) -> Self {
         Refusal::NoMemory
     }
 }

@@ -4,6 +4,9 @@
 #![tactic(auto)]
 
 mod causes;
+mod checking;
+mod demo;
+mod making;
 mod reading;
 mod refusal;
 mod serve;

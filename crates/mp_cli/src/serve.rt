@@ -1,37 +1,45 @@
 //! A command carried out on the files of a depot.
-ghost use Rattle.std.specs.Prelude.{◌≡◌, Some, OnErr, OnOk, IfErr};
+ghost use Rattle.std.specs.Prelude.{◌≡◌, [], Some, OnErr, OnOk, IfErr, IfOk};
 ghost use Rattle.mp_outside.specs.Fault.{Rose};
-ghost use Rattle.mp_words.specs.Limits.{AreWithinLimits};
+ghost use Rattle.mp_words.specs.Limits.{AreWithinLimits, IsWithinLimits};
 ghost use Rattle.mp_words.specs.Values.{options_in};
-ghost use Rattle.mp_words.specs.Words.{command_in};
+ghost use Rattle.mp_words.specs.Words.{Run, asked_in, command_in};
 ghost use Rattle.mp_cli.specs.Ends.{IsCommandAnswered, IsCommandAnsweredInPart, IsRefusal, LacksInput};
-ghost use Rattle.mp_cli.specs.Ends.{OthersStay};
-ghost use Rattle.mp_cli.specs.Outcome.{status_of};
-ghost use Rattle.mp_cli.specs.Refused.{EndMayCome, EndsAs, outcome_of};
+ghost use Rattle.mp_cli.specs.Ends.{OthersStay, WritesFile};
+ghost use Rattle.mp_cli.specs.Outcome.{Answered, MayCome, status_of};
+ghost use Rattle.mp_cli.specs.Refused.{EndsAs, outcome_of};
 ghost use Rattle.mp_cli.specs.Writing.{WritesAnswer, WritesPart};
 
+use crate::checking::check;
+use crate::demo::demo;
+use crate::making::make;
 use crate::reading::{controls_in, events_in};
 use crate::refusal::Refusal;
 use crate::shape::shape_of;
 use crate::writing::write_answer;
 use mp_gate::Gate;
 use mp_outside::Depot;
-use mp_words::{RunOptions, WordsRefused, parse};
+use mp_words::{Command, RunOptions, WordsRefused, parse};
 use std::alloc::Global;
 
-/// Carries out the command that the words ask for. `Refusal`: why no answer is given; which one comes first,
-/// the statuses of the command say.
+/// Carries out the command that the words ask for: the line that it says when all is done. `Refusal`: why it
+/// isn't; which one comes first, the statuses of the command say.
 pub fn serve<'a, D: Depot, G: Gate>(
     alloc: Global,
     words: &'a [String],
     depot: &mut D,
     gate: &G,
-) -> Result<(), Refusal<'a>>
-    ensures outcome { EndMayCome (command_in words.now) (D.files depot.old) result }
+) -> Result<Vec<u8>, Refusal<'a>>
+    ensures line { IfOk result (λ line.
+        MayCome (command_in words.now) (D.files depot.old) (Answered line.items)) }
+    ensures quiet { IfOk result (λ line. WritesFile (command_in words.now) → line.items ≡ []) }
+    ensures refused { IfErr result (λ r.
+        MayCome (command_in words.now) (D.files depot.old) (outcome_of r)) }
     ensures not_found { IfErr result (λ r. EndsAs r 5
         → LacksInput D.found (command_in words.now) depot.new) }
     ensures read_fault { IfErr result (λ r. EndsAs r 6
         → Rose (D.read_faults depot.old) (D.read_faults depot.new)) }
+    ensures writes_file { IfErr result (λ r. EndsAs r 7 → WritesFile (command_in words.now)) }
     ensures write_fault { IfErr result (λ r. EndsAs r 7
         → Rose (D.write_faults depot.old) (D.write_faults depot.new)) }
 
@@ -44,23 +52,64 @@ pub fn serve<'a, D: Depot, G: Gate>(
     ensures others { OthersStay (command_in words.now) (D.files depot.old) (D.files depot.new) }
 {
     match parse(alloc, words) {
-        Ok(options) => answer(alloc, depot, &options, gate),
+        Ok(command) => carry_out(alloc, command, depot, gate),
         Err(WordsRefused::Usage) => Err(Refusal::Usage),
         Err(WordsRefused::NoMemory) => Err(Refusal::NoMemory),
     }
 }
 
-/// Carries out a command: reads its events and its configuration, and writes the answer.
+/// Carries out a command: the line that it says when all is done.
+fn carry_out<'a, D: Depot, G: Gate>(
+    alloc: Global,
+    command: Command<'a>,
+    depot: &mut D,
+    gate: &G,
+) -> Result<Vec<u8>, Refusal<'a>>
+    requires { IsWithinLimits command }
+    ensures line { IfOk result (λ line.
+        MayCome (Some (asked_in command.entry)) (D.files depot.old) (Answered line.items)) }
+    ensures quiet { IfOk result (λ line. WritesFile (Some (asked_in command.entry)) → line.items ≡ []) }
+    ensures refused { IfErr result (λ r.
+        MayCome (Some (asked_in command.entry)) (D.files depot.old) (outcome_of r)) }
+    ensures not_found { IfErr result (λ r. EndsAs r 5
+        → LacksInput D.found (Some (asked_in command.entry)) depot.new) }
+    ensures read_fault { IfErr result (λ r. EndsAs r 6
+        → Rose (D.read_faults depot.old) (D.read_faults depot.new)) }
+    ensures writes_file { IfErr result (λ r. EndsAs r 7 → WritesFile (Some (asked_in command.entry))) }
+    ensures write_fault { IfErr result (λ r. EndsAs r 7
+        → Rose (D.write_faults depot.old) (D.write_faults depot.new)) }
+
+    ensures answered { OnOk result
+        (IsCommandAnswered (Some (asked_in command.entry)) (D.files depot.old) (D.files depot.new)) }
+    ensures untouched { IfErr result (λ r. IsRefusal (status_of (outcome_of r))
+        → D.files depot.new ≡ D.files depot.old) }
+    ensures part { OnErr result
+        (IsCommandAnsweredInPart (Some (asked_in command.entry)) (D.files depot.old) (D.files depot.new)) }
+    ensures others { OthersStay (Some (asked_in command.entry)) (D.files depot.old) (D.files depot.new) }
+{
+    match command {
+        Command::Run(options) => answer(alloc, depot, &options, gate),
+        Command::Check(options) => check(alloc, depot, &options),
+        Command::Make(options) => make(alloc, depot, &options),
+        Command::Demo(options) => demo(alloc, &options, gate),
+    }
+}
+
+/// Carries out a run: reads its events and its configuration, and writes the answer. It says nothing.
 fn answer<'a, D: Depot, G: Gate>(
     alloc: Global,
     depot: &mut D,
     options: &RunOptions<'a>,
     gate: &G,
-) -> Result<(), Refusal<'a>>
+) -> Result<Vec<u8>, Refusal<'a>>
     requires { AreWithinLimits options.now }
-    ensures outcome { EndMayCome (Some (options_in options.now)) (D.files depot.old) result }
+    ensures line { IfOk result (λ line.
+        MayCome (Some (Run (options_in options.now))) (D.files depot.old) (Answered line.items)) }
+    ensures quiet { IfOk result (λ line. line.items ≡ []) }
+    ensures refused { IfErr result (λ r.
+        MayCome (Some (Run (options_in options.now))) (D.files depot.old) (outcome_of r)) }
     ensures not_found { IfErr result (λ r. EndsAs r 5
-        → LacksInput D.found (Some (options_in options.now)) depot.new) }
+        → LacksInput D.found (Some (Run (options_in options.now))) depot.new) }
     ensures read_fault { IfErr result (λ r. EndsAs r 6
         → Rose (D.read_faults depot.old) (D.read_faults depot.new)) }
     ensures write_fault { IfErr result (λ r. EndsAs r 7
@@ -76,5 +125,6 @@ fn answer<'a, D: Depot, G: Gate>(
     let events = events_in(alloc, depot, options.events)?;
     let shape = shape_of(options);
     let controls = controls_in(alloc, depot, options.config, &shape)?;
-    write_answer(alloc, depot, options, events, controls, gate)
+    write_answer(alloc, depot, options, events, controls, gate)?;
+    Ok(Vec::new(alloc))
 }

@@ -1,7 +1,7 @@
 //! The shape of the job that a command asks for.
 ghost use Rattle.std.specs.Prelude.{◌≡◌};
 ghost use Rattle.mp_words.specs.Values.{options_in};
-ghost use Rattle.mp_cli.specs.Config.{shape_of};
+ghost use Rattle.mp_cli.specs.Config.{shape_for, shape_of};
 ghost use Rattle.mp_cli.specs.Queries.{stages_of};
 
 use mp_job::Shape;
@@ -16,10 +16,17 @@ use mp_words::{QueryName, RunOptions};
 pub fn shape_of(options: &RunOptions) -> Shape
     ensures { result ≡ shape_of (options_in options.now) }
 {
+    shape_for(options.query, options.workers, options.bins)
+}
+
+/// The shape of a job of this query with so many workers and bins.
+pub fn shape_for(query: QueryName, workers: u32, bins: u32) -> Shape
+    ensures { result ≡ shape_for query workers bins }
+{
     Shape {
-        workers: options.workers,
-        bins: options.bins,
-        stages: stages_of(options.query),
+        workers,
+        bins,
+        stages: stages_of(query),
     }
 }
 

@@ -1,12 +1,13 @@
 //! The status that a call ends with.
-ghost use Rattle.std.specs.Prelude.{◌≡◌, ◌⊎◌, ℕ, take, codes};
+ghost use Rattle.std.specs.Prelude.{◌≡◌, ◌⊎◌, [], ℕ, take, codes};
+ghost use Rattle.mp_outside.specs.Fault.{Rose};
 ghost use Rattle.mp_outside.specs.Sink.{grown};
 ghost use Rattle.mp_cli.specs.Ends.{SaysLine};
 ghost use Rattle.mp_cli.specs.Outcome.{status_of};
 ghost use Rattle.mp_cli.specs.Refused.{line_of, outcome_of};
 
 use crate::refusal::Refusal;
-use mp_outside::{Fault, Sink};
+use mp_outside::{Fault, Sink, write_piece};
 
 /// How a call ended: the status of the process.
 #[derive(Clone, Copy, Debug, PartialEq, Eq)]
@@ -28,6 +29,26 @@ pub fn refuse<S: Sink>(refusal: &Refusal, said: &mut S) -> Status
         },
         Err(Fault::Failed) => Status {
             code: refusal.status(),
+        },
+        Err(Fault::NoMemory) => Status {
+            code: Refusal::NoMemory.status(),
+        },
+    }
+}
+
+/// Says the line of a command that is done. Its status is 0, but where `said` doesn't take the whole line:
+/// then it is that of a write fault or of an allocation failure.
+pub fn conclude<S: Sink>(line: &[u8], said: &mut S) -> Status
+    ensures code { (result.code ≡ 0) ⊎ ((result.code ≡ 7) ⊎ (result.code ≡ 8)) }
+    ensures nothing { line.now ≡ [] → result.code ≡ 0 }
+    ensures whole { result.code ≡ 0 → S.written said.new ≡ grown (S.written said.old) line.now }
+    ensures failed { result.code ≡ 7 → Rose (S.faults said.old) (S.faults said.new) }
+    ensures said { SaysLine S.written S.faults line.now 0 result.code said.old said.new }
+{
+    match write_piece(said, line) {
+        Ok(()) => Status { code: 0 },
+        Err(Fault::Failed) => Status {
+            code: Refusal::WriteFault.status(),
         },
         Err(Fault::NoMemory) => Status {
             code: Refusal::NoMemory.status(),

@@ -1,27 +1,30 @@
 //! The top call.
-ghost use Rattle.std.specs.Prelude.{◌≡◌, ◌⊎◌, Some, None, IsSome};
+ghost use Rattle.std.specs.Prelude.{◌≡◌, ◌⊎◌, Some, None, IsSome, OnSome, IfSome};
 ghost use Rattle.mp_outside.specs.Fault.{Rose};
 ghost use Rattle.mp_outside.specs.Files.{SameFiles};
-ghost use Rattle.mp_words.specs.Values.{Options};
-ghost use Rattle.mp_words.specs.Words.{command_in};
+ghost use Rattle.mp_outside.specs.Sink.{grown};
+ghost use Rattle.mp_words.specs.Words.{Asked, command_in};
 ghost use Rattle.mp_cli.specs.Ends.{CameTo, ComesWhere, IsCommandAnswered, IsCommandAnsweredInPart};
-ghost use Rattle.mp_cli.specs.Ends.{IsRefusal, LacksInput, OthersStay, SaysLine};
-ghost use Rattle.mp_cli.specs.Outcome.{Answered, Outcome, MayCome, called_for, line_said, status_of};
+ghost use Rattle.mp_cli.specs.Ends.{IsRefusal, LacksInput, OthersStay, SaysAnswer, SaysLine, WritesFile};
+ghost use Rattle.mp_cli.specs.Outcome.{Outcome, MayCome, called_for, line_said, status_of};
 
 use crate::serve::serve;
-use crate::status::{Status, refuse};
+use crate::status::{Status, conclude, refuse};
 use mp_gate::Gate;
 use mp_outside::{Depot, Sink};
 
 /// Does what the words of the command line ask for, on the files of a depot. `words` begins with the
-/// program's name. A refusal says one line on `said`.
+/// program's name. A refusal says one line on `said`; `check` and `demo` say theirs there.
 ///
 /// The command is `run` or `replay` with `--query` (`q1` to `q8`), `--events`, `--config` and `--out`, and
 /// perhaps `--workers` (1, up to 16), `--bins` (16, a power of two up to 256) and `--depth` (64, up to 1024);
-/// `replay` also takes `--seed` (0, up to 2^48). Its statuses are this project's profile: 0 answered; 2 the
+/// `replay` also takes `--seed` (0, up to 2^48). `check` reads what these read; `make` writes events that are
+/// made from `--seed`, so many as `--count` says (up to 250,000), to `--out`; `demo` makes events, runs them in
+/// memory and says a summary of the answer. The statuses are this project's profile: 0 all is done; 2 the
 /// words are no command; 3 the event file has a bad line; 4 the configuration has a bad line; 5 a file isn't
-/// there; 6 a find or a read failed; 7 a begin or an append failed; 8 an allocation failed; 9 a file has more than
-/// 2^28 bytes. The refusals 3 and 4 say the number of the first bad line and the first check that it fails.
+/// there; 6 a find or a read failed; 7 a begin or an append failed, or a write to `said` of what is its
+/// answer; 8 an allocation failed; 9 a file has more than 2^28 bytes. The refusals 3 and 4 say the number of
+/// the first bad line and the first check that it fails.
 ///
 /// The workers take turns on one thread, by the schedule of the seed; `run` has the seed 0. They pass the
 /// gate before each step.
@@ -39,15 +42,21 @@ pub fn run<D: Depot, S: Sink, G: Gate + Sync, R: AllocGlobal>(
         × (status_of outcome ≡ result.code) }
     ensures not_found { result.code ≡ 5 → LacksInput D.found (command_in words.now) depot.new }
     ensures read_fault { result.code ≡ 6 → Rose (D.read_faults depot.old) (D.read_faults depot.new) }
-    ensures write_fault { result.code ≡ 7 → Rose (D.write_faults depot.old) (D.write_faults depot.new) }
-    // Well-formed input is answered, but for a fault of the depot or an allocation failure.
-    ensures complete { (asked : Options) → command_in words.now ≡ Some asked
-        → IsSome (D.files depot.old) → called_for (D.files depot.old) asked ≡ Answered
+    ensures write_fault { WritesFile (command_in words.now) → result.code ≡ 7
+        → Rose (D.write_faults depot.old) (D.write_faults depot.new) }
+    ensures said_fault { SaysAnswer (command_in words.now) → result.code ≡ 7
+        → Rose (S.faults said.old) (S.faults said.new) }
+    // Well-formed input is answered, but for a fault of the depot, or of `said` where it takes the answer, or an
+    // allocation failure.
+    ensures complete { (asked : Asked) → command_in words.now ≡ Some asked
+        → IsSome (D.files depot.old) → status_of (called_for (D.files depot.old) asked) ≡ 0
         → ¬ (Rose (D.read_faults depot.old) (D.read_faults depot.new))
         → ¬ (Rose (D.write_faults depot.old) (D.write_faults depot.new))
+        → ¬ (SaysAnswer (Some asked) × Rose (S.faults said.old) (S.faults said.new))
         → (result.code ≡ 0) ⊎ (result.code ≡ 8) }
 
-    // The answer theorem: what a run that answers 0 wrote is exactly the one-thread answer to the events.
+    // The answer theorem: what a run that answers 0 wrote is exactly the one-thread answer to the events. `check`
+    // has then found both files well-formed, and `make` has written the lines of the events that are made.
     ensures answer { result.code ≡ 0
         → IsCommandAnswered (command_in words.now) (D.files depot.old) (D.files depot.new) }
     ensures untouched { IsRefusal result.code → SameFiles (D.files depot.old) (D.files depot.new) }
@@ -55,8 +64,13 @@ pub fn run<D: Depot, S: Sink, G: Gate + Sync, R: AllocGlobal>(
         → IsCommandAnsweredInPart (command_in words.now) (D.files depot.old) (D.files depot.new) }
     ensures others { OthersStay (command_in words.now) (D.files depot.old) (D.files depot.new) }
 
-    // What is said is the line of what the command came to, with its status. With status 8 it may be a part of
-    // another line, for the rest of which `said` found no memory.
+    // With status 0 what is said is what the command calls for: of `check` how much the files hold, of `demo` the
+    // summary of the one-thread answer, of the others nothing.
+    ensures printed { result.code ≡ 0 → OnSome (D.files depot.old) (IfSome (command_in words.now) (λ asked.
+        S.written said.new
+        ≡ grown (S.written said.old) (line_said (called_for (D.files depot.old) asked)))) }
+    // What is said is the line of what the command came to, with its status, but where `said` doesn't take the whole
+    // line of an answer, or finds no memory for a line.
     ensures said { (outcome : Outcome)
         × CameTo D.files D.found D.read_faults D.write_faults
         (command_in words.now) outcome depot.old depot.new
@@ -64,7 +78,7 @@ pub fn run<D: Depot, S: Sink, G: Gate + Sync, R: AllocGlobal>(
         (line_said outcome) (status_of outcome) result.code said.old said.new }
 {
     match serve(rt.alloc(), words, depot, gate) {
-        Ok(()) => Status { code: 0 },
+        Ok(line) => conclude(line.as_slice(), said),
         Err(refusal) => refuse(&refusal, said),
     }
 }

@@ -1,5 +1,7 @@
 //! What words ask for. Words that are refused stand in examples/cases.toml.
-use mp_words::{QueryName, RunOptions, WordsRefused, parse};
+use mp_words::{
+    CheckOptions, Command, DemoOptions, MakeOptions, QueryName, RunOptions, WordsRefused, parse,
+};
 use std::alloc::{AllocError, Global};
 use std::process::Abort;
 use std::test::Fail;
@@ -35,7 +37,11 @@ fn parses_as<R: AllocGlobal + Abort>(
     want: RunOptions<'_>,
 ) -> Result<(), AllocError> {
     let words = cut(rt.alloc(), line)?;
-    assert_eq!(rt; parse(rt.alloc(), words.as_slice()), Ok(want), "{line}");
+    assert_eq!(rt;
+        parse(rt.alloc(), words.as_slice()),
+        Ok(Command::Run(want)),
+        "{line}"
+    );
     Ok(())
 }
 
@@ -204,6 +210,46 @@ fn replay_takes_a_seed(rt: HostRuntime) -> Result<(), Fail> {
     ];
     for (more, seed) in rows {
         goes_on_as(&rt, REPLAY, more, RunOptions { seed, ..ASKED })?;
+    }
+    Ok(())
+}
+
+#[test]
+fn other_commands_have_their_options(rt: HostRuntime) -> Result<(), Fail> {
+    let rows = [
+        (
+            "m check --query q3 --events e --config c --bins 4",
+            Command::Check(CheckOptions {
+                query: QueryName::Q3,
+                events: "e",
+                config: "c",
+                workers: 1,
+                bins: 4,
+            }),
+        ),
+        (
+            "m make --count 250000 --out o",
+            Command::Make(MakeOptions {
+                count: 250_000,
+                seed: 0,
+                out: "o",
+            }),
+        ),
+        (
+            "m demo --count 0 --query q8 --seed 7 --workers 2",
+            Command::Demo(DemoOptions {
+                query: QueryName::Q8,
+                count: 0,
+                seed: 7,
+                workers: 2,
+                bins: 16,
+                depth: 64,
+            }),
+        ),
+    ];
+    for (line, want) in rows {
+        let words = cut(rt.alloc(), line)?;
+        assert_eq!(rt; parse(rt.alloc(), words.as_slice()), Ok(want), "{line}");
     }
     Ok(())
 }

@@ -8,9 +8,8 @@ use Rattle.clap.specs.declared.parser.matches.ArgMatches.{ArgMatches}
 use Rattle.clap.proofs.OnLiterals.{clap_on_literals}
 use Rattle.mp_words.specs.Command.{command_app}
 use Rattle.mp_words.specs.Refused.{refusal_of}
-use Rattle.mp_words.specs.Values.{Options, options_in, options_of}
-use Rattle.mp_words.specs.Words.{command_of, values_in, values_without}
-use Rattle.mp_words.specs.declared.options.RunOptions.{RunOptions}
+use Rattle.mp_words.specs.Words.{Asked, asked_in, asked_of, command_of, values_in, values_without}
+use Rattle.mp_words.specs.declared.options.Command.{Command}
 use Rattle.mp_words.specs.declared.refused.WordsRefused.{WordsRefused}
 use Rattle.mp_words.specs.declared.refused.WordsRefused.TheVariants.{Usage, NoMemory}
 
@@ -25,7 +24,7 @@ simple_and_free = refl
 
 -- an error that isn't want of memory comes of one of the faults
 faulty : (faults : Kinds) (met : Option (List ℕ × List Row)) (e : Error) → HasKind faults e → refusal_of (kind_of e) ≡ Usage
-    → option_and_then options_of (values_without faults met) ≡ None
+    → option_and_then asked_of (values_without faults met) ≡ None
 faulty [] met e (inl memory) is =
     let no : NoMemory ≡ Usage = sym (ap refusal_of memory) ∙ is in
     cc
@@ -39,29 +38,24 @@ unfolding values_in
 refused app words e same has is =
     faulty (fault_of command_app words) (subcommand_of command_app words) e (subst (λ (a : App). HasKind (fault_of a words) e) same has) is
 
--- the values of what was met
-met_values : (met : Option (List ℕ × List Row)) → option_and_then (λ run. options_of run.1) met ≡ option_and_then options_of (values_without [] met)
-met_values None = refl
-met_values (Some run) = refl
-
 -- where it finds none, they ask for what the values that it found ask for
 pub taken : (app : App) (words : List (List ℕ)) (m : ArgMatches) → app ≡ command_app → fault_of app words ≡ []
-    → HasMatchesOf app words m → option_and_then (λ run. options_of run.1) (subcommand_rows_of m) ≡ command_of words
+    → HasMatchesOf app words m → option_and_then asked_of (subcommand_rows_of m) ≡ command_of words
 unfolding values_in
 taken app words m same none found =
     let rows : subcommand_rows_of m ≡ subcommand_of command_app words = (found (ap is_simple same ∙ simple)).1 ∙ ap (λ (a : App). subcommand_of a words) same in
     let clean : fault_of command_app words ≡ [] = subst (λ (a : App). fault_of a words ≡ []) same none in
-    ap (option_and_then (λ run. options_of run.1)) rows ∙ met_values (subcommand_of command_app words)
-    ∙ ap (λ (faults : Kinds). option_and_then options_of (values_without faults (subcommand_of command_app words))) (sym clean)
+    ap (option_and_then asked_of) rows
+    ∙ ap (λ (faults : Kinds). option_and_then asked_of (values_without faults (subcommand_of command_app words))) (sym clean)
 
 -- an error is that of the words
-pub handed_on : (asked : Option Options) (why : WordsRefused) (r : Result RunOptions WordsRefused) → IsErrAnd r (λ e. e ≡ why) → (why ≡ Usage → asked ≡ None)
-    → MatchResult r (λ options. asked ≡ Some (options_in options)) (λ e. e ≡ Usage → asked ≡ None)
-handed_on asked why (Ok options) is none = absurd is
+pub handed_on : (asked : Option Asked) (why : WordsRefused) (r : Result Command WordsRefused) → IsErrAnd r (λ e. e ≡ why) → (why ≡ Usage → asked ≡ None)
+    → MatchResult r (λ command. asked ≡ Some (asked_in command)) (λ e. e ≡ Usage → asked ≡ None)
+handed_on asked why (Ok command) is none = absurd is
 handed_on asked why (Err e) is none = λ usage. none (sym is ∙ usage)
 
 -- an answer is that of the words
-pub answered : (asked : Option Options) (o : Option RunOptions) → option_map options_in o ≡ asked
-    → MatchResult (ok_or o Usage) (λ options. asked ≡ Some (options_in options)) (λ why. why ≡ Usage → asked ≡ None)
-answered asked (Some options) is = sym is
+pub answered : (asked : Option Asked) (o : Option Command) → option_map asked_in o ≡ asked
+    → MatchResult (ok_or o Usage) (λ command. asked ≡ Some (asked_in command)) (λ why. why ≡ Usage → asked ≡ None)
+answered asked (Some command) is = sym is
 answered asked None is = λ _. sym is

@@ -16,7 +16,7 @@ needed name = record (valued name) { required = true }
 abbrev pub defaulted : List ℕ → List ℕ → Rule
 defaulted name value = record (valued name) { defaults = value ∷ [] }
 
--- the options that both commands have
+-- the options that both commands have which write an answer
 abbrev pub shared_rules : List Rule
 shared_rules =
     needed (codes "query") ∷ needed (codes "events") ∷ needed (codes "config") ∷ needed (codes "out")
@@ -34,10 +34,30 @@ run_shape = shared_shape (codes "run")
 abbrev pub replay_shape : Shape
 replay_shape = record (shared_shape (codes "replay")) { rules = shared_rules ++ valued (codes "seed") ∷ [] }
 
+-- `check` reads what `run` reads
+abbrev pub check_shape : Shape
+check_shape = record (new_shape (codes "check")) {
+  rules = needed (codes "query") ∷ needed (codes "events") ∷ needed (codes "config")
+      ∷ defaulted (codes "workers") (codes "1") ∷ defaulted (codes "bins") (codes "16") ∷ [];
+}
+
+-- `make` makes so many events, and may have a seed
+abbrev pub make_shape : Shape
+make_shape = record (new_shape (codes "make")) { rules = needed (codes "count") ∷ needed (codes "out") ∷ valued (codes "seed") ∷ [] }
+
+-- `demo` makes so many events and runs them
+abbrev pub demo_shape : Shape
+demo_shape = record (new_shape (codes "demo")) {
+  rules = needed (codes "query") ∷ needed (codes "count") ∷ valued (codes "seed")
+      ∷ defaulted (codes "workers") (codes "1") ∷ defaulted (codes "bins") (codes "16") ∷ defaulted (codes "depth") (codes "64") ∷ [];
+}
+
 -- no option of the program itself, none for help or the version, no command `help`, and a subcommand has to be there
 abbrev pub bare : Shape → Shape
 bare s = record s { disable_help_flag = true; disable_version_flag = true; disable_help_subcommand = true; subcommand_required = true }
 
--- the program, whose subcommands are `run` and `replay`
+-- the program with its subcommands
 unfoldable pub command_app : App
-command_app = with_subcommand (with_subcommand (on_top bare (new_app (codes "megaphone"))) run_shape) replay_shape
+command_app =
+    let runs = with_subcommand (with_subcommand (on_top bare (new_app (codes "megaphone"))) run_shape) replay_shape in
+    with_subcommand (with_subcommand (with_subcommand runs check_shape) make_shape) demo_shape

@@ -1,6 +1,11 @@
 -- What holds of whatever a command asks for.
 use Rattle.std.specs.Prelude.{◌≡◌, ◌≢◌, ◌≤◌, ◌^◌, ℕ}
-use Rattle.mp_names.specs.Limits.{deepest_mailbox, greatest_seed, most_workers}
+use Rattle.mp_names.specs.Limits.{deepest_mailbox, greatest_seed, most_events, most_workers}
+use Rattle.mp_words.specs.declared.options.CheckOptions.{CheckOptions}
+use Rattle.mp_words.specs.declared.options.Command.{Command}
+use Rattle.mp_words.specs.declared.options.Command.TheVariants.{Run, Check, Make, Demo}
+use Rattle.mp_words.specs.declared.options.DemoOptions.{DemoOptions}
+use Rattle.mp_words.specs.declared.options.MakeOptions.{MakeOptions}
 use Rattle.mp_words.specs.declared.options.RunOptions.{RunOptions}
 
 -- a number is at least 1 and at most `most`
@@ -19,3 +24,28 @@ pub record AreWithinLimits (options : RunOptions) : Type 0 where
   pub seed : options.seed ≤ greatest_seed
   pub events : options.out.now ≢ options.events.now
   pub config : options.out.now ≢ options.config.now
+
+-- the numbers of `check` are within their limits
+pub record CheckIsWithinLimits (options : CheckOptions) : Type 0 where
+  pub workers : IsPositiveUpTo most_workers options.workers
+  pub bins : IsBinCount options.bins
+
+-- the numbers of `make` are within their limits
+pub record MakeIsWithinLimits (options : MakeOptions) : Type 0 where
+  pub count : options.count ≤ most_events
+  pub seed : options.seed ≤ greatest_seed
+
+-- the numbers of `demo` are within their limits
+pub record DemoIsWithinLimits (options : DemoOptions) : Type 0 where
+  pub count : options.count ≤ most_events
+  pub seed : options.seed ≤ greatest_seed
+  pub workers : IsPositiveUpTo most_workers options.workers
+  pub bins : IsBinCount options.bins
+  pub depth : IsPositiveUpTo deepest_mailbox options.depth
+
+-- what a command asks for is within its limits
+abbrev pub IsWithinLimits : Command → Type 0
+IsWithinLimits (Run options) = AreWithinLimits options
+IsWithinLimits (Check options) = CheckIsWithinLimits options
+IsWithinLimits (Make options) = MakeIsWithinLimits options
+IsWithinLimits (Demo options) = DemoIsWithinLimits options

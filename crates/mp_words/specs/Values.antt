@@ -5,12 +5,15 @@ use Rattle.std.specs.Result.{result_ok}
 use Rattle.std.specs.Str.{bytes_eq}
 use Rattle.mp_text.specs.Numbers.{number_of}
 use Rattle.clap.specs.Words.{Row, first_of}
-use Rattle.mp_names.specs.Limits.{deepest_mailbox, greatest_seed, most_bins, most_workers}
+use Rattle.mp_names.specs.Limits.{deepest_mailbox, greatest_seed, most_bins, most_events, most_workers}
+use Rattle.mp_words.specs.declared.options.CheckOptions.{CheckOptions}
+use Rattle.mp_words.specs.declared.options.DemoOptions.{DemoOptions}
+use Rattle.mp_words.specs.declared.options.MakeOptions.{MakeOptions}
 use Rattle.mp_words.specs.declared.options.QueryName.{QueryName}
 use Rattle.mp_words.specs.declared.options.QueryName.TheVariants.{Q1, Q2, Q3, Q4, Q5, Q6, Q7, Q8}
 use Rattle.mp_words.specs.declared.options.RunOptions.{RunOptions}
 
--- what a command asks for
+-- what `run` and `replay` ask for
 pub record Options : Type 0 where
   pub query : QueryName
   pub events : List ℕ
@@ -20,6 +23,20 @@ pub record Options : Type 0 where
   pub bins : ℕ
   pub depth : ℕ
   pub seed : ℕ
+
+-- what `check` asks for
+pub record CheckAsked : Type 0 where
+  pub query : QueryName
+  pub events : List ℕ
+  pub config : List ℕ
+  pub workers : ℕ
+  pub bins : ℕ
+
+-- what `make` asks for
+pub record MakeAsked : Type 0 where
+  pub count : ℕ
+  pub seed : ℕ
+  pub out : List ℕ
 
 -- what the options that were read ask for
 abbrev pub options_in : RunOptions → Options
@@ -33,6 +50,14 @@ options_in o = record {
   depth = o.depth;
   seed = o.seed;
 }
+
+-- what those of `check` ask for
+abbrev pub check_in : CheckOptions → CheckAsked
+check_in o = record { query = o.query; events = o.events.now; config = o.config.now; workers = o.workers; bins = o.bins }
+
+-- what those of `make` ask for
+abbrev pub make_in : MakeOptions → MakeAsked
+make_in o = record { count = o.count; seed = o.seed; out = o.out.now }
 
 -- the query of a name
 abbrev pub query_of : List ℕ → Option QueryName
@@ -67,6 +92,10 @@ only_power n = if is_power_of_two n then Some n else None
 abbrev pub power_up_to : ℕ → List ℕ → Option ℕ
 power_up_to most text = option_and_then only_power (positive_up_to most text)
 
+-- the count of events that a text says
+abbrev pub count_of : List ℕ → Option ℕ
+count_of text = number_up_to most_events text
+
 -- the seed that a text says, and 0 where there is no text, as `run` has none
 abbrev pub seed_of : Option (List ℕ) → Option ℕ
 seed_of (Some text) = number_up_to greatest_seed text
@@ -79,7 +108,7 @@ together (Some query) (Some events) (Some config) (Some out) (Some workers) (Som
     else Some (record { query = query; events = events; config = config; out = out; workers = workers; bins = bins; depth = depth; seed = seed })
 together _ _ _ _ _ _ _ _ = None
 
--- what the values that clap found for the options of a command ask for, if each is allowed
+-- what the values that clap found for the options of `run` or `replay` ask for, if each is allowed
 abbrev pub options_of : List Row → Option Options
 options_of rows = together
     (option_and_then query_of (first_of (codes "query") rows))
@@ -90,3 +119,46 @@ options_of rows = together
     (option_and_then (power_up_to most_bins) (first_of (codes "bins") rows))
     (option_and_then (positive_up_to deepest_mailbox) (first_of (codes "depth") rows))
     (seed_of (first_of (codes "seed") rows))
+
+-- all that `check` asks for
+abbrev pub together_to_check : Option QueryName → Option (List ℕ) → Option (List ℕ) → Option ℕ → Option ℕ → Option CheckAsked
+together_to_check (Some query) (Some events) (Some config) (Some workers) (Some bins) =
+    Some (record { query = query; events = events; config = config; workers = workers; bins = bins })
+together_to_check _ _ _ _ _ = None
+
+-- what the values for the options of `check` ask for, if each is allowed
+abbrev pub check_of : List Row → Option CheckAsked
+check_of rows = together_to_check
+    (option_and_then query_of (first_of (codes "query") rows))
+    (first_of (codes "events") rows)
+    (first_of (codes "config") rows)
+    (option_and_then (positive_up_to most_workers) (first_of (codes "workers") rows))
+    (option_and_then (power_up_to most_bins) (first_of (codes "bins") rows))
+
+-- all that `make` asks for
+abbrev pub together_to_make : Option ℕ → Option ℕ → Option (List ℕ) → Option MakeAsked
+together_to_make (Some count) (Some seed) (Some out) = Some (record { count = count; seed = seed; out = out })
+together_to_make _ _ _ = None
+
+-- what the values for the options of `make` ask for, if each is allowed
+abbrev pub make_of : List Row → Option MakeAsked
+make_of rows = together_to_make
+    (option_and_then count_of (first_of (codes "count") rows))
+    (seed_of (first_of (codes "seed") rows))
+    (first_of (codes "out") rows)
+
+-- all that `demo` asks for
+abbrev pub together_to_show : Option QueryName → Option ℕ → Option ℕ → Option ℕ → Option ℕ → Option ℕ → Option DemoOptions
+together_to_show (Some query) (Some count) (Some seed) (Some workers) (Some bins) (Some depth) =
+    Some (record { query = query; count = count; seed = seed; workers = workers; bins = bins; depth = depth })
+together_to_show _ _ _ _ _ _ = None
+
+-- what the values for the options of `demo` ask for, if each is allowed
+abbrev pub demo_of : List Row → Option DemoOptions
+demo_of rows = together_to_show
+    (option_and_then query_of (first_of (codes "query") rows))
+    (option_and_then count_of (first_of (codes "count") rows))
+    (seed_of (first_of (codes "seed") rows))
+    (option_and_then (positive_up_to most_workers) (first_of (codes "workers") rows))
+    (option_and_then (power_up_to most_bins) (first_of (codes "bins") rows))
+    (option_and_then (positive_up_to deepest_mailbox) (first_of (codes "depth") rows))

@@ -2,9 +2,9 @@
 //!
 //! The words of megaphone's command line: what they ask for, or that they are no command.
 //!
-//! clap reads the words, with each value as text: the name of the program, `run` or `replay`, and the
-//! options `--query`, `--events`, `--config`, `--out`, `--workers`, `--bins` and `--depth`, and for `replay`
-//! `--seed`, each at most once. The query, the numbers, their ranges and the names are checked after it.
+//! clap reads the words, with each value as text: the name of the program, `run`, `replay`, `check`, `make` or
+//! `demo`, and the options of that command, each at most once. The query, the numbers, their ranges and the
+//! names are checked after it.
 #![tactic(auto)]
 
 mod command;
@@ -13,6 +13,6 @@ mod refused;
 mod values;
 mod words;
 
-pub use options::{QueryName, RunOptions};
+pub use options::{CheckOptions, Command, DemoOptions, MakeOptions, QueryName, RunOptions};
 pub use refused::WordsRefused;
 pub use words::parse;

@@ -1,4 +1,4 @@
-//! What a command asks for.
+//! What commands ask for.
 
 /// A query that can be run, by its name in NEXMark.
 #[derive(Clone, Copy, PartialEq, Eq, Debug)]
@@ -21,7 +21,20 @@ pub enum QueryName {
     Q8,
 }
 
-/// What a command is to do. The names are as the words say them, the empty name among them.
+/// What the words ask for.
+#[derive(Clone, Copy, PartialEq, Eq, Debug)]
+pub enum Command<'a> {
+    /// `run` or `replay`: to run a dataflow and write its answer.
+    Run(RunOptions<'a>),
+    /// `check`: to read an event file and a configuration.
+    Check(CheckOptions<'a>),
+    /// `make`: to write events that are made from a seed.
+    Make(MakeOptions<'a>),
+    /// `demo`: to run a dataflow on events that are made from a seed, and sum up its answer.
+    Demo(DemoOptions),
+}
+
+/// What `run` and `replay` are to do. Names are as the words say them, the empty name among them.
 #[derive(Clone, Copy, PartialEq, Eq, Debug)]
 pub struct RunOptions<'a> {
     /// The query of the dataflow.
@@ -40,4 +53,47 @@ pub struct RunOptions<'a> {
     pub depth: u32,
     /// The seed of the schedule, from 0 to [`MAX_SEED`](mp_names::limits::MAX_SEED): what `replay` says, and 0 for `run`.
     pub seed: u64,
+}
+
+/// What `check` is to read.
+#[derive(Clone, Copy, PartialEq, Eq, Debug)]
+pub struct CheckOptions<'a> {
+    /// The query that the configuration is read for.
+    pub query: QueryName,
+    /// The name of the event file.
+    pub events: &'a str,
+    /// The name of the configuration.
+    pub config: &'a str,
+    /// For how many workers it is read, from 1 to [`MAX_WORKERS`](mp_names::limits::MAX_WORKERS).
+    pub workers: u32,
+    /// For how many bins it is read: a power of two from 1 to [`MAX_BINS`](mp_names::limits::MAX_BINS).
+    pub bins: u32,
+}
+
+/// What `make` is to write.
+#[derive(Clone, Copy, PartialEq, Eq, Debug)]
+pub struct MakeOptions<'a> {
+    /// How many events, from 0 to [`MAX_EVENTS`](mp_names::limits::MAX_EVENTS).
+    pub count: u32,
+    /// The seed that they are made from, from 0 to [`MAX_SEED`](mp_names::limits::MAX_SEED).
+    pub seed: u64,
+    /// The name that they are written to.
+    pub out: &'a str,
+}
+
+/// What `demo` is to run.
+#[derive(Clone, Copy, PartialEq, Eq, Debug)]
+pub struct DemoOptions {
+    /// The query of the dataflow.
+    pub query: QueryName,
+    /// How many events, from 0 to [`MAX_EVENTS`](mp_names::limits::MAX_EVENTS).
+    pub count: u32,
+    /// The seed that they are made from, from 0 to [`MAX_SEED`](mp_names::limits::MAX_SEED).
+    pub seed: u64,
+    /// How many workers run the dataflow, from 1 to [`MAX_WORKERS`](mp_names::limits::MAX_WORKERS).
+    pub workers: u32,
+    /// How many bins a keyed state is cut into: a power of two from 1 to [`MAX_BINS`](mp_names::limits::MAX_BINS).
+    pub bins: u32,
+    /// How many messages a mailbox holds at most, from 1 to [`MAX_DEPTH`](mp_names::limits::MAX_DEPTH).
+    pub depth: u32,
 }

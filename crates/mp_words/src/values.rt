@@ -1,16 +1,18 @@
 //! The values of the options, checked one by one.
 ghost use Rattle.std.specs.Prelude.{◌≡◌, ◌≤◌, IfSome, option_map, option_and_then};
 ghost use Rattle.clap.specs.Words.{first_of, found_of, rows_of};
-ghost use Rattle.mp_words.specs.Limits.{IsPositiveUpTo, IsBinCount, AreWithinLimits};
-ghost use Rattle.mp_names.specs.Limits.{greatest_seed, most_bins};
-ghost use Rattle.mp_words.specs.Values.{query_of, number_up_to, positive_up_to, power_up_to, seed_of, options_in, options_of};
+ghost use Rattle.mp_words.specs.Limits.{AreWithinLimits, CheckIsWithinLimits, DemoIsWithinLimits};
+ghost use Rattle.mp_words.specs.Limits.{IsBinCount, IsPositiveUpTo, MakeIsWithinLimits};
+ghost use Rattle.mp_names.specs.Limits.{greatest_seed, most_bins, most_events};
+ghost use Rattle.mp_words.specs.Values.{check_in, check_of, count_of, demo_of, make_in, make_of, number_up_to, options_in};
+ghost use Rattle.mp_words.specs.Values.{options_of, positive_up_to, power_up_to, query_of, seed_of};
 
-use crate::options::{QueryName, RunOptions};
+use crate::options::{CheckOptions, DemoOptions, MakeOptions, QueryName, RunOptions};
 use clap::ArgMatches;
-use mp_names::limits::{MAX_BINS, MAX_DEPTH, MAX_SEED, MAX_WORKERS};
+use mp_names::limits::{MAX_BINS, MAX_DEPTH, MAX_EVENTS, MAX_SEED, MAX_WORKERS};
 use mp_text::number;
 
-/// What the options of a command ask for, or `None` where a value isn't allowed.
+/// What the options of `run` or `replay` ask for, or `None` where a value isn't allowed.
 pub fn run_options<'a>(matches: &ArgMatches<'a>) -> Option<RunOptions<'a>>
     ensures asked { option_map options_in result ≡ options_of (rows_of (found_of matches.now)) }
     ensures within { IfSome result AreWithinLimits }
@@ -30,6 +32,47 @@ pub fn run_options<'a>(matches: &ArgMatches<'a>) -> Option<RunOptions<'a>>
     } else {
         Some(options)
     }
+}
+
+/// What the options of `check` ask for, or `None` where a value isn't allowed.
+pub fn check_options<'a>(matches: &ArgMatches<'a>) -> Option<CheckOptions<'a>>
+    ensures asked { option_map check_in result ≡ check_of (rows_of (found_of matches.now)) }
+    ensures within { IfSome result CheckIsWithinLimits }
+{
+    Some(CheckOptions {
+        query: query_named(text(matches, "query")?)?,
+        events: text(matches, "events")?,
+        config: text(matches, "config")?,
+        workers: positive_number(text(matches, "workers")?, MAX_WORKERS)?,
+        bins: bins_named(text(matches, "bins")?)?,
+    })
+}
+
+/// What the options of `make` ask for, or `None` where a value isn't allowed.
+pub fn make_options<'a>(matches: &ArgMatches<'a>) -> Option<MakeOptions<'a>>
+    ensures asked { option_map make_in result ≡ make_of (rows_of (found_of matches.now)) }
+    ensures within { IfSome result MakeIsWithinLimits }
+{
+    Some(MakeOptions {
+        count: count_named(text(matches, "count")?)?,
+        seed: seed_named(text(matches, "seed"))?,
+        out: text(matches, "out")?,
+    })
+}
+
+/// What the options of `demo` ask for, or `None` where a value isn't allowed.
+pub fn demo_options(matches: &ArgMatches) -> Option<DemoOptions>
+    ensures asked { result ≡ demo_of (rows_of (found_of matches.now)) }
+    ensures within { IfSome result DemoIsWithinLimits }
+{
+    Some(DemoOptions {
+        query: query_named(text(matches, "query")?)?,
+        count: count_named(text(matches, "count")?)?,
+        seed: seed_named(text(matches, "seed"))?,
+        workers: positive_number(text(matches, "workers")?, MAX_WORKERS)?,
+        bins: bins_named(text(matches, "bins")?)?,
+        depth: positive_number(text(matches, "depth")?, MAX_DEPTH)?,
+    })
 }
 
 /// The value of an option, as text, or `None` where it has none.
@@ -86,6 +129,17 @@ fn bins_named(text: &str) -> Option<u32>
         Some(bins)
     } else {
         None
+    }
+}
+
+/// The count of events that a text says.
+fn count_named(text: &str) -> Option<u32>
+    ensures value { result ≡ count_of text.now }
+    ensures within { IfSome result (λ count. count ≤ most_events) }
+{
+    match number_within(text, MAX_EVENTS as u64) {
+        Some(count) => Some(count as u32),
+        None => None,
     }
 }
 

@@ -12,5 +12,5 @@ returns-in-Ok-clause-said g c =
     record {
       count = length line;
       grew = c.in-Ok.ensures.whole ∙ ap (λ (xs : List ℕ). grown (g.S.Sink.written c.args.said.now) xs) (sym (take-length line));
-      ends = inl (c.status.ensures, inl (omega arith));
+      ends = inl (c.status.ensures, omega arith);
     }

@@ -13,7 +13,7 @@ returns-in_err-matches-clause-asked c =
 
 pub returns-clause-asked : goal.returns-clause-asked
 returns-clause-asked c =
-    let asked = c.options_found.ensures.asked
+    let asked = c.command_found.ensures.asked
     ∙ taken _ (map string_bytes c.args.words.now) c.in_ok-matches.matches c.in_ok-command.ensures
     (c.in_ok-matches.ensures.kinds (ap is_simple_and_free c.in_ok-command.ensures ∙ simple_and_free)) c.in_ok-matches.ensures.matches in
-    rw c.ok_or.ensures.value (answered _ c.options_found.result asked)
+    rw c.ok_or.ensures.value (answered _ c.command_found.result asked)
