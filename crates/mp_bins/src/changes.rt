@@ -1,6 +1,6 @@
 //! The moves of what was noted, kept at each note: one note changes at most two of them.
 ghost use Rattle.std.specs.Prelude.{◌≡◌, ◌<◌, ◌≤◌, ◌+◌, IfSome, IfNone, Contains, length};
-ghost use Rattle.std.specs.Vec.{vec_capacity};
+ghost use Rattle.std.specs.VecDeque.{deque_capacity};
 ghost use Rattle.mp_bins.specs.Notes.{AreInOrder, controls_in, note_at, with_note};
 ghost use Rattle.mp_bins.specs.Changes.{AreChangesOf, IsMoveThere, IsMoveThen, IsNextTime};
 
@@ -8,21 +8,22 @@ use crate::finding::{StageBin, owner_below, place_for};
 use crate::owners::{Note, first_owner};
 use crate::ranked::{insert_reserved, replace};
 use mp_names::{Control, Move, Shape, Time};
+use std::collections::VecDeque;
 
 /// Puts a note in its place, and brings the moves in line with it. There is room for one more note and two
 /// more moves.
-pub fn put_down(notes: &mut Vec<Note>, changes: &mut Vec<Move>, shape: Shape, note: Note)
+pub fn put_down(notes: &mut VecDeque<Note>, changes: &mut VecDeque<Move>, shape: Shape, note: Note)
     requires workers { 0 < shape.workers }
     requires order { AreInOrder notes.old.items }
     requires changes { AreChangesOf shape notes.old.items changes.old.items }
-    requires room { length notes.old.items < vec_capacity notes.old }
-    requires room_for_changes { length changes.old.items + 1 < vec_capacity changes.old }
+    requires room { length notes.old.items < deque_capacity notes.old }
+    requires room_for_changes { length changes.old.items + 1 < deque_capacity changes.old }
     ensures notes { notes.new.items ≡ with_note notes.old.items note }
     ensures changes { AreChangesOf shape notes.new.items changes.new.items }
     ensures count { length notes.new.items ≡ length notes.old.items + 1 }
     ensures count_of_changes { length changes.new.items ≤ length changes.old.items + 2 }
-    ensures capacity { vec_capacity notes.old ≤ vec_capacity notes.new }
-    ensures capacity_for_changes { vec_capacity changes.old ≤ vec_capacity changes.new }
+    ensures capacity { deque_capacity notes.old ≤ deque_capacity notes.new }
+    ensures capacity_for_changes { deque_capacity changes.old ≤ deque_capacity changes.new }
 {
     let Control {
         time,
@@ -44,8 +45,8 @@ pub fn put_down(notes: &mut Vec<Note>, changes: &mut Vec<Move>, shape: Shape, no
 }
 
 // The time of the note at `at`, if it is one of the same bin and of another time.
-fn next_time(notes: &[Note], at: usize, control: Control) -> Option<Time>
-    ensures { IsNextTime notes.now at control result }
+fn next_time(notes: &VecDeque<Note>, at: usize, control: Control) -> Option<Time>
+    ensures { IsNextTime notes.now.items at control result }
 {
     if at < notes.len() {
         let next = notes[at].control;
@@ -57,10 +58,10 @@ fn next_time(notes: &[Note], at: usize, control: Control) -> Option<Time>
 }
 
 // The move at a time, if the owner changes there.
-fn move_at(notes: &[Note], of: StageBin, time: Time) -> Option<Move>
-    requires { AreInOrder notes.now }
-    ensures some { IfSome result (IsMoveThere (controls_in notes.now) of time) }
-    ensures none { IfNone result ((move : Move) → IsMoveThere (controls_in notes.now) of time move → ⊥) }
+fn move_at(notes: &VecDeque<Note>, of: StageBin, time: Time) -> Option<Move>
+    requires { AreInOrder notes.now.items }
+    ensures some { IfSome result (IsMoveThere (controls_in notes.now.items) of time) }
+    ensures none { IfNone result ((move : Move) → IsMoveThere (controls_in notes.now.items) of time move → ⊥) }
 {
     let from = owner_below(notes, of, u128::from(time));
     let to = owner_below(notes, of, u128::from(time) + 1);
@@ -77,10 +78,10 @@ fn move_at(notes: &[Note], of: StageBin, time: Time) -> Option<Move>
 }
 
 // The same at a time that there may be.
-fn move_then(notes: &[Note], of: StageBin, time: Option<Time>) -> Option<Move>
-    requires { AreInOrder notes.now }
-    ensures some { IfSome result (IsMoveThen (controls_in notes.now) of time) }
-    ensures none { IfNone result ((move : Move) → IsMoveThen (controls_in notes.now) of time move → ⊥) }
+fn move_then(notes: &VecDeque<Note>, of: StageBin, time: Option<Time>) -> Option<Move>
+    requires { AreInOrder notes.now.items }
+    ensures some { IfSome result (IsMoveThen (controls_in notes.now.items) of time) }
+    ensures none { IfNone result ((move : Move) → IsMoveThen (controls_in notes.now.items) of time move → ⊥) }
 {
     match time {
         Some(time) => move_at(notes, of, time),

@@ -8,6 +8,7 @@ ghost use Rattle.mp_bins.specs.Notes.{AreInOrder, IsSplitAt, controls_in, rank_o
 
 use crate::owners::Note;
 use mp_names::Control;
+use std::collections::VecDeque;
 
 /// A bin of a stage, and the worker that owns it before any record of it.
 #[derive(Clone, Copy, Debug, Drop)]
@@ -21,13 +22,13 @@ pub struct StageBin {
 }
 
 /// How many notes stand before the first one of a greater rank.
-pub fn place_for(notes: &[Note], note: Note) -> usize
-    requires { AreInOrder notes.now }
-    ensures inside { result ≤ length notes.now }
-    ensures place { insert notes.now result note ≡ with_note notes.now note }
+pub fn place_for(notes: &VecDeque<Note>, note: Note) -> usize
+    requires { AreInOrder notes.now.items }
+    ensures inside { result ≤ length notes.now.items }
+    ensures place { insert notes.now.items result note ≡ with_note notes.now.items note }
     ensures split { IsPartitionPoint
         (λ n. is_before (rank_of_note note) (rank_of_note n) ≡ false)
-        (λ n. is_before (rank_of_note note) (rank_of_note n) ≡ true) notes.now result }
+        (λ n. is_before (rank_of_note note) (rank_of_note n) ≡ true) notes.now.items result }
 {
     notes.partition_point(
         |other: &Note| -> bool
@@ -47,10 +48,10 @@ fn comes_before(a: Note, b: Note) -> bool
 }
 
 /// How many notes come before a limit, by stage, bin and time.
-pub fn count_below(notes: &[Note], of: StageBin, limit: u128) -> usize
-    requires { AreInOrder notes.now }
-    ensures inside { result ≤ length notes.now }
-    ensures split { IsSplitAt notes.now of.stage of.bin limit result }
+pub fn count_below(notes: &VecDeque<Note>, of: StageBin, limit: u128) -> usize
+    requires { AreInOrder notes.now.items }
+    ensures inside { result ≤ length notes.now.items }
+    ensures split { IsSplitAt notes.now.items of.stage of.bin limit result }
 {
     notes.partition_point(
         |note: &Note| -> bool
@@ -75,10 +76,10 @@ pub fn is_of(control: Control, of: StageBin) -> bool
 }
 
 /// The owner by the first `count` notes, those that come before a limit.
-pub fn owner_by(notes: &[Note], count: usize, of: StageBin) -> u32
-    requires order { AreInOrder notes.now }
-    requires inside { count ≤ length notes.now }
-    ensures { (limit : _) → IsSplitAt notes.now of.stage of.bin limit count → result ≡ owner_below (controls_in notes.now) of.first of.stage of.bin limit }
+pub fn owner_by(notes: &VecDeque<Note>, count: usize, of: StageBin) -> u32
+    requires order { AreInOrder notes.now.items }
+    requires inside { count ≤ length notes.now.items }
+    ensures { (limit : _) → IsSplitAt notes.now.items of.stage of.bin limit count → result ≡ owner_below (controls_in notes.now.items) of.first of.stage of.bin limit }
 {
     if count > 0 && is_of(notes[count - 1].control, of) {
         return notes[count - 1].control.worker;
@@ -87,9 +88,9 @@ pub fn owner_by(notes: &[Note], count: usize, of: StageBin) -> u32
 }
 
 /// The owner by the notes of times below a limit.
-pub fn owner_below(notes: &[Note], of: StageBin, limit: u128) -> u32
-    requires { AreInOrder notes.now }
-    ensures { result ≡ owner_below (controls_in notes.now) of.first of.stage of.bin limit }
+pub fn owner_below(notes: &VecDeque<Note>, of: StageBin, limit: u128) -> u32
+    requires { AreInOrder notes.now.items }
+    ensures { result ≡ owner_below (controls_in notes.now.items) of.first of.stage of.bin limit }
 {
     owner_by(notes, count_below(notes, of, limit), of)
 }

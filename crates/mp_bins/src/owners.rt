@@ -8,6 +8,7 @@ use crate::finding::{StageBin, owner_below};
 use crate::ranked::first_from;
 use mp_names::{Control, Move, Shape, Time, TimedBin};
 use std::alloc::{AllocError, Global};
+use std::collections::VecDeque;
 use std::marker::Model;
 
 /// A control record and its place in the list of all control records.
@@ -25,16 +26,16 @@ pub struct Note {
 pub struct Owners {
     shape: Shape,
     // In the order of their ranks: by stage, bin, time and index.
-    notes: Vec<Note>,
+    notes: VecDeque<Note>,
     // The moves among them, by stage, owner before, time and bin.
-    changes: Vec<Move>,
+    changes: VecDeque<Move>,
     // So many more notes there is room for, and twice as many moves.
     room: u64,
 }
 
 impl Model for Owners {
     ghost use Rattle.std.specs.Prelude.{length, ◌+◌, ◌≤◌};
-    ghost use Rattle.std.specs.Vec.{vec_capacity};
+    ghost use Rattle.std.specs.VecDeque.{deque_capacity};
     ghost use Rattle.mp_bins.specs.Notes.{Notes, AreInOrder, AreWithin, IsShape};
     ghost use Rattle.mp_bins.specs.Changes.{AreChangesOf};
 
@@ -47,8 +48,8 @@ impl Model for Owners {
         × AreWithin o.shape o.notes.items
         × AreInOrder o.notes.items
         × AreChangesOf o.shape o.notes.items o.changes.items
-        × (length o.notes.items + o.room ≤ vec_capacity o.notes)
-        × (length o.changes.items + o.room + o.room ≤ vec_capacity o.changes) };
+        × (length o.notes.items + o.room ≤ deque_capacity o.notes)
+        × (length o.changes.items + o.room + o.room ≤ deque_capacity o.changes) };
 }
 
 impl Owners {
@@ -61,8 +62,8 @@ impl Owners {
     {
         Ok(Owners {
             shape,
-            notes: Vec::new(alloc),
-            changes: Vec::new(alloc),
+            notes: VecDeque::new(alloc),
+            changes: VecDeque::new(alloc),
             room: 0,
         })
     }
@@ -140,7 +141,9 @@ impl Owners {
     pub fn moves(&self) -> Result<Vec<Move>, AllocError>
         ensures { IfOk result (λ moves. moves.items ≡ moves_of self.now) }
     {
-        let mut moves = Vec::from_slice(*self.notes.allocator(), &self.changes)?;
+        let (front, back) = self.changes.as_slices();
+        let mut moves = Vec::from_slice(*self.changes.allocator(), front)?;
+        moves.extend_from_slice(back)?;
         moves.sort_unstable();
         Ok(moves)
     }

@@ -7,4 +7,4 @@ use Rattle.mp_bins.proofs.changes.move_then.Goals as goal
 
 pub returns-in-Some-clause-none : goal.returns-in-Some-clause-none
 returns-in-Some-clause-none c =
-    subst (λ (t : Option ℕ). IfNone c.move_at.result ((move : Move) → IsMoveThen (controls_in c.args.notes.now) c.args.of t move → ⊥)) (sym c.in-Some.is) c.move_at.ensures.none
+    subst (λ (t : Option ℕ). IfNone c.move_at.result ((move : Move) → IsMoveThen (controls_in c.args.notes.now.items) c.args.of t move → ⊥)) (sym c.in-Some.is) c.move_at.ensures.none

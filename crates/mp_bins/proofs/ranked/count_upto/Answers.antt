@@ -8,7 +8,7 @@ use Rattle.mp_bins.proofs.ranked.count_upto.Goals as goal
 
 pub returns-clause-split : goal.returns-clause-split
 returns-clause-split c =
-    let changes = c.args.changes.now in
+    let changes = c.args.changes.now.items in
     let key = key_of c.args.stage c.args.worker c.args.after in
     let point = c.partition_point.ensures.partitioned (λ m. not (is_before key (rank_of_move m))) (always_returns_same _ _ _ (λ a r f k. search (rules, of_calls))) (upto_first changes key c.requires) in
     (λ k d z l. not-true (is_before key (rank_of_move (get_or changes k d))) (point.0 k d z l), λ k d l m. not-false (is_before key (rank_of_move (get_or changes k d))) (point.1 k d l m))

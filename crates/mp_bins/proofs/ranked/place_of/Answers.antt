@@ -8,4 +8,4 @@ use Rattle.mp_bins.proofs.ranked.place_of.Goals as goal
 pub returns-clause-split : goal.returns-clause-split
 returns-clause-split c =
     let limit = rank_of_move c.args.change in
-    c.partition_point.ensures.partitioned (λ m. is_before (rank_of_move m) limit) (always_returns_same _ _ _ (λ a r f k. search (rules, of_calls))) (before_first c.args.changes.now limit c.requires)
+    c.partition_point.ensures.partitioned (λ m. is_before (rank_of_move m) limit) (always_returns_same _ _ _ (λ a r f k. search (rules, of_calls))) (before_first c.args.changes.now.items limit c.requires)
