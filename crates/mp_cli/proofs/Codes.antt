@@ -1,5 +1,5 @@
 -- What the status of an end tells.
-use Rattle.std.proofs.Common.{ℕ, ◌≡◌, ◌<◌, ◌⊎◌, inl, inr, Bool, true, false, Option, Some, None, IsSome, Result, Ok, Err, List, [], length, cond, refl, sym, ap, subst, ◌∙◌, arith}
+use Rattle.std.proofs.Common.{ℕ, ◌≡◌, ◌⊎◌, inl, inr, Bool, true, false, Option, Some, None, IsSome, Result, Ok, Err, List, [], length, cond, refl, sym, ap, subst, ◌∙◌, arith}
 use Rattle.std.specs.Prelude.{nat_le, IfSome, OnSome}
 use Rattle.mp_outside.specs.Files.{Files, file_at}
 use Rattle.mp_outside.specs.Sink.{grown}
@@ -9,7 +9,6 @@ use Rattle.mp_events.specs.Events.{events_of}
 use Rattle.mp_control.specs.declared.refused.ControlReason.{ControlReason}
 use Rattle.mp_control.specs.Controls.{controls_of}
 use Rattle.mp_names.specs.declared.controls.Control.{Control}
-use Rattle.mp_names.specs.declared.controls.Shape.{Shape}
 use Rattle.mp_model.specs.declared.record.Event.{Event}
 use Rattle.mp_cli.specs.Config.{Reading, reading_of}
 use Rattle.mp_cli.specs.Ends.{ComesWhere, IsCommandAnsweredInPart, IsRefusal, SaysAnswer, WritesFile}

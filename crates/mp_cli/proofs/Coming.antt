@@ -12,7 +12,7 @@ use Rattle.mp_names.specs.declared.controls.Control.{Control}
 use Rattle.mp_names.specs.declared.controls.Shape.{Shape}
 use Rattle.mp_events.specs.declared.refused.EventsReason.{EventsReason}
 use Rattle.mp_cli.specs.Config.{Reading}
-use Rattle.mp_cli.specs.Outcome.{Outcome, Answered, ConfigRefused, EventsRefused, WriteFault, config_refusal, events_refusal, with_controls, with_events, with_text}
+use Rattle.mp_cli.specs.Outcome.{Outcome, Answered, ConfigRefused, EventsRefused, config_refusal, events_refusal, with_controls, with_events, with_text}
 use Rattle.mp_cli.specs.Outcome.{refusal_of_config, refusal_of_events, after_config, after_events, files_call_for, status_of, MayEnd, MayFail, StopsAnswer}
 use Rattle.mp_cli.specs.Reading.{IsRead, CannotRead, absent, large, failed, no_memory, ReadsConfig, ReadsEvents, RefusedBy}
 

@@ -1,5 +1,5 @@
 -- The name in memory holds the whole answer.
-use Rattle.std.proofs.Common.{◌≡◌, ◌∙◌, Option, Some, None, List, ℕ, ap, sym}
+use Rattle.std.proofs.Common.{◌∙◌, ap, sym}
 use Rattle.std.specs.Option.{option_copied}
 use Rattle.mp_cli.proofs.TwoMoves.{copied_some, got_written}
 use Rattle.mp_cli.proofs.demo.demo.Goals as goal

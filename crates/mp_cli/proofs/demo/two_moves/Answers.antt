@@ -1,5 +1,5 @@
 -- The records of both plans fit.
-use Rattle.std.proofs.Common.{◌≡◌, ◌++◌, ◌∙◌, List, [], ap}
+use Rattle.std.proofs.Common.{◌++◌, ◌∙◌, List, ap}
 use Rattle.mp_names.specs.declared.controls.Control.{Control}
 use Rattle.mp_plans.specs.Plans.{all_at_once_records, fluid_records}
 use Rattle.mp_cli.proofs.TwoMoves.{two_moves_fit}
