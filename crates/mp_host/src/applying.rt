@@ -14,6 +14,7 @@ ghost use Rattle.mp_host.specs.Telling.{AppliesGroup, IfDid};
 
 use crate::groups::first_records;
 use crate::posts::posts_of;
+use crate::states::first_wake;
 use crate::stepping::step_state;
 use crate::{Applied, Host};
 use mp_bins::Owners;
@@ -143,6 +144,7 @@ impl<'a, Q: Query, J: Naming> Host<'a, Q, J> {
         let query = self.job.query();
         let outputs = step_state(alloc, query, self.stage, &mut one.state, &group, posts)?;
         self.records.drop_first(count);
+        self.first_wake = first_wake(&self.held);
         Ok(outputs)
     }
 }

@@ -4,15 +4,16 @@ ghost use Rattle.mp_names.specs.Logs.{empty_log};
 ghost use Rattle.mp_job.specs.Legal.{JobIsLegal};
 ghost use Rattle.mp_msg.specs.Contents.{IsRecordOf};
 ghost use Rattle.mp_host_laws.specs.Applying.{IsReceived};
-ghost use Rattle.mp_host_laws.specs.Hosted.{IsNew, first_held};
+ghost use Rattle.mp_host_laws.specs.Hosted.{IsNew, first_held, first_wake_of};
 ghost use Rattle.mp_host_laws.specs.HostOf.{IsHostOf};
 ghost use Rattle.mp_host.specs.Telling.{TakesRecord};
 
 use crate::order::ByGroup;
+use crate::states::first_wake;
 use mp_bins::first_owner;
 use mp_host_laws::Held;
 use mp_job::Job;
-use mp_model::{Naming, Query, Rec};
+use mp_model::{Naming, Query, Rec, Time};
 use mp_msg::BinState;
 use mp_ordered::OrderedRuns;
 use std::alloc::{AllocError, Global};
@@ -28,7 +29,10 @@ pub struct Host<'a, Q: Query, J: Naming> {
     pub(crate) records: OrderedRuns<Rec, ByGroup>,
     // The states of bins in hand, each as the packet that brought it left it and the groups applied since.
     pub(crate) held: Vec<Held<Q::Cell>>,
+    // The first of their wakes. Kept, since each look at what is ready asks it.
+    pub(crate) first_wake: Option<(Time, u64)>,
     pub(crate) of: PhantomData<J>,
+    ghost first_kept: { first_wake ≡ first_wake_of held.items },
 }
 
 impl<'a, Q: Query, J: Naming> Model for Host<'a, Q, J> {
@@ -61,12 +65,15 @@ impl<'a, Q: Query, J: Naming> Host<'a, Q, J> {
         ensures new { IfOk result (λ h. IsNew J.job h) }
         ensures held { IfOk result (λ h. IsHostOf (Q.facts J.job.rules) J.job empty_log h) }
     {
+        let held = first_held::<Q>(alloc, worker, job)?;
+        let first_wake = first_wake(&held);
         Ok(Host {
             job,
             stage,
             worker,
             records: OrderedRuns::new(alloc),
-            held: first_held::<Q>(alloc, worker, job)?,
+            held,
+            first_wake,
             of: PhantomData,
         })
     }

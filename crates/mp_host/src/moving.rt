@@ -12,7 +12,7 @@ ghost use Rattle.mp_host.specs.Waiting.{waits_beside};
 
 use crate::Host;
 use crate::numbers::add_one;
-use crate::states::place_before;
+use crate::states::{first_wake, place_before};
 use mp_host_laws::Held;
 use mp_model::{Naming, Query, Time};
 use mp_msg::BinState;
@@ -54,7 +54,9 @@ impl<'a, Q: Query, J: Naming> Host<'a, Q, J> {
         ensures here { IfNone result ((log : Log) → NothingLeaves (Q.facts J.job.rules) J.job log self.old bin time) }
     {
         let at = place_before(&self.held, bin, u128::from(time))?;
-        Some(self.held.remove(at))
+        let one = self.held.remove(at);
+        self.first_wake = first_wake(&self.held);
+        Some(one)
     }
 
     /// Puts a state that was taken out back in hand. There is room for it. Takes no memory.
@@ -65,6 +67,7 @@ impl<'a, Q: Query, J: Naming> Host<'a, Q, J> {
         ensures held { (before : Hosted Q.Cell) (log : Log) (bin time : ℕ) → GetsBack (Q.facts J.job.rules) J.job log bin time one before self.old self.new }
     {
         let _ = self.held.push(one);
+        self.first_wake = first_wake(&self.held);
     }
 
     /// How many groups of each time begin to wait once the state is installed: those of its wakes that don't wait already.
@@ -93,6 +96,7 @@ impl<'a, Q: Query, J: Naming> Host<'a, Q, J> {
             since: Some(time),
             state,
         });
+        self.first_wake = first_wake(&self.held);
     }
 
     // How many of the wakes there are of each time whose groups wait neither by a record here nor by a wake of a state that

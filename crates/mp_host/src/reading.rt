@@ -9,7 +9,7 @@ ghost use Rattle.mp_host.specs.Hosts.{IsHosted};
 ghost use Rattle.mp_host.specs.Ready.{IsReadyHere};
 
 use crate::Host;
-use crate::states::{earlier_of, first_wake, place_before};
+use crate::states::{earlier_of, place_before};
 use mp_bins::{Owners, bin_of};
 use mp_model::{Naming, Query, Time};
 use mp_names::Loc;
@@ -53,7 +53,7 @@ impl<'a, Q: Query, J: Naming> Host<'a, Q, J> {
             Some(rec) => Some((rec.time, rec.key)),
             None => None,
         };
-        earlier_of(record, first_wake(&self.held))
+        earlier_of(record, self.first_wake)
     }
 
     // Whether the bin of a key is this worker's at a time, by what was noted.

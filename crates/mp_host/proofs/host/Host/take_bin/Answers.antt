@@ -26,18 +26,18 @@ returns-in_err-at-clause-here g c =
 pub invariant_of-self : goal.invariant_of-self
 invariant_of-self g c =
     let h = c.self.invariant in
-    rw c.remove.ensures.by_index.2 (hosted_still _ _ _ _ _ _ _ _ h h.order.content h.order.records (left_fit _ _ _ _ h c.in_ok-at.at))
+    rw c.remove-one.ensures.by_index.2 (hosted_still _ _ _ _ _ _ _ _ h h.order.content h.order.records (left_fit _ _ _ _ h c.in_ok-at.at))
 
 pub returns-clause-taken : goal.returns-clause-taken
 returns-clause-taken g c =
     let place = rw (c.deref.ensures.value, c.from.ensures) at c.place_before.ensures in
-    rw (← c.self.view_is) (taken_out c.args.bin c.args.time _ _ c.in_ok-at.at (sym place ∙ c.in_ok-at.was) c.remove.result refl refl refl c.remove.ensures.value c.remove.ensures.by_index.2)
+    rw (← c.self.view_is) (taken_out c.args.bin c.args.time _ _ c.in_ok-at.at (sym place ∙ c.in_ok-at.was) c.remove-one.result refl refl refl c.remove-one.ensures.value c.remove-one.ensures.by_index.2)
 
 pub returns-clause-fits : goal.returns-clause-fits
 returns-clause-fits g c =
     let place = rw (c.deref.ensures.value, c.from.ensures) at c.place_before.ensures in
-    let at = place_is (is_held_before c.args.bin c.args.time) c.self.inside.held.items c.in_ok-at.at (sym place ∙ c.in_ok-at.was) c.remove.result in
-    rw (← c.self.view_is) (out_fits _ _ _ _ c.self.invariant c.in_ok-at.at c.remove.result at.inside c.remove.ensures.value)
+    let at = place_is (is_held_before c.args.bin c.args.time) c.self.inside.held.items c.in_ok-at.at (sym place ∙ c.in_ok-at.was) c.remove-one.result in
+    rw (← c.self.view_is) (out_fits _ _ _ _ c.self.invariant c.in_ok-at.at c.remove-one.result at.inside c.remove-one.ensures.value)
 
 pub returns-clause-held : goal.returns-clause-held
 returns-clause-held g c = λ log.
@@ -46,4 +46,4 @@ returns-clause-held g c = λ log.
     let rules = job.rules in
     let place = rw (c.deref.ensures.value, c.from.ensures) at c.place_before.ensures in
     rw (← c.self.view_is)
-    (gives_up (g.Q.Query.facts rules) (record { stages = laws.has_stages rules; later = laws.posts_are_later rules; nothing = laws.later_stages_post_nothing rules; fit = laws.sums_fit rules }) job _ c.args.bin c.args.time c.remove.result _ _ c.self.invariant (taken_out c.args.bin c.args.time _ _ c.in_ok-at.at (sym place ∙ c.in_ok-at.was) c.remove.result refl refl refl c.remove.ensures.value c.remove.ensures.by_index.2) log)
+    (gives_up (g.Q.Query.facts rules) (record { stages = laws.has_stages rules; later = laws.posts_are_later rules; nothing = laws.later_stages_post_nothing rules; fit = laws.sums_fit rules }) job _ c.args.bin c.args.time c.remove-one.result _ _ c.self.invariant (taken_out c.args.bin c.args.time _ _ c.in_ok-at.at (sym place ∙ c.in_ok-at.was) c.remove-one.result refl refl refl c.remove-one.ensures.value c.remove-one.ensures.by_index.2) log)
