@@ -1,15 +1,19 @@
 //! Layer: the parts of a worker.
 //!
-//! What a worker does with its parts together: it hands the outputs of a group on, counts what leaves with a packet, and
-//! lists the packets that it has sent.
+//! What a worker does with its parts together: it hands the outputs of a group on, counts what leaves with a packet, makes
+//! room for what a step changes, and lists the packets that it has sent.
 #![tactic(auto)]
 
 mod changes;
+mod cursor;
 mod leaving;
 mod onward;
+mod room;
 mod tally;
 
-pub use changes::{one_less, one_more};
+pub use changes::{one_less, one_more, push_more};
+pub use cursor::place_after;
 pub use leaving::changes_of_leaving;
 pub use onward::{hold_records, hold_rows, location_after, make_room_onward};
+pub use room::{PacketLists, room_in_log};
 pub use tally::{Moved, Tally, moved_so_far};

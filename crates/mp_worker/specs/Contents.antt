@@ -10,7 +10,7 @@ use Rattle.mp_host_laws.specs.Hosted.{Hosted}
 use Rattle.mp_handoff.specs.MoversState.{MoversState}
 use Rattle.mp_output.specs.Unwritten.{Unwritten}
 use Rattle.mp_refinement.specs.State.{WorkerState}
-use Rattle.mp_worker.specs.declared.room.PacketLists.{PacketLists}
+use Rattle.mp_parts.specs.declared.room.PacketLists.{PacketLists}
 
 -- the worker; for how many more names and changes its log has room; the control records that it noted; by stage its routers, hosts and movers; the answer rows that it has to send, and those that it has to write; and its lists for packets
 pub record Contents (Cell : Type 0) : Type 0 where

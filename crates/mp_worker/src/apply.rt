@@ -1,5 +1,5 @@
 //! How a worker applies groups.
-ghost use Rattle.std.specs.Prelude.{◌≡◌, ◌≤◌, ◌<◌, ◌+◌, ◌^◌, ◌++◌, ◌∷◌, ℕ, [], IfNone, IfOk, IfSome, IsOk, OnOk, length, map, vec_len};
+ghost use Rattle.std.specs.Prelude.{◌≡◌, ◌≤◌, ◌<◌, ◌+◌, ◌^◌, ◌++◌, ◌∷◌, ℕ, [], IfNone, IfOk, IfSome, IsOk, length, map};
 ghost use Rattle.std.specs.Vec.{vec_capacity};
 ghost use Rattle.mp_names.specs.declared.locations.Loc.TheVariants.{Host as HostLoc};
 ghost use Rattle.mp_names.specs.declared.kinds.Kind.TheVariants.{Apply};
@@ -12,11 +12,14 @@ ghost use Rattle.mp_worker.specs.Applying.{HasRoomToApply, IsEnoughFor, SomeGrou
 
 use crate::parts::Parts;
 use mp_host::Applied;
-use mp_model::{Naming, Query, Time};
+use mp_model::{Naming, Query};
 use mp_names::{Loc, Name};
-use mp_parts::{hold_records, hold_rows, location_after, make_room_onward, one_less, one_more};
-use mp_rows::{Change, Log, LogList, OutlineOf, Pointstamp};
-use std::alloc::{AllocError, Global};
+use mp_parts::{
+    hold_records, hold_rows, location_after, make_room_onward, one_less, one_more, push_more,
+    room_in_log,
+};
+use mp_rows::{Change, LogList};
+use std::alloc::AllocError;
 
 impl<'a, Q: Query, J: Naming> Parts<'a, Q, J> {
     /// The least group of a stage that waits is applied, once all that belongs to it has come; what it gives goes to the
@@ -109,29 +112,6 @@ impl<'a, Q: Query, J: Naming> Parts<'a, Q, J> {
     }
 }
 
-// Makes room in the log for the name and the changes of a group that gives and wakes no more than `most` in all, and the
-// list of these changes, which is still empty. `AllocError`: no memory, and nothing but rooms changes.
-fn room_in_log<Q: Query, J: Naming>(
-    alloc: Global,
-    most: u64,
-    log: &mut Log<OutlineOf<Q, J>>,
-) -> Result<Vec<Change>, AllocError>
-    ensures log { log.new.log ≡ log.old.log }
-    ensures posted { log.new.posted ≡ log.old.posted }
-    ensures worker { log.new.worker ≡ log.old.worker }
-    ensures names { OnOk result (1 ≤ log.new.room_for_names) }
-    ensures changes { OnOk result (most + 2 ≤ log.new.room_for_changes) }
-    ensures empty { IfOk result (λ changes. changes.items ≡ []) }
-    ensures room { IfOk result (λ changes. most + 2 ≤ vec_capacity changes) }
-    ensures whole { OnOk result (most + 2 < 2 ^ 64) }
-{
-    let Some(count) = most.checked_add(2) else {
-        return Err(AllocError);
-    };
-    log.make_room(count)?;
-    Vec::with_capacity(alloc, count as usize)
-}
-
 // Lists the changes that a group brings to the counts: it waits no longer, what it gives is to be sent, and the groups that
 // it wakes wait. The list is empty and has room for them.
 fn push_changes(
@@ -150,29 +130,6 @@ fn push_changes(
     push_more(changes, onward, applied.time, applied.outputs.len())?;
     for time in applied.woke.as_slice() {
         changes.push(one_more(Loc::Host(stage), *time))?;
-    }
-    Ok(())
-}
-
-// Lists that there are so many more at a location and time, unless there are none. The list has room.
-fn push_more(
-    changes: &mut Vec<Change>,
-    loc: Loc,
-    time: Time,
-    count: usize,
-) -> Result<(), AllocError>
-    requires room { vec_len changes.old < vec_capacity changes.old }
-    requires count { count < 2 ^ 63 }
-    ensures done { IsOk result }
-    ensures changes { changes.new.items ≡ changes.old.items ++ some_more loc time count }
-    ensures few { vec_len changes.new ≤ vec_len changes.old + 1 }
-    ensures room { vec_capacity changes.old ≤ vec_capacity changes.new }
-{
-    if count != 0 {
-        changes.push(Change {
-            at: Pointstamp { loc, time },
-            by: count as i64,
-        })?;
     }
     Ok(())
 }

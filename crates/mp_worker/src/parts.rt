@@ -1,7 +1,6 @@
 //! The parts of a worker.
 ghost use Rattle.std.specs.Prelude.{◌≡◌, ◌<◌};
 
-use crate::room::PacketLists;
 use mp_bins::Owners;
 use mp_handoff::Movers;
 use mp_host::Host;
@@ -9,6 +8,7 @@ use mp_job::Job;
 use mp_model::{Naming, Query};
 use mp_names::ControlCursor;
 use mp_output::{Rows, Unsent};
+use mp_parts::PacketLists;
 use mp_route::Router;
 use mp_rows::{Log, OutlineOf};
 use mp_stamps::Seen;

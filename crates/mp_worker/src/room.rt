@@ -1,48 +1,15 @@
 //! Room for what a message may bring. All of it is made before one is taken, as nothing may be refused after that.
-ghost use Rattle.std.specs.Prelude.{◌≡◌, ◌≤◌, ◌<◌, ◌+◌, ◌^◌, [], All, OnOk};
-ghost use Rattle.std.specs.Vec.{vec_capacity};
+ghost use Rattle.std.specs.Prelude.{◌≡◌, ◌≤◌, ◌<◌, ◌+◌, ◌^◌, All, OnOk};
 ghost use Rattle.mp_worker.specs.Rooms.{HasRoomToTake, SameHosts, SameMovers};
 
 use crate::parts::Parts;
 use mp_bins::Owners;
 use mp_handoff::Movers;
 use mp_host::Host;
-use mp_model::{Naming, Query, Time};
+use mp_model::{Naming, Query};
 use mp_output::Rows;
-use mp_rows::{Change, Log, OutlineOf};
-use std::alloc::{AllocError, Global};
-
-/// What a packet that is taken changes: how many groups of each time begin to wait, and the changes at the counts. A
-/// worker keeps these lists, so that a message takes memory only the first time.
-#[derive(Drop)]
-pub(crate) struct PacketLists {
-    /// How many groups of each time begin to wait.
-    pub(crate) numbers: Vec<(Time, u64)>,
-    /// At the counts of outstanding work.
-    pub(crate) changes: Vec<Change>,
-}
-
-impl PacketLists {
-    /// Empty lists, with no room.
-    pub(crate) fn new(alloc: Global) -> PacketLists {
-        PacketLists {
-            numbers: Vec::new(alloc),
-            changes: Vec::new(alloc),
-        }
-    }
-
-    /// Empties the lists and makes room for a packet whose wakes are of so many times. `AllocError`: no memory.
-    pub(crate) fn make_room(&mut self, times: usize) -> Result<(), AllocError>
-        requires { times + 2 < 2 ^ 64 }
-        ensures empty { (self.new.numbers.items ≡ []) × (self.new.changes.items ≡ []) }
-        ensures room { OnOk result ((times ≤ vec_capacity self.new.numbers) × (times + 1 ≤ vec_capacity self.new.changes)) }
-    {
-        self.numbers.clear();
-        self.changes.clear();
-        self.numbers.reserve(times)?;
-        self.changes.reserve(times + 1)
-    }
-}
+use mp_rows::{Log, OutlineOf};
+use std::alloc::AllocError;
 
 impl<'a, Q: Query, J: Naming> Parts<'a, Q, J> {
     /// Makes room for one message, whatever it holds. `AllocError`: no memory, and nothing but rooms changes.

@@ -1,8 +1,6 @@
 //! How worker 0 sends control records.
-ghost use Rattle.std.specs.Prelude.{◌≡◌, ◌<◌, ◌-◌, ◌^◌};
 ghost use Rattle.mp_names.specs.declared.kinds.Kind.TheVariants.{SendControl};
 ghost use Rattle.mp_outline.specs.JobOutline.{outline_of};
-ghost use Rattle.mp_worker_invariant.specs.Parts.{place_after};
 ghost use Rattle.mp_refinement.specs.Served.{IsAtPost, PostFollows};
 ghost use Rattle.mp_refinement.specs.Steps.{StepsByMail};
 
@@ -12,7 +10,7 @@ use mp_mailbox::Post;
 use mp_model::{Naming, Query};
 use mp_msg::Msg;
 use mp_names::{ControlCursor, Loc, Name};
-use mp_parts::{one_less, one_more};
+use mp_parts::{one_less, one_more, place_after};
 use std::alloc::AllocError;
 
 impl<'a, Q: Query, J: Naming> Parts<'a, Q, J> {
@@ -48,24 +46,5 @@ impl<'a, Q: Query, J: Naming> Parts<'a, Q, J> {
         };
         self.next = place_after(self.job.shape().workers, self.next);
         Ok(Some(name))
-    }
-}
-
-// What is sent after a control record: the same one to the next receiver, or the next one to the first.
-fn place_after(workers: u32, next: ControlCursor) -> ControlCursor
-    requires index { next.index < 2 ^ 32 - 1 }
-    requires to { next.receiver < workers }
-    ensures { result ≡ place_after workers next }
-{
-    if next.receiver + 1 == workers {
-        ControlCursor {
-            index: next.index + 1,
-            receiver: 0,
-        }
-    } else {
-        ControlCursor {
-            index: next.index,
-            receiver: next.receiver + 1,
-        }
     }
 }

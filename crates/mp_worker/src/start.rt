@@ -8,7 +8,6 @@ ghost use Rattle.mp_worker_invariant.specs.Parts.{AreMoversAt, AtEach, IsHostAt,
 
 use crate::Worker;
 use crate::parts::Parts;
-use crate::room::PacketLists;
 use mp_bins::Owners;
 use mp_handoff::Movers;
 use mp_host::Host;
@@ -16,6 +15,7 @@ use mp_job::Job;
 use mp_model::{Naming, Query};
 use mp_names::ControlCursor;
 use mp_output::{Rows, Unsent};
+use mp_parts::PacketLists;
 use mp_route::Router;
 use mp_rows::Log;
 use mp_stamps::Seen;

@@ -18,7 +18,6 @@ ghost use Rattle.mp_worker.specs.Contents.{with_taken};
 ghost use Rattle.mp_worker.specs.Rooms.{HasRoomToTake};
 
 use crate::parts::Parts;
-use crate::room::PacketLists;
 use mp_bins::Owners;
 use mp_handoff::Movers;
 use mp_host::Host;
@@ -26,15 +25,14 @@ use mp_model::{Fields, Naming, Query, Rec, Time};
 use mp_msg::{BinState, Body, Msg};
 use mp_names::{Control, Loc, Name, Tag};
 use mp_output::Rows;
-use mp_parts::{one_less, one_more};
+use mp_parts::{PacketLists, one_less, one_more};
 use mp_rows::{Change, Log, LogList, OutlineOf, Pointstamp};
 use std::alloc::AllocError;
 
 impl<'a, Q: Query, J: Naming> Parts<'a, Q, J> {
     /// Takes a message that came to this worker to the part that it is for. There is room for it.
     pub(crate) fn take(&mut self, message: Msg<Q, J>) -> Result<(), AllocError>
-        requires to { let o = outline_of (Q.facts J.job.rules) J.job in
-            receiver o message ≡ self.old.worker.number }
+        requires to { receiver (outline_of (Q.facts J.job.rules) J.job) message ≡ self.old.worker.number }
         requires fresh { has self.old.worker.log.took message ≡ false }
         requires room { HasRoomToTake (Q.facts J.job.rules) J.job self.old }
         ensures never_refused { IsOk result }
@@ -59,7 +57,6 @@ impl<'a, Q: Query, J: Naming> Parts<'a, Q, J> {
         }
     }
 
-    // Takes a control record to the owners and to the movers of its stage.
     fn take_control(&mut self, index: u32, control: Control) -> Result<(), AllocError>
         requires content { IsControlOf J.job index self.old.worker.number control }
         requires fresh { has self.old.worker.log.took (Ctrl index self.old.worker.number) ≡ false }
@@ -71,12 +68,10 @@ impl<'a, Q: Query, J: Naming> Parts<'a, Q, J> {
         take_control(&mut self.log, &mut self.owners, movers, index, control)
     }
 
-    // Takes a record to the host of its stage.
     fn take_record(&mut self, name: Name, stage: u32, rec: Rec) -> Result<(), AllocError>
         requires record { IsRecordOf (Q.facts J.job.rules) J.job stage rec }
         requires name { name ≡ name_of_record stage rec }
-        requires owed { let o = outline_of (Q.facts J.job.rules) J.job in
-            IsOwedTo o self.old.worker.number name }
+        requires owed { IsOwedTo (outline_of (Q.facts J.job.rules) J.job) self.old.worker.number name }
         requires fresh { has self.old.worker.log.took name ≡ false }
         requires room { HasRoomToTake (Q.facts J.job.rules) J.job self.old }
         ensures never_refused { IsOk result }
@@ -86,7 +81,6 @@ impl<'a, Q: Query, J: Naming> Parts<'a, Q, J> {
         take_record(&mut self.log, host, name, stage, rec)
     }
 
-    // Takes the state of a bin to the host of its stage.
     fn take_packet(&mut self, packet: Packet<Q::Cell>) -> Result<(), AllocError>
         requires state { IsPacketOf (Q.facts J.job.rules) J.job packet.stage packet.bin packet.time packet.state }
         requires owed { let o = outline_of (Q.facts J.job.rules) J.job in
@@ -100,7 +94,6 @@ impl<'a, Q: Query, J: Naming> Parts<'a, Q, J> {
         take_packet(&mut self.log, host, packet, &mut self.lists)
     }
 
-    // Takes an answer row to those that are to be written.
     fn take_row(
         &mut self,
         name: Name,
@@ -110,8 +103,7 @@ impl<'a, Q: Query, J: Naming> Parts<'a, Q, J> {
     ) -> Result<(), AllocError>
         requires row { IsRowOf (Q.facts J.job.rules) J.job time tag fields }
         requires name { name ≡ RowName time tag }
-        requires owed { let o = outline_of (Q.facts J.job.rules) J.job in
-            IsOwedTo o self.old.worker.number name }
+        requires owed { IsOwedTo (outline_of (Q.facts J.job.rules) J.job) self.old.worker.number name }
         requires fresh { has self.old.worker.log.took name ≡ false }
         requires room { HasRoomToTake (Q.facts J.job.rules) J.job self.old }
         ensures never_refused { IsOk result }
@@ -162,14 +154,10 @@ fn take_control<Q: Query, J: Naming>(
 // What a packet holds.
 #[derive(Drop)]
 struct Packet<C: Drop> {
-    /// From 0.
-    pub stage: u32,
-    /// From 0.
-    pub bin: u32,
-    /// In units of the event file.
-    pub time: Time,
-    /// Its cells and wakes.
-    pub state: BinState<C>,
+    stage: u32,
+    bin: u32,
+    time: Time,
+    state: BinState<C>,
 }
 
 // Takes a packet that is owed to this worker: its state is in hand from now on. There is room for it.
