@@ -5,7 +5,7 @@ use Rattle.mp_draws.specs.Draws.{first_state, next_state}
 use Rattle.mp_model.specs.declared.record.Event.{Event}
 use Rattle.mp_model.specs.declared.value.Value.TheVariants.{Person, Auction, Bid}
 
--- the state of these numbers: the first three have persons that some queries look for
+-- the two letters of a state, by its number; queries look for those of the first three
 abbrev pub state_text : ℕ → List ℕ
 state_text zero = codes "OR"
 state_text (suc zero) = codes "ID"

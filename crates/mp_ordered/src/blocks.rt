@@ -96,6 +96,7 @@ impl<T: Drop, O: Order<T>> Blocks<T, O> {
     pub fn first(&self) -> Option<&T>
         ensures some { IfSome result (λ x. slice_get self.now.items 0 ≡ Some x.now) }
         ensures none { IfNone result (self.now.items ≡ []) }
+        ensures in_order { IsInOrder O.rank self.now.items }
     {
         self.blocks.first()?.first()
     }

@@ -10,8 +10,10 @@ mod order;
 mod ordered;
 mod queue;
 mod runs;
+mod stored;
 
 pub use order::Order;
 pub use ordered::Ordered;
 pub use queue::OrderedQueue;
 pub use runs::{Kinds, OrderedRuns};
+pub use stored::OrderedBlocks;

@@ -11,7 +11,7 @@ ghost use Rattle.mp_route.specs.Unsent.{HoldsAllBut, HoldsOneMore, HoldsUnsent, 
 use crate::by_tag::ByTag;
 use mp_model::{Naming, Query, Rec};
 use mp_names::{Loc, Name};
-use mp_ordered::OrderedQueue;
+use mp_ordered::OrderedBlocks;
 use mp_stamps::{Seen, passed};
 use std::alloc::{AllocError, Global};
 use std::marker::{Model, PhantomData};
@@ -22,7 +22,7 @@ use std::marker::{Model, PhantomData};
 #[derive(Drop)]
 pub struct Router<Q: Query, J: Naming> {
     stage: u32,
-    held: OrderedQueue<Rec, ByTag>,
+    held: OrderedBlocks<Rec, ByTag>,
     of: PhantomData<(Q, J)>,
 }
 
@@ -49,7 +49,7 @@ impl<Q: Query, J: Naming> Router<Q, J> {
     {
         Router {
             stage,
-            held: OrderedQueue::new(alloc),
+            held: OrderedBlocks::new(alloc),
             of: PhantomData,
         }
     }

@@ -1,0 +1,82 @@
+//! Items in order, of which the first one is taken.
+ghost use Rattle.std.specs.Prelude.{◌≡◌, ◌≤◌, ◌<◌, ◌+◌, ◌∷◌, [], slice_get, IfNone, IfSome, IsOk, OnErr, OnOk, Some};
+ghost use Rattle.mp_ordered.specs.InOrder.{GoesBack, IsInOrder, put_in_order};
+
+use crate::blocks::Blocks;
+use crate::order::Order;
+use std::alloc::{AllocError, Global};
+use std::marker::Model;
+
+/// Items in the order `O`, the first one first, in blocks. Contracts see an `InOrder`: the items, and how many more there is
+/// room for. To put an item among them takes time by the logarithm of their number, to take out the first one no more than
+/// its block needs.
+#[derive(Drop)]
+pub struct OrderedBlocks<T, O: Order<T>> {
+    blocks: Blocks<T, O>,
+}
+
+impl<T, O: Order<T>> Model for OrderedBlocks<T, O> {
+    ghost use Rattle.mp_ordered.specs.InOrder.{InOrder};
+
+    ghost Value = { InOrder T };
+
+    ghost view = { λ o. o.blocks };
+}
+
+impl<T: Drop, O: Order<T>> OrderedBlocks<T, O> {
+    /// No items.
+    pub fn new(alloc: Global) -> OrderedBlocks<T, O>
+        ensures { result.items ≡ [] }
+    {
+        OrderedBlocks {
+            blocks: Blocks::new(alloc),
+        }
+    }
+
+    /// Makes room, so that the next `count` calls of `insert` answer `Ok`. `AllocError`: no memory, and nothing
+    /// changes.
+    pub fn make_room(&mut self, count: u64) -> Result<(), AllocError>
+        ensures room { OnOk result (count ≤ self.new.room) }
+        ensures items { self.new.items ≡ self.old.items }
+        ensures no_less { self.old.room ≤ self.new.room }
+        ensures unchanged { OnErr result (self.new ≡ self.old) }
+    {
+        self.blocks.make_room(count as usize)
+    }
+
+    /// Puts an item at its place, in front of those of its rank. `AllocError`: no memory, never where there is
+    /// room, and nothing changes.
+    pub fn insert(&mut self, item: T) -> Result<(), AllocError>
+        ensures put { OnOk result (self.new.items ≡ put_in_order O.rank item self.old.items) }
+        ensures room { OnOk result (self.old.room ≤ self.new.room + 1) }
+        ensures unchanged { OnErr result (self.new ≡ self.old) }
+        ensures never_refused_with_room { 0 < self.old.room → IsOk result }
+    {
+        if self.blocks.room() == 0 {
+            self.blocks.make_room(1)?;
+        }
+        self.blocks.insert(item);
+        Ok(())
+    }
+
+    /// The first item; `None` exactly where there is none. It would go back to its place.
+    pub fn first(&self) -> Option<&T>
+        ensures some { IfSome result (λ x. slice_get self.now.items 0 ≡ Some x.now) }
+        ensures none { IfNone result (self.now.items ≡ []) }
+        ensures in_order { IsInOrder O.rank self.now.items }
+        ensures goes_back { GoesBack O.rank }
+    {
+        self.blocks.first()
+    }
+
+    /// Takes out the first item; `None` exactly where there is none. It leaves its room, so `insert` takes it back
+    /// to its place.
+    pub fn pop_first(&mut self) -> Option<T>
+        ensures some { IfSome result (λ x. self.old.items ≡ x ∷ self.new.items) }
+        ensures none { IfNone result (self.old.items ≡ []) }
+        ensures unchanged { IfNone result (self.new ≡ self.old) }
+        ensures room { IfSome result (λ x. self.new.room ≡ self.old.room + 1) }
+    {
+        self.blocks.pop_first()
+    }
+}
