@@ -1,5 +1,9 @@
 -- What the commands read, and for which jobs.
-use Rattle.std.specs.Prelude.{ℕ, Option, Some, None, List}
+use Rattle.std.specs.Prelude.{ℕ, Option, Some, None, List, []}
+use Rattle.mp_job.specs.Parts.{job_of}
+use Rattle.mp_model.specs.declared.record.Event.{Event}
+use Rattle.mp_model.specs.Facts.{JobFacts}
+use Rattle.mp_names.specs.declared.controls.Control.{Control}
 use Rattle.mp_names.specs.declared.controls.Shape.{Shape}
 use Rattle.mp_words.specs.declared.options.QueryName.{QueryName}
 use Rattle.mp_words.specs.Values.{CheckAsked, Options}
@@ -13,6 +17,10 @@ shape_for query workers bins = record { workers = workers; bins = bins; stages =
 -- the shape of the job that a command asks for
 abbrev pub shape_of : Options → Shape
 shape_of asked = shape_for asked.query asked.workers asked.bins
+
+-- the job that a command asks for, by the events and the control records that were read; no query has rules of its own
+abbrev pub job_asked : Options → List Event → List Control → JobFacts
+job_asked asked events controls = job_of [] events controls (shape_of asked)
 
 -- the files that a command reads, by their names, and the shape of the jobs that the configuration is for
 pub record Reading : Type 0 where

@@ -11,8 +11,8 @@ use Rattle.mp_names.specs.declared.controls.Control.{Control}
 use Rattle.mp_names.specs.declared.controls.Shape.{Shape}
 use Rattle.mp_words.specs.Values.{CheckAsked, MakeAsked, Options}
 use Rattle.mp_words.specs.Words.{Asked, Run, Check, Make, Demo}
-use Rattle.mp_cli.specs.Config.{check_reading, reading_of}
-use Rattle.mp_cli.specs.Queries.{answer_of}
+use Rattle.mp_cli.specs.Config.{check_reading, job_asked, reading_of, shape_of}
+use Rattle.mp_cli.specs.Queries.{IsReportOf, answer_of}
 use Rattle.mp_cli.specs.Outcome.{Outcome, IsNamedIn, MayCome, status_of}
 use Rattle.mp_cli.specs.Writing.{made_file}
 
@@ -41,6 +41,36 @@ IsAnsweredInPart old new asked =
     ⊎ ((events : List Event) × (k : ℕ) × HasEvents old asked.events events
     × (file_at new asked.out ≡ Some (take k (answer_of asked.query events))))
 
+-- the files ask for a job whose report is this text
+pub record IsReportAsked (told : Option Files) (asked : Options) (text : List ℕ) : Type 0 where
+  pub events : List Event
+  pub controls : List Control
+  pub has_events : HasEvents told asked.events events
+  pub has_controls : HasControls told asked.config (shape_of asked) controls
+  pub is_report : IsReportOf asked.query (job_asked asked events controls) text
+
+-- the name holds exactly the job's report
+abbrev pub IsReported : Option Files → Option Files → Options → List ℕ → Type 0
+IsReported old new asked name = (text : List ℕ) × IsReportAsked old asked text × (file_at new name ≡ Some text)
+
+-- the name is as it was, or holds the first bytes of the report
+abbrev pub IsReportedInPart : Option Files → Option Files → Options → List ℕ → Type 0
+IsReportedInPart old new asked name =
+    (file_at new name ≡ file_at old name)
+    ⊎ ((text : List ℕ) × (k : ℕ) × IsReportAsked old asked text × (file_at new name ≡ Some (take k text)))
+
+-- the answer is there, and the report where one is asked for
+abbrev pub IsRun : Option Files → Option Files → Options → Option (List ℕ) → Type 0
+IsRun old new asked None = IsAnswered old new asked
+IsRun old new asked (Some report) = IsAnswered old new asked × IsReported old new asked report
+
+-- A part of the answer is there, and the report's name is as it was; or the whole answer, and a part of the report
+abbrev pub IsRunInPart : Option Files → Option Files → Options → Option (List ℕ) → Type 0
+IsRunInPart old new asked None = IsAnsweredInPart old new asked
+IsRunInPart old new asked (Some report) =
+    (IsAnsweredInPart old new asked × (file_at new report ≡ file_at old report))
+    ⊎ (IsAnswered old new asked × IsReportedInPart old new asked report)
+
 -- both files are well-formed
 abbrev pub IsChecked : Option Files → CheckAsked → Type 0
 IsChecked told asked =
@@ -59,14 +89,14 @@ IsMadeInPart old new asked =
 
 -- what the files hold where the command is done; a demo leaves them alone
 abbrev pub IsDone : Option Files → Option Files → Asked → Type 0
-IsDone old new (Run asked) = IsAnswered old new asked
+IsDone old new (Run asked) = IsRun old new asked asked.report
 IsDone old new (Check asked) = IsChecked old asked
 IsDone old new (Make asked) = IsMade new asked
 IsDone old new (Demo asked) = Unit {0}
 
 -- what they hold where it was stopped; `check` and a demo leave them alone
 abbrev pub IsDoneInPart : Option Files → Option Files → Asked → Type 0
-IsDoneInPart old new (Run asked) = IsAnsweredInPart old new asked
+IsDoneInPart old new (Run asked) = IsRunInPart old new asked asked.report
 IsDoneInPart old new (Make asked) = IsMadeInPart old new asked
 IsDoneInPart old new _ = Unit {0}
 
@@ -77,7 +107,7 @@ IsRefusal code =
 
 -- the name is not one that the command writes
 abbrev pub IsLeft : List ℕ → Asked → Type 0
-IsLeft name (Run asked) = name ≢ asked.out
+IsLeft name (Run asked) = (name ≢ asked.out) × IfSome asked.report (λ report. name ≢ report)
 IsLeft name (Make asked) = name ≢ asked.out
 IsLeft name _ = Unit {0}
 

@@ -1,7 +1,9 @@
--- The stages and the answers of the queries that the command line names.
+-- The stages, the answers and the reports of the queries that the command line names.
 use Rattle.std.specs.Prelude.{ℕ, List}
 use Rattle.mp_model.specs.declared.record.Event.{Event}
 use Rattle.mp_model.specs.Answers.{one_thread_answer}
+use Rattle.mp_model.specs.Facts.{JobFacts}
+use Rattle.mp_report.specs.Report.{IsReport}
 use Rattle.mp_q_simple.specs.Q1.{q1_facts}
 use Rattle.mp_q_simple.specs.Q2.{q2_facts}
 use Rattle.mp_q_join.specs.Q3.{q3_facts}
@@ -34,3 +36,14 @@ answer_of Q5 events = one_thread_answer q5_facts events
 answer_of Q6 events = one_thread_answer q6_facts events
 answer_of Q7 events = one_thread_answer q7_facts events
 answer_of Q8 events = one_thread_answer q8_facts events
+
+-- the text is the report of the job, as a job of the query of this name
+abbrev pub IsReportOf : QueryName → JobFacts → List ℕ → Type 0
+IsReportOf Q1 job text = IsReport q1_facts job text
+IsReportOf Q2 job text = IsReport q2_facts job text
+IsReportOf Q3 job text = IsReport q3_facts job text
+IsReportOf Q4 job text = IsReport q4_facts job text
+IsReportOf Q5 job text = IsReport q5_facts job text
+IsReportOf Q6 job text = IsReport q6_facts job text
+IsReportOf Q7 job text = IsReport q7_facts job text
+IsReportOf Q8 job text = IsReport q8_facts job text

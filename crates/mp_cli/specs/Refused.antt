@@ -2,6 +2,8 @@
 use Rattle.std.specs.Prelude.{ℕ, ◌≡◌, List}
 use Rattle.mp_drive.specs.declared.stop.DriveStop.{DriveStop}
 use Rattle.mp_drive.specs.declared.stop.DriveStop.TheVariants as stop
+use Rattle.mp_output.specs.declared.refused.OutRefused.{OutRefused}
+use Rattle.mp_output.specs.declared.refused.OutRefused.TheVariants as out
 use Rattle.mp_outside.specs.declared.fault.Fault.{Fault}
 use Rattle.mp_outside.specs.declared.fault.Fault.TheVariants as fault
 use Rattle.mp_cli.specs.declared.refusal.Refusal.{Refusal}
@@ -37,3 +39,8 @@ refused_for fault.NoMemory = refusal.NoMemory
 abbrev pub refused_at : DriveStop → Refusal
 refused_at stop.Write = refusal.WriteFault
 refused_at stop.Memory = refusal.NoMemory
+
+-- the refusal where a report isn't written
+abbrev pub refused_by : OutRefused → Refusal
+refused_by out.WriteFault = refusal.WriteFault
+refused_by out.NoMemory = refusal.NoMemory

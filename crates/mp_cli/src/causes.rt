@@ -1,10 +1,11 @@
-//! What stopped the writing of an answer, as the refusal of the command.
+//! What stopped the writing of an answer or a report, as the refusal of the command.
 ghost use Rattle.std.specs.Prelude.{◌≡◌};
 ghost use Rattle.mp_cli.specs.declared.refusal.Refusal.TheVariants.{NoMemory};
-ghost use Rattle.mp_cli.specs.Refused.{refused_at, refused_for};
+ghost use Rattle.mp_cli.specs.Refused.{refused_at, refused_by, refused_for};
 
 use crate::refusal::Refusal;
 use mp_drive::DriveStop;
+use mp_output::OutRefused;
 use mp_outside::Fault;
 use mp_plans::PlanRefused;
 use std::alloc::AllocError;
@@ -45,6 +46,17 @@ impl<'a> From<DriveStop> for Refusal<'a> {
         match stop {
             DriveStop::Write => Refusal::WriteFault,
             DriveStop::Memory => Refusal::NoMemory,
+        }
+    }
+}
+
+impl<'a> From<OutRefused> for Refusal<'a> {
+    ghost from_gives = { λ why refusal. refusal ≡ refused_by why };
+
+    fn from(why: OutRefused) -> Self {
+        match why {
+            OutRefused::WriteFault => Refusal::WriteFault,
+            OutRefused::NoMemory => Refusal::NoMemory,
         }
     }
 }

@@ -1,5 +1,5 @@
 //! The command `demo`: a run in memory on events that are made from a seed.
-ghost use Rattle.std.specs.Prelude.{◌≡◌, ◌<◌, ◌≤◌, IfErr, IfOk};
+ghost use Rattle.std.specs.Prelude.{◌≡◌, ◌<◌, ◌≤◌, IfErr, IfOk, None};
 ghost use Rattle.mp_job.specs.Legal.{ControlsFit};
 ghost use Rattle.mp_words.specs.Limits.{AreWithinLimits, DemoIsWithinLimits};
 ghost use Rattle.mp_cli.specs.Lines.{answer_name, demo_line};
@@ -48,12 +48,14 @@ fn run_in_memory(options: &DemoOptions) -> RunOptions<'static>
     ensures within { AreWithinLimits result }
     ensures query { result.query ≡ options.now.query }
     ensures out { result.out.now ≡ answer_name }
+    ensures report { result.report ≡ None }
 {
     RunOptions {
         query: options.query,
         events: "events",
         config: "config",
         out: ANSWER,
+        report: None,
         workers: options.workers,
         bins: options.bins,
         depth: options.depth,

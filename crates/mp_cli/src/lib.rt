@@ -9,6 +9,7 @@ mod demo;
 mod making;
 mod reading;
 mod refusal;
+mod reporting;
 mod serve;
 mod shape;
 mod status;

@@ -17,14 +17,15 @@ use mp_outside::{Depot, Sink};
 /// program's name. A refusal says one line on `said`; `check` and `demo` say theirs there.
 ///
 /// The command is `run` or `replay` with `--query` (`q1` to `q8`), `--events`, `--config` and `--out`, and
-/// perhaps `--workers` (1, up to 16), `--bins` (16, a power of two up to 256) and `--depth` (64, up to 1024);
-/// `replay` also takes `--seed` (0, up to 2^48). `check` reads what these read; `make` writes events that are
-/// made from `--seed`, so many as `--count` says (up to 250,000), to `--out`; `demo` makes events, runs them in
-/// memory and says a summary of the answer. The statuses are this project's profile: 0 all is done; 2 the
-/// words are no command; 3 the event file has a bad line; 4 the configuration has a bad line; 5 a file isn't
-/// there; 6 a find or a read failed; 7 a begin or an append failed, or a write to `said` of what is its
-/// answer; 8 an allocation failed; 9 a file has more than 2^28 bytes. The refusals 3 and 4 say the number of
-/// the first bad line and the first check that it fails.
+/// perhaps `--report`, `--workers` (1, up to 16), `--bins` (16, a power of two up to 256) and `--depth` (64, up
+/// to 1024); `replay` also takes `--seed` (0, up to 2^48). The report is begun where the whole answer is
+/// written. `check` reads what these read; `make` writes events that are made from `--seed`, so many as
+/// `--count` says (up to 250,000), to `--out`; `demo` makes events, runs them in memory and says a summary of
+/// the answer. The statuses are this project's profile: 0 all is done; 2 the words are no command; 3 the event
+/// file has a bad line; 4 the configuration has a bad line; 5 a file isn't there; 6 a find or a read failed; 7
+/// a begin or an append failed, or a write to `said` of what is its answer; 8 an allocation failed; 9 a file
+/// has more than 2^28 bytes. The refusals 3 and 4 say the number of the first bad line and the first check that
+/// it fails.
 ///
 /// The workers take turns on one thread, by the schedule of the seed; `run` has the seed 0. They pass the
 /// gate before each step.
@@ -55,7 +56,8 @@ pub fn run<D: Depot, S: Sink, G: Gate + Sync, R: AllocGlobal>(
         → ¬ (SaysAnswer (Some asked) × Rose (S.faults said.old) (S.faults said.new))
         → (result.code ≡ 0) ⊎ (result.code ≡ 8) }
 
-    // The answer theorem: what a run that answers 0 wrote is exactly the one-thread answer to the events. `check`
+    // The answer theorem: what a run that answers 0 wrote is exactly the one-thread answer to the events, and the
+    // job's report where one is asked for. `check`
     // has then found both files well-formed, and `make` has written the lines of the events that are made.
     ensures answer { result.code ≡ 0
         → IsCommandAnswered (command_in words.now) (D.files depot.old) (D.files depot.new) }

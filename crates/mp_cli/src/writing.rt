@@ -1,5 +1,5 @@
-//! The answer's way into its file.
-ghost use Rattle.std.specs.Prelude.{◌≡◌, IfErr, IfOk, OnErr, OnOk};
+//! The answer's way into its file, and the report's after it.
+ghost use Rattle.std.specs.Prelude.{◌≡◌, ◌≤◌, ◌⊎◌, IfErr, IfOk, OnErr, OnOk};
 ghost use Rattle.mp_model.specs.Answers.{one_thread_answer};
 ghost use Rattle.mp_model.specs.Legal.{EventsAreLegal};
 ghost use Rattle.mp_output.specs.Rows.{GivesRows};
@@ -11,15 +11,17 @@ ghost use Rattle.mp_job.specs.Legal.{ControlsFit};
 ghost use Rattle.mp_job.specs.Parts.{job_of};
 ghost use Rattle.mp_outline.specs.JobOutline.{outline_of};
 ghost use Rattle.mp_drive.specs.Schedule.{EndsAfter};
-ghost use Rattle.mp_cli.specs.Config.{shape_of};
+ghost use Rattle.mp_report.specs.Report.{AreTalliesOf, IsReport};
+ghost use Rattle.mp_cli.specs.Config.{job_asked, shape_of};
 ghost use Rattle.mp_cli.specs.Outcome.{StopsAnswer};
-ghost use Rattle.mp_cli.specs.Queries.{answer_of, stages_of};
+ghost use Rattle.mp_cli.specs.Queries.{IsReportOf, answer_of, stages_of};
 ghost use Rattle.mp_cli.specs.Refused.{EndsAs, outcome_of};
-ghost use Rattle.mp_cli.specs.Writing.{HoldsPart};
+ghost use Rattle.mp_cli.specs.Writing.{HoldsPart, WritesReport, WritesReportPart};
 
 use crate::refusal::Refusal;
+use crate::reporting::report_to;
 use crate::shape::shape_of;
-use mp_drive::{DriveStop, replay};
+use mp_drive::{DriveStop, Replayed, replay_with_tallies};
 use mp_gate::Gate;
 use mp_job::{Control, Job};
 use mp_model::{Event, Query};
@@ -33,8 +35,8 @@ use std::alloc::Global;
 use std::marker::Brand;
 
 /// Runs the dataflow that a command asks for on these events, with its bins moved as these control records
-/// say, and makes its file hold the answer. `WriteFault`: the file couldn't be begun or appended to;
-/// `NoMemory`: no memory.
+/// say, and makes its file hold the answer, and then that of the report, where one is asked for, the report.
+/// `WriteFault`: a file couldn't be begun or appended to; `NoMemory`: no memory.
 pub fn write_answer<'a, D: Depot, G: Gate>(
     alloc: Global,
     depot: &mut D,
@@ -46,10 +48,16 @@ pub fn write_answer<'a, D: Depot, G: Gate>(
     requires options { AreWithinLimits options.now }
     requires events { EventsAreLegal events.items }
     requires controls { ControlsFit (shape_of (options_in options.now)) controls.items }
-    ensures whole { let answer = answer_of options.now.query events.items in
-        OnOk result (D.files depot.new ≡ with_file (D.files depot.old) options.now.out.now answer) }
-    ensures part { let answer = answer_of options.now.query events.items in
-        OnErr result (HoldsPart (D.files depot.old) (D.files depot.new) options.now.out.now answer) }
+    ensures whole { let asked = options_in options.now in
+        let answered = with_file (D.files depot.old) asked.out (answer_of asked.query events.items) in
+        let job = job_asked asked events.items controls.items in
+        OnOk result (WritesReport (IsReportOf asked.query job) asked.report answered (D.files depot.new)) }
+    ensures part { let asked = options_in options.now in
+        let answer = answer_of asked.query events.items in
+        let job = job_asked asked events.items controls.items in
+        OnErr result (HoldsPart (D.files depot.old) (D.files depot.new) asked.out answer
+        ⊎ WritesReportPart (IsReportOf asked.query job) asked.report
+        (with_file (D.files depot.old) asked.out answer) (D.files depot.new)) }
     ensures refused { IfErr result (λ r. StopsAnswer (outcome_of r)) }
 
     ensures failed { IfErr result (λ r. EndsAs r 7
@@ -67,8 +75,8 @@ pub fn write_answer<'a, D: Depot, G: Gate>(
     }
 }
 
-/// Runs a query on these events, with bins moved by these control records, and makes the file hold its
-/// answer.
+/// Runs a query on these events, with bins moved by these control records, and makes the files hold its
+/// answer and its report.
 fn run_query<'a, D: Depot, Q: Query, G: Gate>(
     alloc: Global,
     depot: &mut D,
@@ -83,10 +91,18 @@ fn run_query<'a, D: Depot, Q: Query, G: Gate>(
     requires controls { ControlsFit (shape_of (options_in options.now)) controls.items }
     requires stages { stages_of options.now.query ≡ Q.STAGES }
     requires rows { GivesRows (Q.facts (Q.rules query)) }
-    ensures whole { let answer = one_thread_answer (Q.facts (Q.rules query)) events.items in
-        OnOk result (D.files depot.new ≡ with_file (D.files depot.old) options.now.out.now answer) }
-    ensures part { let answer = one_thread_answer (Q.facts (Q.rules query)) events.items in
-        OnErr result (HoldsPart (D.files depot.old) (D.files depot.new) options.now.out.now answer) }
+    ensures whole { let q = Q.facts (Q.rules query) in
+        let asked = options_in options.now in
+        let answered = with_file (D.files depot.old) asked.out (one_thread_answer q events.items) in
+        let job = job_of (Q.rules query) events.items controls.items (shape_of asked) in
+        OnOk result (WritesReport (IsReport q job) asked.report answered (D.files depot.new)) }
+    ensures part { let q = Q.facts (Q.rules query) in
+        let asked = options_in options.now in
+        let answer = one_thread_answer q events.items in
+        let job = job_of (Q.rules query) events.items controls.items (shape_of asked) in
+        OnErr result (HoldsPart (D.files depot.old) (D.files depot.new) asked.out answer
+        ⊎ WritesReportPart (IsReport q job) asked.report
+        (with_file (D.files depot.old) asked.out answer) (D.files depot.new)) }
     ensures refused { IfErr result (λ r. StopsAnswer (outcome_of r)) }
 
     ensures failed { IfErr result (λ r. EndsAs r 7
@@ -96,8 +112,8 @@ fn run_query<'a, D: Depot, Q: Query, G: Gate>(
     Ok(())
 }
 
-/// Runs a query on these events, with bins moved by these control records, and makes the file hold its
-/// answer: how many steps the workers made, which are those of the schedule of the command's seed, at its
+/// Runs a query on these events, with bins moved by these control records, and makes the files hold its
+/// answer and its report: how many steps the workers made, which are those of the schedule of the command's seed, at its
 /// depth, for the job of its shape and these control records.
 fn run_asked<'a, D: Depot, Q: Query, G: Gate>(
     alloc: Global,
@@ -116,17 +132,64 @@ fn run_asked<'a, D: Depot, Q: Query, G: Gate>(
     ensures made { let q = Q.facts (Q.rules query) in
         let job = job_of (Q.rules query) events.items controls.items (shape_of (options_in options.now)) in
         IfOk result (λ n. EndsAfter (outline_of q job) options.now.depth options.now.seed n) }
-    ensures whole { let answer = one_thread_answer (Q.facts (Q.rules query)) events.items in
-        OnOk result (D.files depot.new ≡ with_file (D.files depot.old) options.now.out.now answer) }
-    ensures part { let answer = one_thread_answer (Q.facts (Q.rules query)) events.items in
-        OnErr result (HoldsPart (D.files depot.old) (D.files depot.new) options.now.out.now answer) }
+    ensures whole { let q = Q.facts (Q.rules query) in
+        let asked = options_in options.now in
+        let answered = with_file (D.files depot.old) asked.out (one_thread_answer q events.items) in
+        let job = job_of (Q.rules query) events.items controls.items (shape_of asked) in
+        OnOk result (WritesReport (IsReport q job) asked.report answered (D.files depot.new)) }
+    ensures part { let q = Q.facts (Q.rules query) in
+        let asked = options_in options.now in
+        let answer = one_thread_answer q events.items in
+        let job = job_of (Q.rules query) events.items controls.items (shape_of asked) in
+        OnErr result (HoldsPart (D.files depot.old) (D.files depot.new) asked.out answer
+        ⊎ WritesReportPart (IsReport q job) asked.report
+        (with_file (D.files depot.old) asked.out answer) (D.files depot.new)) }
     ensures refused { IfErr result (λ r. StopsAnswer (outcome_of r)) }
 
     ensures failed { IfErr result (λ r. EndsAs r 7
         → Rose (D.write_faults depot.old) (D.write_faults depot.new)) }
 {
     let job = Job::new(alloc, query, events, controls, shape_of(options))?;
+    let run = answer_to(alloc, depot, options, &job, gate)?;
+    if let Some(name) = options.report {
+        report_to(alloc, depot, name, &job, run.tallies.as_slice())?;
+    }
+    Ok(run.steps)
+}
+
+/// Runs a job by the schedule of the command's seed, at its depth, and makes the file hold the answer: how many
+/// steps the workers made, and what each has done.
+fn answer_to<'a, D: Depot, Q: Query, G: Gate>(
+    alloc: Global,
+    depot: &mut D,
+    options: &RunOptions<'a>,
+    job: &Job<Q>,
+    gate: &G,
+) -> Result<Replayed, Refusal<'a>>
+    requires options { AreWithinLimits options.now }
+    requires rows { GivesRows (Q.facts job.now.rules) }
+    ensures made { let o = outline_of (Q.facts job.now.rules) job.now in
+        IfOk result (λ run. EndsAfter o options.now.depth options.now.seed run.steps) }
+    ensures tallies { IfOk result (λ run.
+        AreTalliesOf (Q.facts job.now.rules) job.now run.tallies.items) }
+    ensures whole { let answer = one_thread_answer (Q.facts job.now.rules) job.now.events in
+        OnOk result (D.files depot.new ≡ with_file (D.files depot.old) options.now.out.now answer) }
+    ensures part { let answer = one_thread_answer (Q.facts job.now.rules) job.now.events in
+        OnErr result (HoldsPart (D.files depot.old) (D.files depot.new) options.now.out.now answer) }
+    ensures refused { IfErr result (λ r. StopsAnswer (outcome_of r)) }
+
+    ensures failed { IfErr result (λ r. EndsAs r 7
+        → Rose (D.write_faults depot.old) (D.write_faults depot.new)) }
+    ensures faults_grow { D.write_faults depot.old ≤ D.write_faults depot.new }
+{
     depot.begin(options.out)?;
     let mut sink = DepotSink::new(depot, options.out);
-    Ok(replay::<Q, Brand, _, _>(alloc, &job, options.depth, options.seed, gate, &mut sink)?)
+    Ok(replay_with_tallies::<Q, Brand, _, _>(
+        alloc,
+        job,
+        options.depth,
+        options.seed,
+        gate,
+        &mut sink,
+    )?)
 }

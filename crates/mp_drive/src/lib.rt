@@ -15,5 +15,5 @@ mod tallies;
 
 pub use mp_draws::Draws;
 pub use plain::Plain;
-pub use run::replay;
+pub use run::{Replayed, replay, replay_with_tallies};
 pub use stop::DriveStop;

@@ -1,5 +1,5 @@
 //! What comes of faults: which come first, and what then stands in the answer's file.
-use crate::fixture::{Q1, cut, ended, files};
+use crate::fixture::{Q1, cut, ended, ended_by, files};
 use mp_cli::run;
 use mp_gate::OpenGate;
 use mp_outside::{MemSink, Op};
@@ -85,6 +85,38 @@ fn failing_calls(rt: HostRuntime) -> Result<(), Fail> {
         let end = (code, said.bytes(), depot.get("o"));
         assert_eq!(rt; end, (status, says.as_bytes(), answer), "{name}");
     }
+    Ok(())
+}
+
+#[test]
+fn report_cannot_begin(rt: HostRuntime) -> Result<(), Fail> {
+    let mut depot = files(rt.alloc(), THREE_BIDS, b"")?;
+    depot.put("r", b"as it was")?;
+    depot.fail(Op::Begin, 2)?;
+    let line = "megaphone run --query q1 --events e --config c --out o --report r";
+    let (code, said) = ended_by(&rt, &mut depot, line)?;
+    let end = (code, said.bytes(), depot.get("o"), depot.get("r"));
+    let was = Some(b"as it was".as_slice());
+    assert_eq!(rt;
+        end,
+        (7, b"write fault\n".as_slice(), Some(THREE_ROWS), was)
+    );
+    Ok(())
+}
+
+#[test]
+fn report_is_cut_short(rt: HostRuntime) -> Result<(), Fail> {
+    let mut depot = files(rt.alloc(), THREE_BIDS, b"")?;
+    depot.fail(Op::Append, 4)?;
+    let line =
+        "megaphone run --query q1 --events e --config c --out o --report r --workers 2 --bins 1";
+    let (code, said) = ended_by(&rt, &mut depot, line)?;
+    let end = (code, said.bytes(), depot.get("o"), depot.get("r"));
+    let begun = Some(b"worker 0 3\n".as_slice());
+    assert_eq!(rt;
+        end,
+        (7, b"write fault\n".as_slice(), Some(THREE_ROWS), begun)
+    );
     Ok(())
 }
 

@@ -26,7 +26,16 @@ pub fn cut(alloc: Global, line: &str) -> Result<Vec<String>, AllocError> {
 
 /// Runs q1 on the files of a depot: the status, and what was said.
 pub fn ended<R: AllocGlobal, D: Depot>(rt: &R, depot: &mut D) -> Result<(u8, MemSink), AllocError> {
-    let words = cut(rt.alloc(), Q1)?;
+    ended_by(rt, depot, Q1)
+}
+
+/// Does what a line says on the files of a depot: the status, and what was said.
+pub fn ended_by<R: AllocGlobal, D: Depot>(
+    rt: &R,
+    depot: &mut D,
+    line: &str,
+) -> Result<(u8, MemSink), AllocError> {
+    let words = cut(rt.alloc(), line)?;
     let mut said = MemSink::new(rt.alloc());
     let ended = run(rt, words.as_slice(), depot, &mut said, &OpenGate);
     Ok((ended.code, said))

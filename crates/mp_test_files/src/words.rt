@@ -11,6 +11,7 @@ const ASKED: RunOptions<'static> = RunOptions {
     events: "e",
     config: "c",
     out: "o",
+    report: None,
     workers: 1,
     bins: 16,
     depth: 64,
@@ -85,6 +86,20 @@ fn options_come_in_any_order(rt: HostRuntime) -> Result<(), Fail> {
         (
             "m replay --query q2 --events e --config c --out o --workers 3 --bins 32 --depth 5 --seed 9",
             seeded,
+        ),
+        (
+            "m run --query q1 --report r --events e --config c --out o",
+            RunOptions {
+                report: Some("r"),
+                ..ASKED
+            },
+        ),
+        (
+            "m replay --query q1 --events e --config c --out o --report=e2",
+            RunOptions {
+                report: Some("e2"),
+                ..ASKED
+            },
         ),
         (
             "m replay --seed 9 --depth 5 --out o --bins 32 --config c --workers 3 --events e --query q2",

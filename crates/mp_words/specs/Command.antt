@@ -20,6 +20,7 @@ defaulted name value = record (valued name) { defaults = value ∷ [] }
 abbrev pub shared_rules : List Rule
 shared_rules =
     needed (codes "query") ∷ needed (codes "events") ∷ needed (codes "config") ∷ needed (codes "out")
+    ∷ valued (codes "report")
     ∷ defaulted (codes "workers") (codes "1") ∷ defaulted (codes "bins") (codes "16") ∷ defaulted (codes "depth") (codes "64") ∷ []
 
 -- a command with these options

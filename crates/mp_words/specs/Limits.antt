@@ -1,5 +1,5 @@
 -- What holds of whatever a command asks for.
-use Rattle.std.specs.Prelude.{◌≡◌, ◌≢◌, ◌≤◌, ◌^◌, ℕ}
+use Rattle.std.specs.Prelude.{◌≡◌, ◌≢◌, ◌≤◌, ◌^◌, ℕ, List, IfSome}
 use Rattle.mp_names.specs.Limits.{deepest_mailbox, greatest_seed, most_events, most_workers}
 use Rattle.mp_words.specs.declared.options.CheckOptions.{CheckOptions}
 use Rattle.mp_words.specs.declared.options.Command.{Command}
@@ -16,7 +16,13 @@ IsPositiveUpTo most n = (1 ≤ n) × (n ≤ most)
 abbrev pub IsBinCount : ℕ → Type 0
 IsBinCount bins = (k : ℕ) × (k ≤ 8) × (bins ≡ 2 ^ k)
 
--- the numbers are within their limits, and the answer is written to neither of the files that are read
+-- the name is neither of those that are read, nor that of the answer
+pub record IsApart (options : RunOptions) (name : List ℕ) : Type 0 where
+  pub events : name ≢ options.events.now
+  pub config : name ≢ options.config.now
+  pub out : name ≢ options.out.now
+
+-- the numbers are within their limits, and the answer is written to neither of the files that are read, and the report to a name of its own
 pub record AreWithinLimits (options : RunOptions) : Type 0 where
   pub workers : IsPositiveUpTo most_workers options.workers
   pub bins : IsBinCount options.bins
@@ -24,6 +30,7 @@ pub record AreWithinLimits (options : RunOptions) : Type 0 where
   pub seed : options.seed ≤ greatest_seed
   pub events : options.out.now ≢ options.events.now
   pub config : options.out.now ≢ options.config.now
+  pub report : IfSome options.report (λ report. IsApart options report.now)
 
 -- the numbers of `check` are within their limits
 pub record CheckIsWithinLimits (options : CheckOptions) : Type 0 where

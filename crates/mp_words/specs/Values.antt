@@ -1,6 +1,7 @@
 -- What values of options ask for.
-use Rattle.std.specs.Prelude.{ℕ, List, Option, Some, None, ◌||◌, ◌==◌, codes, if◌then◌else◌, option_and_then}
+use Rattle.std.specs.Prelude.{ℕ, List, Bool, false, Option, Some, None, ◌||◌, ◌==◌, codes, if◌then◌else◌, option_and_then, option_map}
 use Rattle.std.specs.Int.{is_power_of_two}
+use Rattle.std.specs.Option.{option_map_or}
 use Rattle.std.specs.Result.{result_ok}
 use Rattle.std.specs.Str.{bytes_eq}
 use Rattle.mp_text.specs.Numbers.{number_of}
@@ -19,6 +20,7 @@ pub record Options : Type 0 where
   pub events : List ℕ
   pub config : List ℕ
   pub out : List ℕ
+  pub report : Option (List ℕ)
   pub workers : ℕ
   pub bins : ℕ
   pub depth : ℕ
@@ -45,6 +47,7 @@ options_in o = record {
   events = o.events.now;
   config = o.config.now;
   out = o.out.now;
+  report = option_map (λ name. name.now) o.report;
   workers = o.workers;
   bins = o.bins;
   depth = o.depth;
@@ -101,12 +104,17 @@ abbrev pub seed_of : Option (List ℕ) → Option ℕ
 seed_of (Some text) = number_up_to greatest_seed text
 seed_of None = Some 0
 
--- all of them, where the answer's name is neither of the two others
-abbrev pub together : Option QueryName → Option (List ℕ) → Option (List ℕ) → Option (List ℕ) → Option ℕ → Option ℕ → Option ℕ → Option ℕ → Option Options
-together (Some query) (Some events) (Some config) (Some out) (Some workers) (Some bins) (Some depth) (Some seed) =
+-- a name is one of these three: that of the events, of the configuration or of the answer
+abbrev pub is_one_of : List ℕ → List ℕ → List ℕ → List ℕ → Bool
+is_one_of events config out name = bytes_eq name events || (bytes_eq name config || bytes_eq name out)
+
+-- all of them, where the answer's name is neither of those that are read, and the report's is none of these three
+abbrev pub together : Option QueryName → Option (List ℕ) → Option (List ℕ) → Option (List ℕ) → Option (List ℕ) → Option ℕ → Option ℕ → Option ℕ → Option ℕ → Option Options
+together (Some query) (Some events) (Some config) (Some out) report (Some workers) (Some bins) (Some depth) (Some seed) =
     if bytes_eq out events || bytes_eq out config then None
-    else Some (record { query = query; events = events; config = config; out = out; workers = workers; bins = bins; depth = depth; seed = seed })
-together _ _ _ _ _ _ _ _ = None
+    else if option_map_or (is_one_of events config out) report false then None
+    else Some (record { query = query; events = events; config = config; out = out; report = report; workers = workers; bins = bins; depth = depth; seed = seed })
+together _ _ _ _ _ _ _ _ _ = None
 
 -- what the values that clap found for the options of `run` or `replay` ask for, if each is allowed
 abbrev pub options_of : List Row → Option Options
@@ -115,6 +123,7 @@ options_of rows = together
     (first_of (codes "events") rows)
     (first_of (codes "config") rows)
     (first_of (codes "out") rows)
+    (first_of (codes "report") rows)
     (option_and_then (positive_up_to most_workers) (first_of (codes "workers") rows))
     (option_and_then (power_up_to most_bins) (first_of (codes "bins") rows))
     (option_and_then (positive_up_to deepest_mailbox) (first_of (codes "depth") rows))

@@ -38,6 +38,7 @@ fn shared_command<'a>(alloc: Global, name: &'a str) -> Result<Command<'a>, Alloc
         .arg(needed(alloc, "events"))?
         .arg(needed(alloc, "config"))?
         .arg(needed(alloc, "out"))?
+        .arg(valued(alloc, "report"))?
         .arg(defaulted(alloc, "workers", "1"))?
         .arg(defaulted(alloc, "bins", "16"))?
         .arg(defaulted(alloc, "depth", "64"))

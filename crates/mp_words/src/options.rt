@@ -45,6 +45,8 @@ pub struct RunOptions<'a> {
     pub config: &'a str,
     /// The name that the answer is written to, which is neither of the two others.
     pub out: &'a str,
+    /// The name that the report is written to, if one is asked for: none of the three others.
+    pub report: Option<&'a str>,
     /// How many workers run the dataflow, from 1 to [`MAX_WORKERS`](mp_names::limits::MAX_WORKERS).
     pub workers: u32,
     /// How many bins a keyed state is cut into: a power of two from 1 to [`MAX_BINS`](mp_names::limits::MAX_BINS).

@@ -5,7 +5,7 @@ ghost use Rattle.mp_words.specs.Limits.{AreWithinLimits, CheckIsWithinLimits, De
 ghost use Rattle.mp_words.specs.Limits.{IsBinCount, IsPositiveUpTo, MakeIsWithinLimits};
 ghost use Rattle.mp_names.specs.Limits.{greatest_seed, most_bins, most_events};
 ghost use Rattle.mp_words.specs.Values.{check_in, check_of, count_of, demo_of, make_in, make_of, number_up_to, options_in};
-ghost use Rattle.mp_words.specs.Values.{options_of, positive_up_to, power_up_to, query_of, seed_of};
+ghost use Rattle.mp_words.specs.Values.{is_one_of, options_of, positive_up_to, power_up_to, query_of, seed_of};
 
 use crate::options::{CheckOptions, DemoOptions, MakeOptions, QueryName, RunOptions};
 use clap::ArgMatches;
@@ -22,16 +22,26 @@ pub fn run_options<'a>(matches: &ArgMatches<'a>) -> Option<RunOptions<'a>>
         events: text(matches, "events")?,
         config: text(matches, "config")?,
         out: text(matches, "out")?,
+        report: text(matches, "report"),
         workers: positive_number(text(matches, "workers")?, MAX_WORKERS)?,
         bins: bins_named(text(matches, "bins")?)?,
         depth: positive_number(text(matches, "depth")?, MAX_DEPTH)?,
         seed: seed_named(text(matches, "seed"))?,
     };
     if options.out == options.events || options.out == options.config {
-        None
-    } else {
-        Some(options)
+        return None;
     }
+    match options.report {
+        Some(report) if is_named_before(&options, report) => None,
+        _ => Some(options),
+    }
+}
+
+/// Whether a name is that of the events, of the configuration or of the answer.
+fn is_named_before(options: &RunOptions, name: &str) -> bool
+    ensures { result ≡ is_one_of options.now.events.now options.now.config.now options.now.out.now name.now }
+{
+    name == options.events || name == options.config || name == options.out
 }
 
 /// What the options of `check` ask for, or `None` where a value isn't allowed.

@@ -1,4 +1,5 @@
 -- Each end is one that may come.
+use Rattle.std.proofs.Common.{inr, ◌∙◌}
 use Rattle.std.proofs.lemmas.Result.{err_from_is_err_and}
 use Rattle.mp_words.specs.Values.{options_in}
 use Rattle.mp_words.specs.Words.{Run}
@@ -32,3 +33,16 @@ returns-clause-line g c =
     let asked = options_in c.args.options.now in
     let config = rw (c.shape_of-shape.ensures, c.events_in.ensures.files) at c.in_ok-controls.ensures.config in
     rw c.new.ensures.items (may_answer (run_reading asked) (line_after (Run asked)) _ _ _ c.in_ok-events.ensures.events config)
+
+pub returns-clause-whole : goal.returns-clause-whole
+returns-clause-whole g c =
+    let config = rw (c.shape_of-shape.ensures, c.events_in.ensures.files) at c.in_ok-controls.ensures.config in
+    let writes = rw (c.controls_in.ensures.files ∙ c.events_in.ensures.files) at c.in_ok-write_answer.ensures.whole in
+    (c.in_ok-events.events.items, c.in_ok-controls.controls.items, c.in_ok-events.ensures.events, config, writes)
+
+pub returns-in_err-write_answer-clause-part : goal.returns-in_err-write_answer-clause-part
+returns-in_err-write_answer-clause-part g c =
+    let p = err_from_is_err_and c.from_residual-in_err-write_answer.result c.from_residual-in_err-write_answer.ensures.1 in
+    let config = rw (c.shape_of-shape.ensures, c.events_in.ensures.files) at c.in_ok-controls.ensures.config in
+    let writes = rw (c.controls_in.ensures.files ∙ c.events_in.ensures.files) at c.in_err-write_answer.ensures.part in
+    rw p.1 (inr (c.in_ok-events.events.items, c.in_ok-controls.controls.items, c.in_ok-events.ensures.events, config, writes))

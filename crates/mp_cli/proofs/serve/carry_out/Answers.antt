@@ -3,7 +3,7 @@ use Rattle.std.proofs.lemmas.Result.{on_ok_weaker, on_err_weaker}
 use Rattle.mp_words.specs.Values.{check_in, make_in, options_in}
 use Rattle.mp_words.specs.Words.{Demo, Make}
 use Rattle.mp_cli.specs.Lines.{line_after}
-use Rattle.mp_cli.proofs.Ending.{answered_from, checked_from, made_from, made_in_part, others_at_end, others_made, part_from}
+use Rattle.mp_cli.proofs.Ending.{apart_from_out, checked_from, made_from, made_in_part, others_at_end, others_made, run_from, run_part_from}
 use Rattle.mp_cli.proofs.Coming.{line_unread}
 use Rattle.mp_cli.proofs.serve.carry_out.Goals as goal
 
@@ -11,13 +11,15 @@ pub returns-in-Run-clause-answered : goal.returns-in-Run-clause-answered
 returns-in-Run-clause-answered g c =
     let told = g.D.Depot.files c.args.depot.now in
     let new = g.D.Depot.files c.answer.new.depot in
-    rw c.in-Run.is (on_ok_weaker c.answer.result (λ w. answered_from told new (options_in c.in-Run.options) w.0 w.1 w.2) c.answer.ensures.whole)
+    let apart = apart_from_out c.in-Run.options (rw c.in-Run.is at c.requires) in
+    rw c.in-Run.is (on_ok_weaker c.answer.result (λ w. run_from told new (options_in c.in-Run.options) apart w) c.answer.ensures.whole)
 
 pub returns-in-Run-clause-part : goal.returns-in-Run-clause-part
 returns-in-Run-clause-part g c =
     let told = g.D.Depot.files c.args.depot.now in
     let new = g.D.Depot.files c.answer.new.depot in
-    rw c.in-Run.is (on_err_weaker c.answer.result (λ w. part_from told new (options_in c.in-Run.options) w) c.answer.ensures.part)
+    let apart = apart_from_out c.in-Run.options (rw c.in-Run.is at c.requires) in
+    rw c.in-Run.is (on_err_weaker c.answer.result (λ w. run_part_from told new (options_in c.in-Run.options) apart w) c.answer.ensures.part)
 
 pub returns-in-Run-clause-others : goal.returns-in-Run-clause-others
 returns-in-Run-clause-others g c =

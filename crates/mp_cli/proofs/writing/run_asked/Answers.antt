@@ -1,31 +1,19 @@
--- The name holds what the run wrote, since it was begun.
-use Rattle.std.proofs.Common.{ap, inr, rules}
+-- The answer comes first, then the report.
+use Rattle.std.proofs.Common.{inl, inr}
 use Rattle.std.proofs.lemmas.Result.{err_from_is_err_and}
-use Rattle.mp_outside.proofs.FileLemmas.{there_begun}
-use Rattle.mp_cli.proofs.Written.{written_from_begun}
 use Rattle.mp_cli.proofs.writing.run_asked.Goals as goal
 
-pub new-sink-requires : goal.new-sink-requires
-new-sink-requires g c = there_begun _ _ _ _ c.in_ok-begin.ensures.begun
+pub returns-in_err-run-clause-part : goal.returns-in_err-run-clause-part
+returns-in_err-run-clause-part g c =
+    let p = err_from_is_err_and c.from_residual-in_err-run.result c.from_residual-in_err-run.ensures.1 in
+    rw p.1 (inl (rw c.in_ok-job.ensures at c.in_err-run.ensures.part))
 
-pub replay-requires-clause-rows : goal.replay-requires-clause-rows
-replay-requires-clause-rows g c κs within = rw c.in_ok-job.ensures c.requires.rows
-
-pub returns-in_err-replay-clause-part : goal.returns-in_err-replay-clause-part
-returns-in_err-replay-clause-part g c =
-    let part = c.in_err-replay.ensures.part in
-    let frame = rw (c.new-sink.ensures.depot, c.new-sink.ensures.name) at c.replay.ensures.appends_only.same_frame in
-    let here = rw (c.new-sink.ensures.depot, c.new-sink.ensures.name, c.in_ok-job.ensures) at part.1 in
-    let made = written_from_begun _ _ _ _ _ _ c.in_ok-begin.ensures.begun (ap (λ b. b.name) frame) here (ap (λ b. b.others) frame) in
-    let p = err_from_is_err_and c.from_residual-in_err-replay.result c.from_residual-in_err-replay.ensures.1 in
-    rw p.1 (inr (part.0, search rules))
-
-pub returns-clause-whole : goal.returns-clause-whole
-returns-clause-whole g c =
-    let frame = rw (c.new-sink.ensures.depot, c.new-sink.ensures.name) at c.replay.ensures.appends_only.same_frame in
-    let here = rw (c.new-sink.ensures.depot, c.new-sink.ensures.name, c.in_ok-job.ensures) at c.in_ok-replay.ensures.answer in
-    let made = written_from_begun _ _ _ _ _ _ c.in_ok-begin.ensures.begun (ap (λ b. b.name) frame) here (ap (λ b. b.others) frame) in
-    search rules
+pub returns-in_err-report_to-clause-part : goal.returns-in_err-report_to-clause-part
+returns-in_err-report_to-clause-part g c =
+    let p = err_from_is_err_and c.from_residual-in_err-report_to.result c.from_residual-in_err-report_to.ensures.1 in
+    let whole = rw c.in_ok-job.ensures at c.in_ok-run.ensures.whole in
+    let part = rw (c.in_ok-job.ensures, c.shape_of.ensures, whole) at c.in_err-report_to.ensures.part in
+    rw (p.1, c.in-Some.is) (inr part)
 
 pub returns-clause-made : goal.returns-clause-made
-returns-clause-made g c = rw (c.in_ok-job.ensures, c.shape_of.ensures) at c.in_ok-replay.ensures.made
+returns-clause-made g c = rw (c.in_ok-job.ensures, c.shape_of.ensures) at c.in_ok-run.ensures.made
