@@ -70,7 +70,8 @@ pub fn replay_with_tallies<Q: Query, J: Naming, S: Sink, G: Gate>(
     requires job { job.now ≡ J.job }
     requires rows { GivesRows (Q.facts J.job.rules) }
     requires depth { 0 < depth }
-    ensures made { IfOk result (λ run. EndsAfter (outline_of (Q.facts J.job.rules) J.job) depth seed run.steps) }
+    ensures made { let o = outline_of (Q.facts J.job.rules) J.job in
+        IfOk result (λ run. EndsAfter o depth seed run.steps) }
     ensures all { IfOk result (λ run. length run.tallies.items ≡ J.job.shape.workers) }
     ensures tallies { IfOk result (λ run. (w : ℕ) (t : Told) → slice_get run.tallies.items w ≡ Some t
         → IsTallyOf (Q.facts J.job.rules) J.job w t) }
