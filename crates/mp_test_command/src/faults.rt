@@ -1,5 +1,5 @@
 //! What comes of faults: which come first, and what then stands in the answer's file.
-use crate::fixture::{Q1, cut, ended, ended_by, files};
+use crate::fixture::{Q1, cut, ended_by, files};
 use mp_cli::run;
 use mp_gate::OpenGate;
 use mp_outside::{MemSink, Op};
@@ -9,14 +9,17 @@ const THREE_BIDS: &[u8] = b"B|5|7|2|100\nB|3|7|1|250\nB|5|2|9|99\n";
 
 const THREE_ROWS: &[u8] = b"3|7|1|222\n5|2|9|88\n5|7|2|89\n";
 
+const WITH_REPORT: &str = "megaphone run --query q1 --events e --config c --out o --report r";
+
 const FIRST_ROW: Option<&[u8]> = Some(b"3|7|1|222\n");
 
 #[test]
 fn failing_calls(rt: HostRuntime) -> Result<(), Fail> {
     let bad = b"x".as_slice();
-    for (name, events, op, nth, status, says, answer) in [
+    for (name, line, events, op, nth, status, says, answer) in [
         (
             "append_fails",
+            Q1,
             THREE_BIDS,
             Op::Append,
             2,
@@ -26,6 +29,7 @@ fn failing_calls(rt: HostRuntime) -> Result<(), Fail> {
         ),
         (
             "begin_fails",
+            Q1,
             THREE_BIDS,
             Op::Begin,
             1,
@@ -35,6 +39,7 @@ fn failing_calls(rt: HostRuntime) -> Result<(), Fail> {
         ),
         (
             "lines_of_a_time_are_one_piece",
+            Q1,
             THREE_BIDS,
             Op::Append,
             3,
@@ -44,6 +49,7 @@ fn failing_calls(rt: HostRuntime) -> Result<(), Fail> {
         ),
         (
             "unreadable_events",
+            Q1,
             THREE_BIDS,
             Op::Read,
             1,
@@ -53,6 +59,7 @@ fn failing_calls(rt: HostRuntime) -> Result<(), Fail> {
         ),
         (
             "unfindable_config",
+            Q1,
             THREE_BIDS,
             Op::Find,
             2,
@@ -62,6 +69,7 @@ fn failing_calls(rt: HostRuntime) -> Result<(), Fail> {
         ),
         (
             "bad_events_come_before_the_configuration",
+            Q1,
             bad,
             Op::Find,
             2,
@@ -71,6 +79,7 @@ fn failing_calls(rt: HostRuntime) -> Result<(), Fail> {
         ),
         (
             "events_are_found_first",
+            Q1,
             bad,
             Op::Find,
             1,
@@ -78,45 +87,33 @@ fn failing_calls(rt: HostRuntime) -> Result<(), Fail> {
             "read fault\n",
             None,
         ),
+        (
+            "report_cannot_begin",
+            WITH_REPORT,
+            THREE_BIDS,
+            Op::Begin,
+            2,
+            7,
+            "write fault\n",
+            Some(THREE_ROWS),
+        ),
+        (
+            "report_is_cut_short",
+            WITH_REPORT,
+            THREE_BIDS,
+            Op::Append,
+            3,
+            7,
+            "write fault\n",
+            Some(THREE_ROWS),
+        ),
     ] {
         let mut depot = files(rt.alloc(), events, b"")?;
         depot.fail(op, nth)?;
-        let (code, said) = ended(&rt, &mut depot)?;
+        let (code, said) = ended_by(&rt, &mut depot, line)?;
         let end = (code, said.bytes(), depot.get("o"));
         assert_eq!(rt; end, (status, says.as_bytes(), answer), "{name}");
     }
-    Ok(())
-}
-
-#[test]
-fn report_cannot_begin(rt: HostRuntime) -> Result<(), Fail> {
-    let mut depot = files(rt.alloc(), THREE_BIDS, b"")?;
-    depot.put("r", b"as it was")?;
-    depot.fail(Op::Begin, 2)?;
-    let line = "megaphone run --query q1 --events e --config c --out o --report r";
-    let (code, said) = ended_by(&rt, &mut depot, line)?;
-    let end = (code, said.bytes(), depot.get("o"), depot.get("r"));
-    let was = Some(b"as it was".as_slice());
-    assert_eq!(rt;
-        end,
-        (7, b"write fault\n".as_slice(), Some(THREE_ROWS), was)
-    );
-    Ok(())
-}
-
-#[test]
-fn report_is_cut_short(rt: HostRuntime) -> Result<(), Fail> {
-    let mut depot = files(rt.alloc(), THREE_BIDS, b"")?;
-    depot.fail(Op::Append, 4)?;
-    let line =
-        "megaphone run --query q1 --events e --config c --out o --report r --workers 2 --bins 1";
-    let (code, said) = ended_by(&rt, &mut depot, line)?;
-    let end = (code, said.bytes(), depot.get("o"), depot.get("r"));
-    let begun = Some(b"worker 0 3\n".as_slice());
-    assert_eq!(rt;
-        end,
-        (7, b"write fault\n".as_slice(), Some(THREE_ROWS), begun)
-    );
     Ok(())
 }
 
