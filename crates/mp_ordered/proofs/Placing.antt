@@ -1,8 +1,12 @@
 -- Where an item is put, and that the order is kept.
-use Rattle.std.proofs.Common.{◌≡◌, ℕ, zero, suc, ◌<◌, ◌≤◌, ◌-◌, ◌⊎◌, ◌==◌, nat_lt, Bool, true, false, cond, ◌&&◌, List, [], ◌∷◌, length, drop, get_or, All, AllPairs, refl, ap, ◌∙◌, subst, inl, inr, ⊎_elim, arith}
-use Rattle.std.specs.List.{insert}
-use Rattle.std.proofs.lemmas.Bool.{false≢true, eqb-true, eq-eqb, ltb-true, lt-ltb, and_parts, and_from, or_cases, or_left, or_right, both_ways, cases_Bool, cases_order, false_from_ne_true}
+use Rattle.std.proofs.Common.{◌≡◌, ℕ, zero, suc, ◌+◌, ◌<◌, ◌≤◌, ◌-◌, ◌⊎◌, ◌==◌, nat_lt, Bool, true, false, cond, ◌&&◌, Some, List, [], ◌∷◌, length, drop, get_or, All, AllPairs, refl, sym, ap, ◌∙◌, subst, inl, inr, ⊎_elim, arith}
+use Rattle.std.specs.List.{insert, prefix_len, remove}
+use Rattle.std.specs.List.Sorted.{IsPartitionPoint, IsPartitionedBy}
+use Rattle.std.specs.Prelude.{slice_get}
+use Rattle.std.proofs.lemmas.Bool.{false≢true, eqb-true, eq-eqb, ltb-true, lt-ltb, and_parts, and_from, or_cases, or_left, or_right, both_ways, cases_Bool, cases_lt, cases_order, false_from_ne_true}
 use Rattle.std.proofs.lemmas.List.{get_or_default}
+use Rattle.std.proofs.lemmas.List.Edits.{get_or-remove_above, get_or-remove_below, length-remove}
+use Rattle.std.proofs.lemmas.List.Sums.{prefix_len_passes, prefix_len_stops}
 use Rattle.std.proofs.lemmas.List.Elements.{All-nil, All-cons, All-head, All-tail, All-weaker, All-from_get_or}
 use Rattle.std.proofs.lemmas.List.Kept.{AllPairs-cons}
 use Rattle.mp_names.specs.Names.{is_before}
@@ -81,6 +85,23 @@ module _ {X : Type 0} (R : X → X → Type 0) where
   pairs_drop (suc n) [] h = h
   pairs_drop (suc n) (x ∷ xs) h = pairs_drop n xs (pairs_tail x xs h)
 
+  pair_too : (a b x y : X) → x ≡ a → y ≡ b → R a b → R x y
+  pair_too a b x y e f h = subst (λ (z : X). R z y) (sym e) (subst (λ (z : X). R a z) (sym f) h)
+
+  pub pairs_without : (xs : List X) (i : ℕ) → i < length xs → AllPairs R xs → AllPairs R (remove xs i)
+  pairs_without xs i l h = λ k j d m n.
+      let one_less = length-remove xs i l in
+      let at = λ (q : ℕ). get_or xs q d in
+      ⊎_elim
+      (λ (a : j < i). pair_too (at k) (at j) _ _ (get_or-remove_below xs i d k (omega arith) l) (get_or-remove_below xs i d j a l) (h k j d m (omega arith)))
+      (λ (a : i ≤ j).
+      let later = get_or-remove_above xs i d j a l in
+      ⊎_elim
+      (λ (b : k < i). pair_too (at k) (at (j + 1)) _ _ (get_or-remove_below xs i d k b l) later (h k (j + 1) d (omega arith) (omega arith)))
+      (λ (b : i ≤ k). pair_too (at (k + 1)) (at (j + 1)) _ _ (get_or-remove_above xs i d k b l) later (h (k + 1) (j + 1) d (omega arith) (omega arith)))
+      (cases_lt k i))
+      (cases_lt j i)
+
 module _ {T : Type 0} (rank : T → List ℕ) where
   -- the items of the list with an item at its place
   pub put_all : (P : T → Type 0) (x : T) (ys : List T) → P x → All P ys → All P (put_in_order rank x ys)
@@ -132,3 +153,19 @@ module _ {T : Type 0} (rank : T → List ℕ) where
   -- the place after the last item that comes before it
   pub placed_after : (x y : T) (ys : List T) (at : ℕ) → IsInOrder rank ys → 0 < at → at ≤ length ys → y ≡ get_or ys (at - 1) y → is_before (rank y) (rank x) ≡ true → ((k : ℕ) (d : T) → at ≤ k → k < length ys → is_before (rank (get_or ys k d)) (rank x) ≡ false) → insert ys at x ≡ put_in_order rank x ys
   placed_after x y ys at h pos l e b later = placed_at x ys at l (λ k d m. partitioned x ys h k (at - 1) d (omega arith) (omega arith) (subst (λ (z : T). is_before (rank z) (rank x) ≡ true) (e ∙ get_or_default ys (at - 1) y d (omega arith)) b)) (λ d m. later at d (omega arith) m)
+
+-- Where a list is parted
+
+module _ {T : Type 0} where
+  -- as many items are in front of a cut as pass its test
+  pub count_parts : (p : T → Bool) (xs : List T) → IsPartitionedBy p xs → IsPartitionPoint (λ y. p y ≡ true) (λ y. p y ≡ false) xs (prefix_len p xs)
+  count_parts p xs h = (
+    λ k d z l. prefix_len_passes p xs k d l,
+    λ k d l m. false_from_ne_true (p (get_or xs k d)) (λ e. both_ways (p (get_or xs (prefix_len p xs) d)) (prefix_len_stops p xs d (omega arith)) (h (prefix_len p xs) k d l m e)),
+  )
+
+  -- what stands at an index that was read
+  pub read_at : (xs : List T) (n : ℕ) (x : T) → slice_get xs n ≡ Some x → (n < length xs) × ((d : T) → get_or xs n d ≡ x)
+  read_at [] n x e = absurd (cc)
+  read_at (y ∷ ys) zero x e = (omega arith, λ d. let f : y ≡ x = cc (e) in f)
+  read_at (y ∷ ys) (suc n) x e = let r = read_at ys n x e in (let l = r.0 in omega arith, r.1)

@@ -1,15 +1,20 @@
-//! Blocks of items, each with memory for 128 and with fewer items.
-ghost use Rattle.std.specs.Prelude.{◌≡◌, ◌≤◌, ◌<◌, ◌+◌, ◌⊎◌, ◌++◌, ◌∷◌, [], All, drop, get_or, length, slice_get, IfNone, IfSome, OnOk, Some};
-ghost use Rattle.std.specs.List.{insert};
-ghost use Rattle.std.specs.declared.vec.Vec.{Vec};
+//! Blocks of items, each a ring with memory for 128 and with fewer items.
+ghost use Rattle.std.specs.Prelude.{◌≡◌, ◌≤◌, ◌<◌, ◌+◌, ◌-◌, ◌⊎◌, ◌++◌, ◌∷◌, [], All, get_or, length, slice_get, take, IfNone, IfOk, IfSome, OnOk, Some};
+ghost use Rattle.std.specs.List.{insert, prefix_len, remove};
+ghost use Rattle.std.specs.List.Sorted.{IsPartitionedBy};
+ghost use Rattle.std.specs.declared.collections.VecDeque.{VecDeque};
 ghost use Rattle.std.specs.Vec.{vec_capacity};
+ghost use Rattle.std.specs.VecDeque.{deque_capacity};
 ghost use Rattle.std.specs.declared.alloc.Global.{Global};
 ghost use Rattle.mp_names.specs.Names.{is_before};
-ghost use Rattle.mp_ordered.specs.Blocks.{AreFilled, HasMemory, IsBlockFor, IsSpare, IsSplit, begins_before, items_of};
+ghost use Rattle.mp_ordered.specs.Blocks.{AreFilled, HasMemory, IsBlockFor, IsCutIn, IsSpare, IsSplit, begins_before, items_of};
 ghost use Rattle.mp_ordered.specs.InOrder.{IsInOrder, first_from, put_in_order};
+ghost use Rattle.mp_ordered.specs.Runs.{begins};
 
+use crate::cut::Cut;
 use crate::order::Order;
 use std::alloc::{AllocError, Global};
+use std::collections::VecDeque;
 
 /// As many items as a block is split at, which is twice as many as each half has.
 pub const FULL: usize = 128;
@@ -28,8 +33,34 @@ pub fn place_of<T, O: Order<T>>(items: &[T], item: &T) -> usize
     )
 }
 
+/// How many items of a block come before one.
+pub fn place_in<T, O: Order<T>>(block: &VecDeque<T>, item: &T) -> usize
+    requires { IsInOrder O.rank block.now.items }
+    ensures inside { result ≤ length block.now.items }
+    ensures place { insert block.now.items result item.now ≡ put_in_order O.rank item.now block.now.items }
+    ensures count { result ≡ prefix_len (λ y. is_before (O.rank y) (O.rank item.now)) block.now.items }
+{
+    block.partition_point(
+        |other: &T| -> bool
+            ensures { result ≡ is_before (O.rank other.now) (O.rank item.entry.now) }
+        { O::is_before(other, item) },
+    )
+}
+
+/// How many items of a block stand in front of a cut.
+pub fn cut_in<T, C: Cut<T>>(block: &VecDeque<T>, cut: &C) -> usize
+    requires { IsPartitionedBy (C.front cut.now) block.now.items }
+    ensures { result ≡ prefix_len (C.front cut.now) block.now.items }
+{
+    block.partition_point(
+        |other: &T| -> bool
+            ensures { result ≡ C.front cut.entry.now other.now }
+        { cut.is_in_front(other) },
+    )
+}
+
 /// The block in which an item has its place.
-pub fn block_of<T, O: Order<T>>(blocks: &[Vec<T>], item: &T) -> usize
+pub fn block_of<T, O: Order<T>>(blocks: &[VecDeque<T>], item: &T) -> usize
     requires some { 0 < length blocks.now }
     requires order { IsInOrder O.rank (items_of blocks.now) }
     requires filled { AreFilled blocks.now }
@@ -37,24 +68,49 @@ pub fn block_of<T, O: Order<T>>(blocks: &[Vec<T>], item: &T) -> usize
     ensures place { IsBlockFor O.rank item.now blocks.now result }
 {
     blocks[1..].partition_point(
-        |block: &Vec<T>| -> bool
+        |block: &VecDeque<T>| -> bool
             ensures { result ≡ begins_before O.rank item.entry.now block.now.items }
         { begins_before::<T, O>(block, item) },
     )
 }
 
 // Whether a block begins with an item that comes before this one.
-fn begins_before<T, O: Order<T>>(block: &[T], item: &T) -> bool
-    ensures { result ≡ begins_before O.rank item.now block.now }
+fn begins_before<T, O: Order<T>>(block: &VecDeque<T>, item: &T) -> bool
+    ensures { result ≡ begins_before O.rank item.now block.now.items }
 {
-    match block.first() {
+    match block.front() {
         Some(first) => O::is_before(first, item),
         None => false,
     }
 }
 
+/// The block in which a cut is: the last one that begins in front of it, or the first one.
+pub fn cut_block<T, C: Cut<T>>(blocks: &[VecDeque<T>], cut: &C) -> usize
+    requires some { 0 < length blocks.now }
+    requires parted { IsPartitionedBy (C.front cut.now) (items_of blocks.now) }
+    requires filled { AreFilled blocks.now }
+    ensures inside { result < length blocks.now }
+    ensures cut { IsCutIn (C.front cut.now) blocks.now result }
+{
+    blocks[1..].partition_point(
+        |block: &VecDeque<T>| -> bool
+            ensures { result ≡ begins (C.front cut.entry.now) block.now.items }
+        { begins_in_front(block, cut) },
+    )
+}
+
+// Whether a block begins with an item in front of the cut.
+fn begins_in_front<T, C: Cut<T>>(block: &VecDeque<T>, cut: &C) -> bool
+    ensures { result ≡ begins (C.front cut.now) block.now.items }
+{
+    match block.front() {
+        Some(first) => cut.is_in_front(first),
+        None => false,
+    }
+}
+
 /// The item at an index, from 0, of those of all blocks; `None` exactly where there are no more.
-pub fn item_at<T>(blocks: &[Vec<T>], index: usize) -> Option<&T>
+pub fn item_at<T>(blocks: &[VecDeque<T>], index: usize) -> Option<&T>
     ensures some { IfSome result (λ x. slice_get (items_of blocks.now) index ≡ Some x.now) }
     ensures none { IfNone result (length (items_of blocks.now) ≤ index) }
 {
@@ -68,22 +124,85 @@ pub fn item_at<T>(blocks: &[Vec<T>], index: usize) -> Option<&T>
     None
 }
 
+/// The item at a place in a block, or behind the block's last one the first of the next block; `None` exactly where there
+/// are no more.
+pub fn item_from<T>(blocks: &[VecDeque<T>], at: usize, place: usize) -> Option<&T>
+    requires at { at < length blocks.now }
+    requires place { (d : VecDeque T Global) → place ≤ length (get_or blocks.now at d).items }
+    requires filled { AreFilled blocks.now }
+    ensures some { IfSome result (λ x. slice_get (items_of blocks.now) (length (items_of (take at blocks.now)) + place) ≡ Some x.now) }
+    ensures none { IfNone result (length (items_of blocks.now) ≡ length (items_of (take at blocks.now)) + place) }
+{
+    if place < blocks[at].len() {
+        return Some(&blocks[at][place]);
+    }
+    if at + 1 < blocks.len() {
+        return Some(&blocks[at + 1][0]);
+    }
+    None
+}
+
+/// The items of all blocks, one block after the other. `AllocError`: no memory.
+pub fn copied<T: Copy + Drop>(blocks: &Vec<VecDeque<T>>) -> Result<Vec<T>, AllocError>
+    ensures { IfOk result (λ v. v.items ≡ items_of blocks.now.items) }
+{
+    let mut items = Vec::new(*blocks.allocator());
+    for block in blocks {
+        let (front, back) = block.as_slices();
+        items.extend_from_slice(front)?;
+        items.extend_from_slice(back)?;
+    }
+    Ok(items)
+}
+
+/// Puts an item at a place in a list, which has memory for it.
+pub fn put<T: Drop>(items: &mut Vec<T>, at: usize, item: T)
+    requires inside { at ≤ length items.old.items }
+    requires memory { length items.old.items < vec_capacity items.old }
+    ensures items { items.new.items ≡ insert items.old.items at item }
+    ensures memory { vec_capacity items.old ≤ vec_capacity items.new }
+{
+    let Ok(()) = items.insert(at, item) else {
+        unreachable!()
+    };
+}
+
 /// Puts an item at a place in a block, which has memory for it.
-pub fn put<T: Drop>(block: &mut Vec<T>, at: usize, item: T)
+pub fn put_in<T: Drop>(block: &mut VecDeque<T>, at: usize, item: T)
     requires inside { at ≤ length block.old.items }
-    requires memory { length block.old.items < vec_capacity block.old }
+    requires memory { length block.old.items < deque_capacity block.old }
     ensures items { block.new.items ≡ insert block.old.items at item }
-    ensures memory { vec_capacity block.old ≤ vec_capacity block.new }
+    ensures memory { deque_capacity block.old ≤ deque_capacity block.new }
 {
     let Ok(()) = block.insert(at, item) else {
         unreachable!()
     };
 }
 
+/// Takes the item at a place out of a block.
+pub fn take_at<T: Drop>(block: &mut VecDeque<T>, at: usize) -> T
+    requires { at < length block.old.items }
+    ensures item { slice_get block.old.items at ≡ Some result }
+    ensures items { block.new.items ≡ remove block.old.items at }
+    ensures memory { deque_capacity block.new ≡ deque_capacity block.old }
+{
+    let Some(item) = block.remove(at) else {
+        unreachable!()
+    };
+    item
+}
+
+/// How many of so many items in a block are more than half of them.
+pub fn past_half(len: usize) -> usize
+    ensures { result ≡ len - 64 }
+{
+    len.saturating_sub(FULL / 2)
+}
+
 /// Splits a full block in two, the second of which is a spare one.
-pub fn split<T: Drop>(blocks: &mut Vec<Vec<T>>, spare: &mut Vec<Vec<T>>, at: usize)
+pub fn split<T: Drop>(blocks: &mut Vec<VecDeque<T>>, spare: &mut Vec<VecDeque<T>>, at: usize)
     requires inside { at < length blocks.old.items }
-    requires full { (d : Vec T Global) → length (get_or blocks.old.items at d).items ≡ 128 }
+    requires full { (d : VecDeque T Global) → length (get_or blocks.old.items at d).items ≡ 128 }
     requires some { 0 < length spare.old.items }
     requires spare { All IsSpare spare.old.items }
     requires memory { length blocks.old.items < vec_capacity blocks.old }
@@ -102,45 +221,45 @@ pub fn split<T: Drop>(blocks: &mut Vec<Vec<T>>, spare: &mut Vec<Vec<T>>, at: usi
 }
 
 // Moves the upper half of a full block.
-fn move_upper<T: Drop>(block: &mut Vec<T>, upper: &mut Vec<T>)
+fn move_upper<T: Drop>(block: &mut VecDeque<T>, upper: &mut VecDeque<T>)
     requires full { length block.old.items ≡ 128 }
     requires spare { IsSpare upper.old }
     ensures items { block.new.items ++ upper.new.items ≡ block.old.items }
     ensures halves { (length block.new.items ≡ 64) × (length upper.new.items ≡ 64) }
-    ensures memory { (vec_capacity block.new ≡ vec_capacity block.old) × (vec_capacity upper.old ≤ vec_capacity upper.new) }
+    ensures memory { (deque_capacity block.new ≡ deque_capacity block.old) × (deque_capacity upper.old ≤ deque_capacity upper.new) }
 {
     for _moved in 0..FULL / 2 {
-        let Some(item) = block.pop() else {
+        let Some(item) = block.pop_back() else {
             unreachable!()
         };
-        put(upper, 0, item);
+        upper.push_front_reserved(item);
     }
 }
 
-/// Makes the first block, which has no items, a spare one.
-pub fn retire_first<T: Drop>(blocks: &mut Vec<Vec<T>>, spare: &mut Vec<Vec<T>>)
-    requires some { 0 < length blocks.old.items }
+/// Makes a block that has no items a spare one.
+pub fn retire<T: Drop>(blocks: &mut Vec<VecDeque<T>>, spare: &mut Vec<VecDeque<T>>, at: usize)
+    requires inside { at < length blocks.old.items }
     requires memory { length spare.old.items < vec_capacity spare.old }
-    ensures blocks { blocks.new.items ≡ drop 1 blocks.old.items }
-    ensures spare { (d : Vec T Global) → spare.new.items ≡ spare.old.items ++ get_or blocks.old.items 0 d ∷ [] }
+    ensures blocks { blocks.new.items ≡ remove blocks.old.items at }
+    ensures spare { (d : VecDeque T Global) → spare.new.items ≡ spare.old.items ++ get_or blocks.old.items at d ∷ [] }
     ensures memory { (vec_capacity blocks.new ≡ vec_capacity blocks.old) × (vec_capacity spare.old ≤ vec_capacity spare.new) }
 {
-    let first = blocks.remove(0);
-    let Ok(()) = spare.push(first) else {
+    let block = blocks.remove(at);
+    let Ok(()) = spare.push(block) else {
         unreachable!()
     };
 }
 
 /// Makes blocks, until there are `wanted` with the spare ones. `AllocError`: no memory, and there may be some more.
 pub fn have_blocks<T: Drop>(
-    blocks: &mut Vec<Vec<T>>,
-    spare: &mut Vec<Vec<T>>,
+    blocks: &mut Vec<VecDeque<T>>,
+    spare: &mut Vec<VecDeque<T>>,
     wanted: usize,
 ) -> Result<(), AllocError>
     requires some { 0 < wanted }
     requires are { HasMemory blocks.old spare.old }
     ensures are { HasMemory blocks.new spare.new }
-    ensures same { (blocks.new.items ≡ blocks.old.items) ⊎ ((blocks.old.items ≡ []) × ((b : Vec T Global) × (IsSpare b × (blocks.new.items ≡ b ∷ [])))) }
+    ensures same { (blocks.new.items ≡ blocks.old.items) ⊎ ((blocks.old.items ≡ []) × ((b : VecDeque T Global) × (IsSpare b × (blocks.new.items ≡ b ∷ [])))) }
     ensures no_less { length blocks.old.items + length spare.old.items ≤ length blocks.new.items + length spare.new.items }
     ensures wanted { OnOk result (wanted ≤ length blocks.new.items + length spare.new.items) }
 {
@@ -152,7 +271,7 @@ pub fn have_blocks<T: Drop>(
     blocks.reserve(wanted - blocks.len())?;
     spare.reserve(wanted - spare.len())?;
     if blocks.is_empty() {
-        blocks.push(Vec::with_capacity(alloc, FULL)?)?;
+        blocks.push(VecDeque::with_capacity(alloc, FULL)?)?;
     }
     add_spare(alloc, spare, wanted - blocks.len())
 }
@@ -160,7 +279,7 @@ pub fn have_blocks<T: Drop>(
 // Makes spare blocks, until there are so many. `AllocError`: no memory, and there may be some more.
 fn add_spare<T: Drop>(
     alloc: Global,
-    spare: &mut Vec<Vec<T>>,
+    spare: &mut Vec<VecDeque<T>>,
     wanted: usize,
 ) -> Result<(), AllocError>
     requires spare { All IsSpare spare.old.items }
@@ -173,7 +292,7 @@ fn add_spare<T: Drop>(
     ensures memory { vec_capacity spare.old ≤ vec_capacity spare.new }
 {
     for _made in spare.len()..wanted {
-        spare.push(Vec::with_capacity(alloc, FULL)?)?;
+        spare.push(VecDeque::with_capacity(alloc, FULL)?)?;
     }
     Ok(())
 }

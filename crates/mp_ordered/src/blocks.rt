@@ -1,10 +1,17 @@
 //! Items in order, in blocks.
-ghost use Rattle.std.specs.Prelude.{◌≡◌, ◌≤◌, ◌<◌, ◌+◌, ◌*◌, ◌-◌, ◌∷◌, [], length, max, slice_get, IfNone, IfSome, None, OnErr, OnOk, Some};
+ghost use Rattle.std.specs.Prelude.{◌≡◌, ◌≤◌, ◌<◌, ◌+◌, ◌*◌, ◌-◌, ◌∷◌, [], length, max, slice_get, IfNone, IfOk, IfSome, None, OnErr, OnOk, Some};
+ghost use Rattle.std.specs.List.{prefix_len, remove};
+ghost use Rattle.std.specs.List.Sorted.{IsPartitionedBy};
 ghost use Rattle.mp_ordered.specs.InOrder.{IsInOrder, first_from, put_in_order};
 
-use crate::block::{FULL, block_of, have_blocks, item_at, place_of, put, retire_first, split};
+use crate::block::{
+    FULL, block_of, copied, cut_block, cut_in, have_blocks, item_at, item_from, past_half,
+    place_in, put_in, retire, split, take_at,
+};
+use crate::cut::Cut;
 use crate::order::Order;
 use std::alloc::{AllocError, Global};
+use std::collections::VecDeque;
 use std::marker::{Model, PhantomData};
 
 /// Items in the order `O`, the first one first, in blocks. Contracts see an `InOrder`: the items, and how many more there is
@@ -12,9 +19,11 @@ use std::marker::{Model, PhantomData};
 /// move. A full block is split in two, for which there are spare ones.
 #[derive(Drop)]
 pub struct Blocks<T, O: Order<T>> {
-    blocks: Vec<Vec<T>>,
-    spare: Vec<Vec<T>>,
+    blocks: Vec<VecDeque<T>>,
+    spare: Vec<VecDeque<T>>,
     len: usize,
+    // How many items are more than half of their block, each block for itself.
+    past: usize,
     room: usize,
     of: PhantomData<O>,
 }
@@ -27,7 +36,7 @@ impl<T, O: Order<T>> Model for Blocks<T, O> {
 
     ghost view = { λ o. record { items = items_of o.blocks.items; room = o.room } };
 
-    ghost invariant = { λ o. AreBlocks O.rank o.blocks o.spare o.len o.room };
+    ghost invariant = { λ o. AreBlocks O.rank o.blocks o.spare o.len o.past o.room };
 }
 
 impl<T: Drop, O: Order<T>> Blocks<T, O> {
@@ -40,6 +49,7 @@ impl<T: Drop, O: Order<T>> Blocks<T, O> {
             blocks: Vec::new(alloc),
             spare: Vec::new(alloc),
             len: 0,
+            past: 0,
             room: 0,
             of: PhantomData,
         }
@@ -68,7 +78,10 @@ impl<T: Drop, O: Order<T>> Blocks<T, O> {
         if count <= self.room {
             return Ok(());
         }
-        let wanted = blocks_for(self.len.checked_add(count).ok_or(AllocError)?);
+        if count > usize::MAX - self.len {
+            return Err(AllocError);
+        }
+        let wanted = self.blocks.len() + (self.past + count) / (FULL / 2) + 1;
         have_blocks(&mut self.blocks, &mut self.spare, wanted)?;
         self.room = count;
         Ok(())
@@ -82,13 +95,15 @@ impl<T: Drop, O: Order<T>> Blocks<T, O> {
     {
         let at = block_of::<T, O>(&self.blocks, &item);
         let block = &mut self.blocks[at];
-        let place = place_of::<T, O>(block, &item);
-        put(block, place, item);
-        let is_full = block.len() == FULL;
+        let place = place_in::<T, O>(block, &item);
+        put_in(block, place, item);
+        let count = block.len();
         self.len += 1;
         self.room -= 1;
-        if is_full {
+        self.past += past_half(count) - past_half(count - 1);
+        if count == FULL {
             split(&mut self.blocks, &mut self.spare, at);
+            self.past -= FULL / 2;
         }
     }
 
@@ -98,7 +113,7 @@ impl<T: Drop, O: Order<T>> Blocks<T, O> {
         ensures none { IfNone result (self.now.items ≡ []) }
         ensures in_order { IsInOrder O.rank self.now.items }
     {
-        self.blocks.first()?.first()
+        self.blocks.first()?.front()
     }
 
     /// The first item that doesn't come before another one; `None` exactly where there is none.
@@ -110,11 +125,7 @@ impl<T: Drop, O: Order<T>> Blocks<T, O> {
             return None;
         }
         let at = block_of::<T, O>(&self.blocks, item);
-        let block = &self.blocks[at];
-        match block.get(place_of::<T, O>(block, item)) {
-            Some(found) => Some(found),
-            None => self.blocks.get(at + 1)?.first(),
-        }
+        item_from(&self.blocks, at, place_in::<T, O>(&self.blocks[at], item))
     }
 
     /// The item at an index, from 0 in order; `None` exactly where there are no more. Goes from block to block.
@@ -136,21 +147,75 @@ impl<T: Drop, O: Order<T>> Blocks<T, O> {
             return None;
         }
         let block = &mut self.blocks[0];
-        let item = block.remove(0);
-        let is_empty = block.is_empty();
+        let item = take_at(block, 0);
+        let count = block.len();
         self.len -= 1;
+        self.past -= past_half(count + 1) - past_half(count);
         self.room += 1;
-        if is_empty && self.blocks.len() > 1 {
-            retire_first(&mut self.blocks, &mut self.spare);
+        if count == 0 && self.blocks.len() > 1 {
+            retire(&mut self.blocks, &mut self.spare, 0);
         }
         Some(item)
     }
+
+    /// The last item in front of a cut; `None` exactly where there is none.
+    pub fn last_in_front<C: Cut<T>>(&self, cut: &C) -> Option<&T>
+        requires { IsPartitionedBy (C.front cut.now) self.now.items }
+        ensures some { IfSome result (λ x. slice_get self.now.items (prefix_len (C.front cut.now) self.now.items - 1) ≡ Some x.now) }
+        ensures some_in_front { IfSome result (λ x. 0 < prefix_len (C.front cut.now) self.now.items) }
+        ensures none { IfNone result (prefix_len (C.front cut.now) self.now.items ≡ 0) }
+    {
+        if self.blocks.is_empty() {
+            return None;
+        }
+        let at = cut_block(&self.blocks, cut);
+        let count = cut_in(&self.blocks[at], cut);
+        if count == 0 {
+            return None;
+        }
+        Some(&self.blocks[at][count - 1])
+    }
+
+    /// The first item behind a cut; `None` exactly where there is none.
+    pub fn first_behind<C: Cut<T>>(&self, cut: &C) -> Option<&T>
+        requires { IsPartitionedBy (C.front cut.now) self.now.items }
+        ensures some { IfSome result (λ x. slice_get self.now.items (prefix_len (C.front cut.now) self.now.items) ≡ Some x.now) }
+        ensures none { IfNone result (length self.now.items ≡ prefix_len (C.front cut.now) self.now.items) }
+    {
+        if self.blocks.is_empty() {
+            return None;
+        }
+        let at = cut_block(&self.blocks, cut);
+        item_from(&self.blocks, at, cut_in(&self.blocks[at], cut))
+    }
+
+    /// Takes out the last item in front of a cut. It doesn't leave its room.
+    pub fn take_last_in_front<C: Cut<T>>(&mut self, cut: &C) -> T
+        requires parted { IsPartitionedBy (C.front cut.now) self.old.items }
+        requires some { 0 < prefix_len (C.front cut.now) self.old.items }
+        ensures item { slice_get self.old.items (prefix_len (C.front cut.now) self.old.items - 1) ≡ Some result }
+        ensures items { self.new.items ≡ remove self.old.items (prefix_len (C.front cut.now) self.old.items - 1) }
+        ensures room { self.new.room ≡ self.old.room }
+    {
+        let at = cut_block(&self.blocks, cut);
+        let block = &mut self.blocks[at];
+        let place = cut_in(block, cut) - 1;
+        let item = take_at(block, place);
+        let count = block.len();
+        self.len -= 1;
+        self.past -= past_half(count + 1) - past_half(count);
+        if count == 0 && self.blocks.len() > 1 {
+            retire(&mut self.blocks, &mut self.spare, at);
+        }
+        item
+    }
 }
 
-// So many blocks that so many items leave one of them unused, if all but one of the others are half full.
-fn blocks_for(items: usize) -> usize
-    ensures enough { items ≤ 64 * (result - 1) }
-    ensures some { 1 < result }
-{
-    items / (FULL / 2) + 2
+impl<T: Copy + Drop, O: Order<T>> Blocks<T, O> {
+    /// All items in order. `AllocError`: no memory.
+    pub fn to_vec(&self) -> Result<Vec<T>, AllocError>
+        ensures { IfOk result (λ v. v.items ≡ self.now.items) }
+    {
+        copied(&self.blocks)
+    }
 }

@@ -5,6 +5,7 @@
 
 mod block;
 mod blocks;
+mod cut;
 mod gone;
 mod order;
 mod ordered;
@@ -12,6 +13,7 @@ mod queue;
 mod runs;
 mod stored;
 
+pub use cut::Cut;
 pub use order::Order;
 pub use ordered::Ordered;
 pub use queue::OrderedQueue;

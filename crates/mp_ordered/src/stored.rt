@@ -1,8 +1,11 @@
 //! Items in order, of which the first one is taken.
-ghost use Rattle.std.specs.Prelude.{◌≡◌, ◌≤◌, ◌<◌, ◌+◌, ◌∷◌, [], slice_get, IfNone, IfSome, IsOk, OnErr, OnOk, Some};
+ghost use Rattle.std.specs.Prelude.{◌≡◌, ◌≤◌, ◌<◌, ◌+◌, ◌-◌, ◌∷◌, [], length, slice_get, IfNone, IfOk, IfSome, IsOk, OnErr, OnOk, Some};
+ghost use Rattle.std.specs.List.{prefix_len, remove};
+ghost use Rattle.std.specs.List.Sorted.{IsPartitionedBy};
 ghost use Rattle.mp_ordered.specs.InOrder.{GoesBack, IsInOrder, put_in_order};
 
 use crate::blocks::Blocks;
+use crate::cut::Cut;
 use crate::order::Order;
 use std::alloc::{AllocError, Global};
 use std::marker::Model;
@@ -78,5 +81,44 @@ impl<T: Drop, O: Order<T>> OrderedBlocks<T, O> {
         ensures room { IfSome result (λ x. self.new.room ≡ self.old.room + 1) }
     {
         self.blocks.pop_first()
+    }
+
+    /// The last item in front of a cut; `None` exactly where there is none.
+    pub fn last_in_front<C: Cut<T>>(&self, cut: &C) -> Option<&T>
+        requires { IsPartitionedBy (C.front cut.now) self.now.items }
+        ensures some { IfSome result (λ x. slice_get self.now.items (prefix_len (C.front cut.now) self.now.items - 1) ≡ Some x.now) }
+        ensures some_in_front { IfSome result (λ x. 0 < prefix_len (C.front cut.now) self.now.items) }
+        ensures none { IfNone result (prefix_len (C.front cut.now) self.now.items ≡ 0) }
+    {
+        self.blocks.last_in_front(cut)
+    }
+
+    /// The first item behind a cut; `None` exactly where there is none.
+    pub fn first_behind<C: Cut<T>>(&self, cut: &C) -> Option<&T>
+        requires { IsPartitionedBy (C.front cut.now) self.now.items }
+        ensures some { IfSome result (λ x. slice_get self.now.items (prefix_len (C.front cut.now) self.now.items) ≡ Some x.now) }
+        ensures none { IfNone result (length self.now.items ≡ prefix_len (C.front cut.now) self.now.items) }
+    {
+        self.blocks.first_behind(cut)
+    }
+
+    /// Takes out the last item in front of a cut. It doesn't leave its room.
+    pub fn take_last_in_front<C: Cut<T>>(&mut self, cut: &C) -> T
+        requires parted { IsPartitionedBy (C.front cut.now) self.old.items }
+        requires some { 0 < prefix_len (C.front cut.now) self.old.items }
+        ensures item { slice_get self.old.items (prefix_len (C.front cut.now) self.old.items - 1) ≡ Some result }
+        ensures items { self.new.items ≡ remove self.old.items (prefix_len (C.front cut.now) self.old.items - 1) }
+        ensures room { self.new.room ≡ self.old.room }
+    {
+        self.blocks.take_last_in_front(cut)
+    }
+}
+
+impl<T: Copy + Drop, O: Order<T>> OrderedBlocks<T, O> {
+    /// All items in order. `AllocError`: no memory.
+    pub fn to_vec(&self) -> Result<Vec<T>, AllocError>
+        ensures { IfOk result (λ v. v.items ≡ self.now.items) }
+    {
+        self.blocks.to_vec()
     }
 }

@@ -1,7 +1,7 @@
 use Rattle.std.proofs.Common.{◌∙◌, ap, arith, add-one}
 use Rattle.std.proofs.lemmas.List.{get_or_default}
 use Rattle.std.proofs.lemmas.List.Elements.{All-pop}
-use Rattle.std.specs.Vec.{vec_capacity}
+use Rattle.std.specs.VecDeque.{deque_capacity}
 use Rattle.mp_ordered.specs.Blocks.{IsSpare}
 use Rattle.mp_ordered.proofs.Blocked.{put_two}
 use Rattle.mp_ordered.proofs.block.split.Goals as goal
@@ -16,7 +16,7 @@ returns-clause-split g c =
       is = c.in-Ok.ensures.items ∙ rw add-one (put_two c.args.blocks.now.items c.args.at c.move_upper.new.block c.move_upper.new.upper c.requires.inside);
       items = c.move_upper.ensures.items ∙ ap (λ b. b.items) was;
       halves = c.move_upper.ensures.halves;
-      memory = (omega (arith, c.move_upper.ensures.memory.0, ap (λ b. vec_capacity b) was), omega (arith, c.move_upper.ensures.memory.1, upper.1));
+      memory = (omega (arith, c.move_upper.ensures.memory.0, ap (λ b. deque_capacity b) was), omega (arith, c.move_upper.ensures.memory.1, upper.1));
     }
 
 pub returns-clause-spare : goal.returns-clause-spare

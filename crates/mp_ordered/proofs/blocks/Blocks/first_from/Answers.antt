@@ -1,66 +1,52 @@
-use Rattle.std.proofs.Common.{◌≡◌, ◌∙◌, sym, ap, subst, suc, add-one, None, Some}
+use Rattle.std.proofs.Common.{◌≡◌, ◌∙◌, ◌+◌, sym, ap, subst, length, take, arith, Option, None, Some}
+use Rattle.std.specs.Option.{IfNone, IfSome}
+use Rattle.std.specs.List.{prefix_len}
 use Rattle.std.specs.Prelude.{slice_get}
-use Rattle.std.proofs.lemmas.List.{drop_all}
+use Rattle.mp_names.specs.Names.{is_before}
 use Rattle.mp_ordered.specs.Blocks.{items_of}
-use Rattle.mp_ordered.specs.InOrder.{IsInOrder, first_from}
-use Rattle.mp_ordered.proofs.Blocked.{behind_it, in_block, in_next, order_of_block}
-use Rattle.mp_ordered.proofs.Placed.{got, got_past, if_some}
+use Rattle.mp_ordered.specs.InOrder.{IsInOrder}
+use Rattle.mp_ordered.proofs.Blocked.{first_at, in_front_of, order_of_block}
+use Rattle.mp_ordered.proofs.Placed.{got_past}
+use Rattle.mp_ordered.proofs.Placing.{partitioned}
 use Rattle.mp_ordered.proofs.blocks.Blocks.first_from.Goals as goal
 
-pub place_of-requires : goal.place_of-requires
-place_of-requires g c =
+weaker : {X : Type 0} {P Q : Type 0} (o : Option X) → (P → Q) → IfNone o P → IfNone o Q
+weaker None f h = f h
+weaker (Some x) f h = h
+
+pub place_in-requires : goal.place_in-requires
+place_in-requires g c =
     let rank = g.O.Order.rank in
     let bs = c.self.inside.blocks.items in
-    let is = ap (λ b. b.items) c.index-block.ensures in
-    subst (IsInOrder rank) (sym (c.deref-3.ensures.value ∙ is)) (order_of_block rank bs c.block_of-at.result c.index-block.result.now c.self.invariant.order (rw c.deref.ensures.value at c.block_of-at.ensures.inside))
+    let is = ap (λ b. b.items) c.index.ensures in
+    subst (IsInOrder rank) (sym is) (order_of_block rank bs c.block_of-at.result c.index.result.now c.self.invariant.order (rw c.deref.ensures.value at c.block_of-at.ensures.inside))
 
-pub returns-in-Some-clause-some : goal.returns-in-Some-clause-some
-returns-in-Some-clause-some g c =
+pub returns-clause-some : goal.returns-clause-some
+returns-clause-some g c =
     let rank = g.O.Order.rank in
     let x = c.args.item.now in
     let bs = c.self.inside.blocks.items in
     let at = c.block_of-at.result in
-    let b = c.index-block.result.now in
+    let b = c.index.result.now in
     let here = rw c.deref.ensures.value at c.block_of-at.ensures.inside in
     let place = rw c.deref.ensures.value at c.block_of-at.ensures.place in
-    let from = rw c.deref-3.ensures.value at c.place_of.ensures.from in
-    let y = c.in-Some.found.now in
-    let lookup = rw c.deref-2.ensures.value at c.in-Some.ensures.lookup in
-    let found = subst (λ v. first_from rank x v.items ≡ Some y) c.index-block.ensures (sym from ∙ got b.items c.place_of.result y lookup.3.0 lookup.1) in
-    rw (← c.self.view_is) (in_block rank x bs at b y c.self.invariant.order c.self.invariant.filled here place found)
+    let front = in_front_of (λ y. is_before (rank y) (rank x)) bs at b (partitioned rank x (items_of bs) c.self.invariant.order) c.self.invariant.filled here place in
+    let count = front ∙ ap (λ n. length (items_of (take at bs)) + n) (sym (c.place_in.ensures.count ∙ ap (λ v. prefix_len (λ y. is_before (rank y) (rank x)) v.items) c.index.ensures)) in
+    let found = rw c.deref-2.ensures.value at c.item_from.ensures.some in
+    rw (← c.self.view_is)
+    (subst (λ o. IfSome c.item_from.result (λ x. o ≡ Some x.now)) (ap (λ n. slice_get (items_of bs) n) (sym count) ∙ first_at rank x (items_of bs)) found)
 
-pub returns-in_err-get-in-None-clause-none : goal.returns-in_err-get-in-None-clause-none
-returns-in_err-get-in-None-clause-none g c =
+pub returns-clause-none : goal.returns-clause-none
+returns-clause-none g c =
     let rank = g.O.Order.rank in
     let x = c.args.item.now in
     let bs = c.self.inside.blocks.items in
     let at = c.block_of-at.result in
-    let b = c.index-block.result.now in
+    let b = c.index.result.now in
     let here = rw c.deref.ensures.value at c.block_of-at.ensures.inside in
     let place = rw c.deref.ensures.value at c.block_of-at.ensures.place in
-    let from = rw c.deref-3.ensures.value at c.place_of.ensures.from in
-    let past = rw c.deref-2.ensures.value at c.in-None.ensures.lookup.3 in
-    let nothing = subst (λ v. first_from rank x v.items ≡ None) c.index-block.ensures (sym from ∙ got_past b.items c.place_of.result past) in
-    let behind = behind_it rank x bs at b c.self.invariant.order c.self.invariant.filled here place nothing in
-    let last = rw (c.deref-in-None.ensures.value, add-one) at c.in_err-get-in-None.ensures.lookup.3 in
-    rw (c.from_residual.ensures, ← c.self.view_is) (behind ∙ ap (λ ds. first_from rank x (items_of ds)) (drop_all (suc at) bs last))
-
-pub returns-in_ok-get-in-None-clause-some : goal.returns-in_ok-get-in-None-clause-some
-returns-in_ok-get-in-None-clause-some g c =
-    let rank = g.O.Order.rank in
-    let x = c.args.item.now in
-    let bs = c.self.inside.blocks.items in
-    let at = c.block_of-at.result in
-    let b = c.index-block.result.now in
-    let here = rw c.deref.ensures.value at c.block_of-at.ensures.inside in
-    let place = rw c.deref.ensures.value at c.block_of-at.ensures.place in
-    let from = rw c.deref-3.ensures.value at c.place_of.ensures.from in
-    let past = rw c.deref-2.ensures.value at c.in-None.ensures.lookup.3 in
-    let nothing = subst (λ v. first_from rank x v.items ≡ None) c.index-block.ensures (sym from ∙ got_past b.items c.place_of.result past) in
-    let behind = behind_it rank x bs at b c.self.invariant.order c.self.invariant.filled here place nothing in
-    let next = c.in_ok-get-in-None.field-0.now in
-    let lookup = rw c.deref-in-None.ensures.value at c.in_ok-get-in-None.ensures.lookup in
-    let more = rw add-one at lookup.3.0 in
-    let is = rw add-one at lookup.1 in
-    if_some c.first.result _ (λ y. first_from rank x c.args.self.now.items ≡ Some y) c.first.ensures.value
-    (λ y e. rw (← c.self.view_is) (behind ∙ in_next rank x bs at next y more place (subst (λ v. slice_get v.items 0 ≡ Some y) is (rw c.deref-in-None-2.ensures.value at e))))
+    let front = in_front_of (λ y. is_before (rank y) (rank x)) bs at b (partitioned rank x (items_of bs) c.self.invariant.order) c.self.invariant.filled here place in
+    let count = front ∙ ap (λ n. length (items_of (take at bs)) + n) (sym (c.place_in.ensures.count ∙ ap (λ v. prefix_len (λ y. is_before (rank y) (rank x)) v.items) c.index.ensures)) in
+    let past = rw c.deref-2.ensures.value at c.item_from.ensures.none in
+    rw (← c.self.view_is)
+    (weaker c.item_from.result (λ e. sym (first_at rank x (items_of bs)) ∙ got_past (items_of bs) _ (omega (arith, e, count))) past)
