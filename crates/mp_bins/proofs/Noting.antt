@@ -10,7 +10,7 @@ use Rattle.mp_names.specs.declared.controls.Control.{Control}
 use Rattle.mp_names.specs.declared.controls.Move.{Move}
 use Rattle.mp_names.specs.Names.{is_before}
 use Rattle.mp_names.specs.Controls.{control_of, is_below, last_below, later_of, owner_below}
-use Rattle.mp_bins.specs.declared.finding.StageBin.{StageBin}
+use Rattle.mp_bins.specs.declared.kept.StageBin.{StageBin}
 use Rattle.mp_bins.specs.declared.owners.Note.{Note}
 use Rattle.mp_bins.specs.Notes.{AreInOrder, controls_in, first_owner, no_note, note_at, rank_of_note, with_note}
 use Rattle.mp_bins.specs.Laws.{IsMoveOf}

@@ -1,9 +1,10 @@
 -- Where a note is placed, what stays true then, and that the order of notes doesn't matter.
-use Rattle.std.proofs.Common.{◌≡◌, ◌≢◌, ℕ, zero, suc, ◌<◌, ◌≤◌, Bool, true, false, cond, ◌||◌, ◌==◌, List, [], ◌∷◌, length, get_or, refl, sym, ap, ◌∙◌, ⊎_elim, arith}
-use Rattle.std.specs.List.{insert, All}
-use Rattle.std.proofs.lemmas.Bool.{both_ways, cases_Bool, false_from_ne_true}
+use Rattle.std.proofs.Common.{◌≡◌, ◌≢◌, ℕ, Bool, true, false, cond, ◌||◌, ◌==◌, List, [], ◌∷◌, get_or, refl, sym, ap, ◌∙◌, ⊎_elim}
+use Rattle.std.specs.List.{All}
+use Rattle.std.proofs.lemmas.Bool.{both_ways, cases_Bool, eq-eqb, false_from_ne_true, or_left, or_right}
 use Rattle.std.proofs.lemmas.List.Elements.{All-cons, All-head, All-tail, All-nil}
 use Rattle.mp_names.specs.Names.{is_before}
+use Rattle.mp_ordered.specs.InOrder.{put_in_order}
 use Rattle.mp_bins.specs.declared.owners.Note.{Note}
 use Rattle.mp_bins.specs.Notes.{with_note, is_noted, rank_of_note, AreInOrder}
 use Rattle.mp_bins.proofs.Ranks.{not_back, before_both, one_before}
@@ -16,14 +17,18 @@ goes_first n ns note h = rw h refl
 pub goes_on : (n : Note) (ns : List Note) (note : Note) → is_before (rank_of_note note) (rank_of_note n) ≡ false → with_note (n ∷ ns) note ≡ n ∷ with_note ns note
 goes_on n ns note h = rw h refl
 
--- the place is after the notes of no greater rank
-pub placed_at : (ns : List Note) (note : Note) (at : ℕ) → at ≤ length ns → ((k : ℕ) (d : Note) → k < at → is_before (rank_of_note note) (rank_of_note (get_or ns k d)) ≡ false) → ((d : Note) → at < length ns → is_before (rank_of_note note) (rank_of_note (get_or ns at d)) ≡ true) → insert ns at note ≡ with_note ns note
-placed_at [] note zero l h g = refl
-placed_at [] note (suc at) l h g = absurd (omega arith)
-placed_at (n ∷ ns) note zero l h g = sym (goes_first n ns note (g n (omega arith)))
-placed_at (n ∷ ns) note (suc at) l h g =
-    ap (λ (r : List Note). n ∷ r) (placed_at ns note at (omega arith) (λ k d m. h (suc k) d (omega arith)) (λ d m. g d (omega arith)))
-    ∙ sym (goes_on n ns note (h 0 n (omega arith)))
+-- a note of a new index is of no rank that is there, so it is put where a list in order has its place
+pub put_is_with : (ns : List Note) (note : Note) → is_noted ns note.index ≡ false → put_in_order rank_of_note note ns ≡ with_note ns note
+put_is_with [] note h = refl
+put_is_with (n ∷ ns) note h =
+    let other : (n.index == note.index) ≡ false = false_from_ne_true (n.index == note.index) (λ e. both_ways (n.index == note.index || is_noted ns note.index) h (or_left (n.index == note.index) (is_noted ns note.index) e)) in
+    let fresh : is_noted ns note.index ≡ false = false_from_ne_true (is_noted ns note.index) (λ e. both_ways (n.index == note.index || is_noted ns note.index) h (or_right (n.index == note.index) (is_noted ns note.index) e)) in
+    ⊎_elim
+    (λ (e : is_before (rank_of_note note) (rank_of_note n) ≡ true). rw (not_back (rank_of_note note) (rank_of_note n) e, e) refl)
+    (λ (e : is_before (rank_of_note note) (rank_of_note n) ≡ false).
+    let first = one_before (rank_of_note n) (rank_of_note note) (λ same. both_ways (n.index == note.index) other (eq-eqb n.index note.index (cc (same)))) e in
+    rw (first, e) (ap (λ (r : List Note). n ∷ r) (put_is_with ns note fresh)))
+    (cases_Bool (is_before (rank_of_note note) (rank_of_note n)))
 
 -- what is true of each note and of the new one is true of each then
 pub All-with : (P : Note → Type 0) (ns : List Note) (note : Note) → P note → All P ns → All P (with_note ns note)

@@ -1,16 +1,19 @@
 -- Moves in the order of their ranks: where one stands, and what is there with one more, or without it.
-use Rattle.std.proofs.Common.{◌≡◌, ◌≢◌, ◌↔◌, ℕ, suc, ◌+◌, ◌-◌, ◌<◌, ◌≤◌, ◌⊎◌, true, false, not, List, [], ◌∷◌, length, get_or, Option, None, Some, refl, sym, ap, ◌∙◌, subst, inl, inr, ⊎_elim, arith}
-use Rattle.std.specs.List.{Contains, insert, remove}
+use Rattle.std.proofs.Common.{◌≡◌, ◌≢◌, ◌↔◌, ℕ, suc, ◌+◌, ◌-◌, ◌<◌, ◌≤◌, ◌⊎◌, Bool, true, false, not, List, [], ◌∷◌, length, get_or, Option, None, Some, refl, sym, ap, ◌∙◌, subst, inl, inr, ⊎_elim, arith}
+use Rattle.std.specs.List.{Contains, insert, prefix_len, remove}
 use Rattle.std.specs.Option.{IfSome}
 use Rattle.std.specs.List.Sorted.{IsPartitionPoint, IsPartitionedBy}
-use Rattle.std.proofs.lemmas.Bool.{both_ways, cases_lt, not-true, not_from_false, false_from_ne_true}
+use Rattle.std.proofs.lemmas.Bool.{both_ways, cases_lt, not-false, not-true, not_from_false, false_from_ne_true}
 use Rattle.std.proofs.lemmas.List.{get_or_default}
 use Rattle.std.proofs.lemmas.List.Elements.{Contains-get_or}
+use Rattle.std.proofs.lemmas.List.Sums.{prefix_len-le-length, prefix_len_is}
 use Rattle.std.proofs.lemmas.List.Edits.{length-insert, length-remove, get_or-insert_below, get_or-insert_at, get_or-insert_above, get_or-remove_below, get_or-remove_above}
 use Rattle.mp_names.specs.declared.controls.Move.{Move}
 use Rattle.mp_names.specs.declared.pointstamps.TimedBin.{TimedBin}
 use Rattle.mp_names.specs.Names.{IsBefore, is_before}
 use Rattle.mp_names.proofs.Orders.{before_is, is_before-from}
+use Rattle.mp_ordered.specs.InOrder.{put_in_order}
+use Rattle.mp_ordered.proofs.Placing.{count_parts, placed_at}
 use Rattle.mp_bins.specs.Leaving.{IsAfter, bin_at}
 use Rattle.mp_bins.specs.Changes.{AreRanked, IsFirstFrom, IsFrom, NoneIsFrom, key_after, key_of, rank_of_move}
 use Rattle.mp_bins.proofs.Ranks.{before_both, not_back, not_before_itself, one_before}
@@ -45,6 +48,68 @@ upto_first ms limit h i k d l m e =
 pub differ : (ms : List Move) → AreRanked ms → (i k : ℕ) (d : Move) → i < k → k < length ms → get_or ms i d ≡ get_or ms k d → ⊥
 differ ms h i k d l m e =
     both_ways (is_before (rank_of_move (get_or ms k d)) (rank_of_move (get_or ms k d))) (not_before_itself (rank_of_move (get_or ms k d))) (subst (λ (x : Move). is_before (rank_of_move x) (rank_of_move (get_or ms k d)) ≡ true) e (h i k d l m))
+
+-- up to a move that is there, there are those that stand in front of it, and itself
+
+module _ (ms : List Move) (h : AreRanked ms) (new : Move) (there : Contains ms new) where
+  abbrev goes_first : Move → Bool
+  goes_first m = is_before (rank_of_move m) (rank_of_move new)
+
+  in_front : (j : ℕ) (d : Move) → j < there.0 → goes_first (get_or ms j d) ≡ true
+  in_front j d l = subst (λ (x : Move). is_before (rank_of_move (get_or ms j d)) (rank_of_move x) ≡ true) (get_or_default ms there.0 d new there.1 ∙ there.2) (h j there.0 d l there.1)
+
+  behind : (j : ℕ) (d : Move) → there.0 < j → j < length ms → is_before (rank_of_move new) (rank_of_move (get_or ms j d)) ≡ true
+  behind j d l m = subst (λ (x : Move). is_before (rank_of_move x) (rank_of_move (get_or ms j d)) ≡ true) (get_or_default ms there.0 d new there.1 ∙ there.2) (h there.0 j d l m)
+
+  itself : (d : Move) → get_or ms there.0 d ≡ new
+  itself d = get_or_default ms there.0 d new there.1 ∙ there.2
+
+  pub parts_there : IsPartitionPoint (λ m. goes_first m ≡ true) (λ m. goes_first m ≡ false) ms there.0
+  parts_there = (
+    λ k d z l. in_front k d l,
+    λ k d l m.
+        ⊎_elim
+        (λ (n : there.0 < k). not_back (rank_of_move new) (rank_of_move (get_or ms k d)) (behind k d n m))
+        (λ (n : k ≤ there.0).
+        let e : there.0 ≡ k = omega arith in
+        subst (λ (x : Move). goes_first x ≡ false) (sym (itself d) ∙ ap (λ (q : ℕ). get_or ms q d) e) (not_before_itself (rank_of_move new)))
+        (cases_lt there.0 k),
+  )
+
+  pub count_there : prefix_len (λ m. not (is_before (rank_of_move new) (rank_of_move m))) ms ≡ there.0 + 1
+  count_there =
+      let inside = there.1 in
+      prefix_len_is (λ m. not (is_before (rank_of_move new) (rank_of_move m))) ms (there.0 + 1) new (omega arith)
+      (λ k l. not_from_false (is_before (rank_of_move new) (rank_of_move (get_or ms k new))) (upto k (omega arith)))
+      (λ l. true_to_not (is_before (rank_of_move new) (rank_of_move (get_or ms (there.0 + 1) new))) (behind (there.0 + 1) new (omega arith) l))
+    where
+      true_to_not : (b : Bool) → b ≡ true → not b ≡ false
+      true_to_not b e = rw e refl
+
+      upto : (k : ℕ) → k ≤ there.0 → is_before (rank_of_move new) (rank_of_move (get_or ms k new)) ≡ false
+      upto k l =
+          ⊎_elim
+          (λ (n : k < there.0). not_back (rank_of_move (get_or ms k new)) (rank_of_move new) (in_front k new n))
+          (λ (n : there.0 ≤ k).
+          let e : there.0 ≡ k = omega arith in
+          subst (λ (x : Move). is_before (rank_of_move new) (rank_of_move x) ≡ false) (sym (itself new) ∙ ap (λ (q : ℕ). get_or ms q new) e) (not_before_itself (rank_of_move new)))
+          (cases_lt k there.0)
+
+-- a key parts the moves
+pub key_parts : (ms : List Move) (key : List ℕ) → AreRanked ms → IsPartitionPoint (λ m. is_before key (rank_of_move m) ≡ false) (λ m. is_before key (rank_of_move m) ≡ true) ms (prefix_len (λ m. not (is_before key (rank_of_move m))) ms)
+key_parts ms key h =
+    let point = count_parts (λ m. not (is_before key (rank_of_move m))) ms (upto_first ms key h) in
+    (λ k d z l. not-true (is_before key (rank_of_move (get_or ms k d))) (point.0 k d z l), λ k d l m. not-false (is_before key (rank_of_move (get_or ms k d))) (point.1 k d l m))
+
+-- a move is put where those that go first end
+pub put_parts : (ms : List Move) (new : Move) → AreRanked ms → IsPartitionPoint (λ m. is_before (rank_of_move m) (rank_of_move new) ≡ true) (λ m. is_before (rank_of_move m) (rank_of_move new) ≡ false) ms (prefix_len (λ m. is_before (rank_of_move m) (rank_of_move new)) ms)
+put_parts ms new h = count_parts (λ m. is_before (rank_of_move m) (rank_of_move new)) ms (before_first ms (rank_of_move new) h)
+
+pub put_is_insert : (ms : List Move) (new : Move) → AreRanked ms → put_in_order rank_of_move new ms ≡ insert ms (prefix_len (λ m. is_before (rank_of_move m) (rank_of_move new)) ms) new
+put_is_insert ms new h =
+    let p = prefix_len (λ m. is_before (rank_of_move m) (rank_of_move new)) ms in
+    let parts = put_parts ms new h in
+    sym (placed_at rank_of_move new ms p (prefix_len-le-length (λ m. is_before (rank_of_move m) (rank_of_move new)) ms) (λ k d l. parts.0 k d (omega arith) l) (λ d l. parts.1 p d (omega arith) l))
 
 -- where a move stands, or would
 

@@ -1,9 +1,11 @@
 -- What a search of notes in order finds.
 use Rattle.std.proofs.Common.{◌≡◌, ℕ, zero, suc, ◌-◌, ◌<◌, ◌≤◌, ◌⊎◌, true, false, not, ◌&&◌, ◌==◌, nat_lt, List, [], ◌∷◌, length, get_or, Option, None, Some, refl, sym, ap, ◌∙◌, subst, inl, inr, ⊎_elim, arith}
-use Rattle.std.specs.List.Sorted.{IsPartitionedBy}
+use Rattle.std.specs.List.{prefix_len}
+use Rattle.std.specs.List.Sorted.{IsPartitionPoint, IsPartitionedBy}
 use Rattle.std.specs.Option.{option_map_or}
-use Rattle.std.proofs.lemmas.Bool.{and_from, and_parts, both_ways, cases_lt, eq-eqb, eqb-true, false_from_ne_true, lt-ltb, ltb-true, not-true, not_from_false}
+use Rattle.std.proofs.lemmas.Bool.{and_from, and_parts, both_ways, cases_lt, eq-eqb, eqb-true, false_from_ne_true, lt-ltb, ltb-true, not-false, not-true, not_from_false}
 use Rattle.std.proofs.lemmas.List.{length-map}
+use Rattle.std.proofs.lemmas.List.Sums.{prefix_len-le-length}
 use Rattle.mp_names.specs.declared.controls.Shape.{Shape}
 use Rattle.mp_names.specs.declared.controls.Control.{Control}
 use Rattle.mp_names.specs.Names.{is_before}
@@ -11,7 +13,8 @@ use Rattle.mp_names.specs.Controls.{control_of, is_below, last_below, owner_belo
 use Rattle.mp_names.specs.Outlines.{Outline, owner_before}
 use Rattle.mp_names.proofs.Owners.{owners_follow, move_found, Said, said}
 use Rattle.mp_bins.specs.declared.owners.Note.{Note}
-use Rattle.mp_bins.specs.Notes.{controls_in, rank_of_note, AreInOrder, AreWithin, IsSplitAt, no_note, note_at}
+use Rattle.mp_bins.specs.Notes.{controls_in, rank_of_note, AreInOrder, AreWithin, IsSplitAt, no_note, note_at, place_of_note}
+use Rattle.mp_ordered.proofs.Placing.{count_parts}
 use Rattle.mp_bins.proofs.Ranks.{not_before_itself, not_back, upto_before, upto_both, head_upto, tail_upto, tail_before, parts}
 
 -- a later note has no smaller rank
@@ -31,6 +34,19 @@ upto_stand_first ns limit h i k d l m e =
     let old = rank_of_note (get_or ns i d) in
     let new = rank_of_note (get_or ns k d) in
     not_from_false (is_before limit old) (upto_both old new limit (later_upto ns h i k d l m) (not-true (is_before limit new) e))
+
+-- a limit parts the notes, and so does a note's place
+pub limit_parts : (ns : List Note) (j b u : ℕ) → AreInOrder ns → IsSplitAt ns j b u (prefix_len (λ n. is_before (rank_of_note n) (j ∷ b ∷ u ∷ [])) ns)
+limit_parts ns j b u h = count_parts (λ n. is_before (rank_of_note n) (j ∷ b ∷ u ∷ [])) ns (before_stand_first ns (j ∷ b ∷ u ∷ []) h)
+
+pub place_parts : (ns : List Note) (note : Note) → AreInOrder ns → IsPartitionPoint (λ n. is_before (rank_of_note note) (rank_of_note n) ≡ false) (λ n. is_before (rank_of_note note) (rank_of_note n) ≡ true) ns (place_of_note ns note)
+place_parts ns note h =
+    let new = rank_of_note note in
+    let point = count_parts (λ n. not (is_before new (rank_of_note n))) ns (upto_stand_first ns new h) in
+    (λ k d z l. not-true (is_before new (rank_of_note (get_or ns k d))) (point.0 k d z l), λ k d l m. not-false (is_before new (rank_of_note (get_or ns k d))) (point.1 k d l m))
+
+pub place_inside : (ns : List Note) (note : Note) → place_of_note ns note ≤ length ns
+place_inside ns note = prefix_len-le-length (λ n. not (is_before (rank_of_note note) (rank_of_note n))) ns
 
 -- Owners, without a search of the list
 

@@ -6,7 +6,7 @@ use Rattle.mp_names.specs.declared.controls.Move.{Move}
 use Rattle.mp_names.specs.declared.pointstamps.TimedBin.{TimedBin}
 use Rattle.mp_names.specs.Names.{is_before}
 use Rattle.mp_names.specs.Controls.{owner_below}
-use Rattle.mp_bins.specs.declared.finding.StageBin.{StageBin}
+use Rattle.mp_bins.specs.declared.kept.StageBin.{StageBin}
 use Rattle.mp_bins.specs.declared.owners.Note.{Note}
 use Rattle.mp_bins.specs.Notes.{controls_in, note_at}
 use Rattle.mp_bins.specs.Laws.{IsMoveOf}

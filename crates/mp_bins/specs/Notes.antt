@@ -1,6 +1,6 @@
 -- The control records that were noted, and what they say of owners and moves.
-use Rattle.std.specs.Prelude.{◌≡◌, ℕ, suc, ◌%◌, ◌<◌, Bool, true, false, cond, ◌||◌, ◌==◌, List, [], ◌∷◌, map, slice_index_or}
-use Rattle.std.specs.List.{All}
+use Rattle.std.specs.Prelude.{◌≡◌, ℕ, suc, ◌%◌, ◌<◌, Bool, true, false, cond, not, ◌||◌, ◌==◌, List, [], ◌∷◌, map, slice_index_or}
+use Rattle.std.specs.List.{All, prefix_len}
 use Rattle.std.specs.List.Sorted.{IsPartitionPoint}
 use Rattle.mp_names.specs.declared.names.Name.{Name}
 use Rattle.mp_names.specs.declared.controls.Shape.{Shape}
@@ -41,6 +41,10 @@ rank_of_note note = note.control.stage ∷ note.control.bin ∷ note.control.tim
 abbrev pub with_note : List Note → Note → List Note
 with_note [] note = note ∷ []
 with_note (n ∷ ns) note = cond (is_before (rank_of_note note) (rank_of_note n)) (note ∷ n ∷ ns) (n ∷ with_note ns note)
+
+-- how many notes stand before the first one of a greater rank
+abbrev pub place_of_note : List Note → Note → ℕ
+place_of_note notes note = prefix_len (λ n. not (is_before (rank_of_note note) (rank_of_note n))) notes
 
 -- no note follows one of a greater rank
 abbrev pub AreInOrder : List Note → Type 0

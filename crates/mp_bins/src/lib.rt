@@ -6,6 +6,7 @@
 mod bin;
 mod changes;
 mod finding;
+mod kept;
 mod laws;
 mod owners;
 mod ranked;

@@ -4,11 +4,12 @@ ghost use Rattle.mp_bins.specs.Notes.{IsShape, IsWithin, first_owner, is_move_of
 ghost use Rattle.mp_bins.specs.Leaving.{IsNextLeaving, NoneLeaves};
 
 use crate::changes::put_down;
-use crate::finding::{StageBin, owner_below};
+use crate::finding::owner_below;
+use crate::kept::{ByBin, ByOwner, StageBin};
 use crate::ranked::first_from;
 use mp_names::{Control, Move, Shape, Time, TimedBin};
+use mp_ordered::OrderedBlocks;
 use std::alloc::{AllocError, Global};
-use std::collections::VecDeque;
 use std::marker::Model;
 
 /// A control record and its place in the list of all control records.
@@ -26,16 +27,15 @@ pub struct Note {
 pub struct Owners {
     shape: Shape,
     // In the order of their ranks: by stage, bin, time and index.
-    notes: VecDeque<Note>,
+    notes: OrderedBlocks<Note, ByBin>,
     // The moves among them, by stage, owner before, time and bin.
-    changes: VecDeque<Move>,
+    changes: OrderedBlocks<Move, ByOwner>,
     // So many more notes there is room for, and twice as many moves.
     room: u64,
 }
 
 impl Model for Owners {
-    ghost use Rattle.std.specs.Prelude.{length, ◌+◌, ◌≤◌};
-    ghost use Rattle.std.specs.VecDeque.{deque_capacity};
+    ghost use Rattle.std.specs.Prelude.{◌+◌, ◌≤◌};
     ghost use Rattle.mp_bins.specs.Notes.{Notes, AreInOrder, AreWithin, IsShape};
     ghost use Rattle.mp_bins.specs.Changes.{AreChangesOf};
 
@@ -48,8 +48,8 @@ impl Model for Owners {
         × AreWithin o.shape o.notes.items
         × AreInOrder o.notes.items
         × AreChangesOf o.shape o.notes.items o.changes.items
-        × (length o.notes.items + o.room ≤ deque_capacity o.notes)
-        × (length o.changes.items + o.room + o.room ≤ deque_capacity o.changes) };
+        × (o.room ≤ o.notes.room)
+        × (o.room + o.room ≤ o.changes.room) };
 }
 
 impl Owners {
@@ -62,8 +62,8 @@ impl Owners {
     {
         Ok(Owners {
             shape,
-            notes: VecDeque::new(alloc),
-            changes: VecDeque::new(alloc),
+            notes: OrderedBlocks::new(alloc),
+            changes: OrderedBlocks::new(alloc),
             room: 0,
         })
     }
@@ -84,8 +84,8 @@ impl Owners {
         let Some(changes) = count.checked_mul(2) else {
             return Err(AllocError);
         };
-        self.changes.reserve(changes as usize)?;
-        self.notes.reserve(count as usize)?;
+        self.changes.make_room(changes)?;
+        self.notes.make_room(count)?;
         self.room = count;
         Ok(())
     }
@@ -141,9 +141,7 @@ impl Owners {
     pub fn moves(&self) -> Result<Vec<Move>, AllocError>
         ensures { IfOk result (λ moves. moves.items ≡ moves_of self.now) }
     {
-        let (front, back) = self.changes.as_slices();
-        let mut moves = Vec::from_slice(*self.changes.allocator(), front)?;
-        moves.extend_from_slice(back)?;
+        let mut moves = self.changes.to_vec()?;
         moves.sort_unstable();
         Ok(moves)
     }

@@ -1,9 +1,10 @@
 use Rattle.std.proofs.Common.{List, refl, sym, subst, ◌∙◌, arith}
 use Rattle.mp_bins.specs.declared.owners.Note.{Note}
-use Rattle.mp_bins.specs.Notes.{AreInOrder, first_owner, with_note}
+use Rattle.mp_bins.specs.Notes.{AreInOrder, first_owner, place_of_note, with_note}
 use Rattle.mp_bins.specs.Changes.{AreChangesOf}
 use Rattle.mp_bins.proofs.Noting.{AreTouched, here_fresh, here_there, in_line, picked_too, then_fresh, then_there, then_too}
-use Rattle.mp_bins.proofs.Placing.{with_in_order}
+use Rattle.mp_bins.proofs.Placing.{put_is_with, with_in_order}
+use Rattle.mp_bins.proofs.Searching.{place_inside, place_parts}
 use Rattle.mp_bins.proofs.changes.put_down.Goals as goal
 
 pub replace-requires : goal.replace-requires
@@ -11,7 +12,7 @@ replace-requires c =
     let shape = c.args.shape in
     let ns = c.args.notes.now.items in
     let note = c.args.note in
-    let at = c.place_for-at.result in
+    let at = place_of_note ns note in
     let next = c.next_time-next.result in
     let here = c.move_at-here.result in
     let then = c.move_then-then.result in
@@ -20,10 +21,10 @@ replace-requires c =
     let f = c.first_owner-first.ensures in
     let owner = c.first_owner-first.result in
     let first = first_owner shape note.control.bin in
-    let inside = c.place_for-at.ensures.inside in
-    let split = c.place_for-at.ensures.split in
+    let inside = place_inside ns note in
+    let split = place_parts ns note c.requires.order in
     let is_next = c.next_time-next.ensures in
-    let new_is = c.insert_reserved.ensures.items ∙ c.place_for-at.ensures.place in
+    let new_is = c.insert_reserved.ensures.put ∙ put_is_with ns note c.requires.not_yet in
     let are : AreTouched shape ns c.requires.order note at inside split next is_next here then new_here new_then = record {
       here_is = picked_too ns ns note.control.stage note.control.bin note.control.time owner first here refl f (c.move_at-here.ensures.some, c.move_at-here.ensures.none);
       then_is = then_too ns ns note.control.stage note.control.bin owner first next then refl f (c.move_then-then.ensures.some, c.move_then-then.ensures.none);
@@ -42,7 +43,7 @@ replace-requires-2 c =
     let shape = c.args.shape in
     let ns = c.args.notes.now.items in
     let note = c.args.note in
-    let at = c.place_for-at.result in
+    let at = place_of_note ns note in
     let next = c.next_time-next.result in
     let here = c.move_at-here.result in
     let then = c.move_then-then.result in
@@ -51,10 +52,10 @@ replace-requires-2 c =
     let f = c.first_owner-first.ensures in
     let owner = c.first_owner-first.result in
     let first = first_owner shape note.control.bin in
-    let inside = c.place_for-at.ensures.inside in
-    let split = c.place_for-at.ensures.split in
+    let inside = place_inside ns note in
+    let split = place_parts ns note c.requires.order in
     let is_next = c.next_time-next.ensures in
-    let new_is = c.insert_reserved.ensures.items ∙ c.place_for-at.ensures.place in
+    let new_is = c.insert_reserved.ensures.put ∙ put_is_with ns note c.requires.not_yet in
     let are : AreTouched shape ns c.requires.order note at inside split next is_next here then new_here new_then = record {
       here_is = picked_too ns ns note.control.stage note.control.bin note.control.time owner first here refl f (c.move_at-here.ensures.some, c.move_at-here.ensures.none);
       then_is = then_too ns ns note.control.stage note.control.bin owner first next then refl f (c.move_then-then.ensures.some, c.move_then-then.ensures.none);
@@ -73,7 +74,7 @@ returns-clause-changes c =
     let shape = c.args.shape in
     let ns = c.args.notes.now.items in
     let note = c.args.note in
-    let at = c.place_for-at.result in
+    let at = place_of_note ns note in
     let next = c.next_time-next.result in
     let here = c.move_at-here.result in
     let then = c.move_then-then.result in
@@ -82,10 +83,10 @@ returns-clause-changes c =
     let f = c.first_owner-first.ensures in
     let owner = c.first_owner-first.result in
     let first = first_owner shape note.control.bin in
-    let inside = c.place_for-at.ensures.inside in
-    let split = c.place_for-at.ensures.split in
+    let inside = place_inside ns note in
+    let split = place_parts ns note c.requires.order in
     let is_next = c.next_time-next.ensures in
-    let new_is = c.insert_reserved.ensures.items ∙ c.place_for-at.ensures.place in
+    let new_is = c.insert_reserved.ensures.put ∙ put_is_with ns note c.requires.not_yet in
     let are : AreTouched shape ns c.requires.order note at inside split next is_next here then new_here new_then = record {
       here_is = picked_too ns ns note.control.stage note.control.bin note.control.time owner first here refl f (c.move_at-here.ensures.some, c.move_at-here.ensures.none);
       then_is = then_too ns ns note.control.stage note.control.bin owner first next then refl f (c.move_then-then.ensures.some, c.move_then-then.ensures.none);
@@ -98,14 +99,15 @@ pub move_at-new_here-requires : goal.move_at-new_here-requires
 move_at-new_here-requires c =
     let ns = c.args.notes.now.items in
     let note = c.args.note in
-    let at = c.place_for-at.result in
-    let new_is = c.insert_reserved.ensures.items ∙ c.place_for-at.ensures.place in
+    let new_is = c.insert_reserved.ensures.put ∙ put_is_with ns note c.requires.not_yet in
     subst AreInOrder (sym new_is) (with_in_order ns note c.requires.order)
 
 pub move_then-new_then-requires : goal.move_then-new_then-requires
 move_then-new_then-requires c =
     let ns = c.args.notes.now.items in
     let note = c.args.note in
-    let at = c.place_for-at.result in
-    let new_is = c.insert_reserved.ensures.items ∙ c.place_for-at.ensures.place in
+    let new_is = c.insert_reserved.ensures.put ∙ put_is_with ns note c.requires.not_yet in
     subst AreInOrder (sym new_is) (with_in_order ns note c.requires.order)
+
+pub returns-clause-notes : goal.returns-clause-notes
+returns-clause-notes c = c.insert_reserved.ensures.put ∙ put_is_with c.args.notes.now.items c.args.note c.requires.not_yet

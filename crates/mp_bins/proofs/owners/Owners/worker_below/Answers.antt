@@ -1,5 +1,5 @@
 use Rattle.std.proofs.Common.{◌≡◌, ◌%◌, ◌<◌, ℕ, ap, subst, sym, arith}
-use Rattle.mp_bins.specs.declared.finding.StageBin.{StageBin}
+use Rattle.mp_bins.specs.declared.kept.StageBin.{StageBin}
 use Rattle.mp_bins.specs.Notes.{AreWithin, Notes}
 use Rattle.mp_bins.proofs.Searching.{owner_is_worker}
 use Rattle.mp_bins.proofs.owners.Owners.worker_below.Goals as goal
