@@ -1,7 +1,7 @@
 -- Frontiers that are put at their places one by one.
-use Rattle.std.proofs.Common.{◌≡◌, ◌≢◌, ◌⊎◌, ℕ, ◌+◌, ◌<◌, ◌≤◌, List, length, get_or, set, sym, subst, ◌∙◌, ⊎_elim, arith, ap}
+use Rattle.std.proofs.Common.{◌≡◌, ◌≢◌, ◌⊎◌, ℕ, ◌+◌, ◌<◌, ◌≤◌, List, length, get_or, replicate, set, sym, subst, ◌∙◌, ⊎_elim, arith, ap}
 use Rattle.std.proofs.lemmas.Bool.{cases_eq, cases_lt}
-use Rattle.std.proofs.lemmas.List.{get_or-set_same, get_or-set_other, length-set}
+use Rattle.std.proofs.lemmas.List.{get_or-replicate, get_or-set_same, get_or-set_other, get_or_past, length-replicate, length-set}
 use Rattle.mp_names.specs.declared.locations.Frontier.{Frontier}
 use Rattle.mp_names.specs.declared.locations.Frontier.TheVariants.{Done}
 use Rattle.mp_names.specs.declared.locations.Loc.{Loc}
@@ -56,3 +56,13 @@ module _ (cs : CountTable) (fs : List Frontier) (n i j : ℕ) (out_route out_mai
     where
       inside : (p : ℕ) → p ≢ 3 → p ≢ 4 → (p < 3) ⊎ (4 < p)
       inside p m n = grind arith
+
+-- no frontier is put at a place from this one on
+abbrev pub NoneFrom : List Frontier → ℕ → Type 0
+NoneFrom fs n = (p : ℕ) → n ≤ p → get_or fs p Done ≡ Done
+
+pub none_at_first : (n : ℕ) → NoneFrom (replicate n Done) 0
+none_at_first n p l = ⊎_elim (λ (k : p < n). get_or-replicate n p Done Done k) (λ (k : n ≤ p). get_or_past (replicate n Done) p Done (omega (arith, length-replicate n Done))) (cases_lt p n)
+
+pub none_past : (fs : List Frontier) (i n m : ℕ) (f : Frontier) → i < m → n ≤ m → NoneFrom fs n → NoneFrom (set fs i f) m
+none_past fs i n m f l k h p q = get_or-set_other fs i p f Done (λ e. absurd (omega arith)) ∙ h p (omega arith)

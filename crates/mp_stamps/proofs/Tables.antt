@@ -48,6 +48,9 @@ location_placed stages (Move j) h = omega arith
 location_placed stages (State j) h = omega arith
 location_placed stages (Host j) h = omega arith
 
+pub location_later : (m n : ℕ) (a : Loc) → m ≤ n → IsLocation m a → IsLocation n a
+location_later m n a l h = let p = place_inside m a h in location_placed n a (omega arith)
+
 -- Times that rise
 
 abbrev pub Rises : List ℕ → Type 0

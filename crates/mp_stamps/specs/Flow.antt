@@ -5,6 +5,8 @@ use Rattle.mp_names.specs.declared.locations.Frontier.TheVariants.{At, Done}
 use Rattle.mp_names.specs.declared.locations.Loc.{Loc}
 use Rattle.mp_names.specs.declared.locations.Loc.TheVariants.{Source, Host}
 use Rattle.mp_names.specs.Frontiers.{earlier}
+use Rattle.mp_names.specs.Locations.{IsLocation}
+use Rattle.mp_stamps.specs.Counts.{CountTable, count_in}
 
 -- it stands at the least time with a count other than 0, if there is one
 abbrev pub IsFirstTime : (ℕ → ℤ) → Frontier → Type 0
@@ -20,3 +22,7 @@ earlier_of Done other = other
 abbrev pub origin_of : ℕ → Loc
 origin_of zero = Source
 origin_of (suc j) = Host j
+
+-- nothing is counted at locations of later stages than these
+abbrev pub HasNoMore : CountTable → ℕ → Type 0
+HasNoMore counts stages = (at : Loc) (t : ℕ) → (IsLocation stages at → ⊥) → count_in counts at t ≡ pos 0

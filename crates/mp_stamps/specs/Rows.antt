@@ -1,5 +1,5 @@
 -- The counts of one location, by time.
-use Rattle.std.specs.Prelude.{◌≡◌, ◌≢◌, ◌<◌, ◌≤◌, ℕ, Bool, cond, not, List, ℤ, pos, length, slice_index_or, count_by}
+use Rattle.std.specs.Prelude.{◌≡◌, ◌≢◌, ◌<◌, ◌≤◌, ◌*◌, ℕ, Bool, cond, not, List, ℤ, pos, drop, get_or, length, slice_index_or, count_by, take}
 use Rattle.std.specs.Ordering.{int_eq}
 
 -- the count at an index, 0 past the end
@@ -29,3 +29,12 @@ pub record IsFirstBut (counts : List ℤ) (first changed : ℕ) : Type 0 where
 pub record IsRow (counts : List ℤ) (number first : ℕ) : Type 0 where
   pub numbered : number ≡ count_by is_outstanding counts
   pub first_open : IsFirstOpen counts first
+
+-- one block of 256 counts
+abbrev pub block_of : List ℤ → ℕ → List ℤ
+block_of counts b = take 256 (drop (256 * b) counts)
+
+-- the numbers say how many counts of each block are other than 0
+pub record AreNumbered (counts : List ℤ) (numbers : List ℕ) : Type 0 where
+  pub enough : length counts < 256 * length numbers
+  pub each : (b : ℕ) → b < length numbers → get_or numbers b 0 ≡ count_by is_outstanding (block_of counts b)

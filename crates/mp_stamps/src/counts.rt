@@ -10,6 +10,7 @@ ghost use Rattle.mp_stamps.specs.Counts.{AreZeroRows, IsCounted, IsFirstFor, Sam
 ghost use Rattle.mp_stamps.specs.Flow.{IsFirstTime};
 ghost use Rattle.mp_stamps.specs.Places.{places_of};
 
+use crate::near::index_of;
 use crate::place::{loc_at, place_of};
 use crate::reaching::reaches;
 use crate::row::Row;
@@ -74,7 +75,8 @@ impl Counts {
         if place >= self.rows.len() {
             return;
         }
-        let Ok(index) = self.times.binary_search(&time) else {
+        let near = self.rows[place].near();
+        let Ok(index) = index_of(&self.times, near, time) else {
             return;
         };
         self.rows[place].add(index, by);

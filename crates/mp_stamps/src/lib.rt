@@ -7,6 +7,7 @@
 mod counts;
 mod flow;
 mod frontiers;
+mod near;
 mod place;
 mod reaching;
 mod row;

@@ -1,10 +1,13 @@
 //! The counts of one location.
-ghost use Rattle.std.specs.Prelude.{◌≡◌, ◌<◌, ◌≤◌, ◌+◌, ◌-◌, ◌^◌, ℕ, pos, ◌+ℤ◌, IfOk, FitsSigned, count_by, length, replicate, slice_set};
+ghost use Rattle.std.specs.Prelude.{◌≡◌, ◌≢◌, ◌<◌, ◌≤◌, ◌+◌, ◌-◌, ◌^◌, ℕ, pos, ◌+ℤ◌, IfOk, FitsSigned, count_by, get_or, length, replicate, slice_set};
 ghost use Rattle.std.specs.Int.{w128};
-ghost use Rattle.mp_stamps.specs.Rows.{IsFirstBut, IsFirstOpen, count_there, is_outstanding, number_of};
+ghost use Rattle.mp_stamps.specs.Rows.{AreNumbered, IsFirstBut, IsFirstOpen, count_there, is_outstanding, number_of};
 
 use std::alloc::{AllocError, Global};
 use std::marker::Model;
+
+// As many counts as are numbered together.
+const BLOCK: usize = 256;
 
 /// The counts of one location, by the indices of the times. Contracts see the list of them.
 #[derive(Drop)]
@@ -13,17 +16,21 @@ pub struct Row {
     // How many of them are other than 0, and where the first of these is.
     outstanding: usize,
     first: usize,
+    // How many of each block of them are other than 0.
+    numbers: Vec<usize>,
+    // The index that changed last.
+    near: usize,
 }
 
 impl Model for Row {
     ghost use Rattle.std.specs.Prelude.{List, ℤ};
-    ghost use Rattle.mp_stamps.specs.Rows.{IsRow};
+    ghost use Rattle.mp_stamps.specs.Rows.{AreNumbered, IsRow};
 
     ghost Value = { List ℤ };
 
     ghost view = { λ r. r.counts.items };
 
-    ghost invariant = { λ r. IsRow r.counts.items r.outstanding r.first };
+    ghost invariant = { λ r. IsRow r.counts.items r.outstanding r.first × AreNumbered r.counts.items r.numbers.items };
 }
 
 impl Row {
@@ -39,7 +46,14 @@ impl Row {
             counts,
             outstanding: 0,
             first: times,
+            numbers: none_open(alloc, times / BLOCK + 1)?,
+            near: 0,
         })
+    }
+
+    /// The index that changed last, or the first.
+    pub(crate) fn near(&self) -> usize {
+        self.near
     }
 
     /// The count at an index.
@@ -67,8 +81,28 @@ impl Row {
         let after = before + i128::from(by);
         self.counts[index] = after;
         self.outstanding = recounted(self.outstanding, before, after);
-        self.first = first_after(&self.counts, self.outstanding, self.first, index);
+        let block = index / BLOCK;
+        self.numbers[block] = recounted(self.numbers[block], before, after);
+        self.first = first_after(
+            &self.counts,
+            &self.numbers,
+            self.outstanding,
+            self.first,
+            index,
+        );
+        self.near = index;
     }
+}
+
+// Numbers of blocks that have no count other than 0. `AllocError`: no memory.
+fn none_open(alloc: Global, blocks: usize) -> Result<Vec<usize>, AllocError>
+    ensures { IfOk result (λ numbers. numbers.items ≡ replicate blocks 0) }
+{
+    let mut numbers = Vec::with_capacity(alloc, blocks)?;
+    for _ in 0..blocks {
+        numbers.push(0)?;
+    }
+    Ok(numbers)
 }
 
 // How many counts are other than 0 after one of them changed.
@@ -85,8 +119,15 @@ fn recounted(outstanding: usize, before: i128, after: i128) -> usize
 }
 
 // The index of the first count other than 0 after the one at an index changed.
-fn first_after(counts: &[i128], outstanding: usize, first: usize, index: usize) -> usize
+fn first_after(
+    counts: &[i128],
+    numbers: &[usize],
+    outstanding: usize,
+    first: usize,
+    index: usize,
+) -> usize
     requires index { index < length counts.now }
+    requires numbers { AreNumbered counts.now numbers.now }
     requires outstanding { outstanding ≡ count_by is_outstanding counts.now }
     requires before { IsFirstBut counts.now first index }
     ensures { IsFirstOpen counts.now result }
@@ -100,19 +141,53 @@ fn first_after(counts: &[i128], outstanding: usize, first: usize, index: usize) 
     if index != first {
         return first;
     }
-    next_open(counts, first + 1)
+    next_open(counts, numbers, first + 1)
 }
 
-// The index of the first count other than 0, from an index on before which there is none.
-fn next_open(counts: &[i128], from: usize) -> usize
+// The index of the first count other than 0, from an index on before which there is none: in the index's block, or in the
+// next block that has one.
+fn next_open(counts: &[i128], numbers: &[usize], from: usize) -> usize
     requires from { from ≤ length counts.now }
     requires quiet { (k : ℕ) → k < from → count_there counts.now k ≡ pos 0 }
+    requires numbers { AreNumbered counts.now numbers.now }
     ensures { IsFirstOpen counts.now result }
 {
-    for index in from..counts.len() {
+    let block = from / BLOCK + 1;
+    let end = counts.len().min(BLOCK.saturating_mul(block));
+    let here = next_within(counts, from, end);
+    if here < end {
+        return here;
+    }
+    let next = next_block(numbers, block);
+    let start = counts.len().min(BLOCK.saturating_mul(next));
+    next_within(counts, start, counts.len())
+}
+
+// The index of the first count other than 0, between an index before which there is none and an end.
+fn next_within(counts: &[i128], from: usize, end: usize) -> usize
+    requires from { from ≤ end }
+    requires end { end ≤ length counts.now }
+    requires quiet { (k : ℕ) → k < from → count_there counts.now k ≡ pos 0 }
+    ensures inside { result ≤ end }
+    ensures quiet { (k : ℕ) → k < result → count_there counts.now k ≡ pos 0 }
+    ensures open_there { result < end → count_there counts.now result ≢ pos 0 }
+{
+    for index in from..end {
         if counts[index] != 0 {
             return index;
         }
     }
-    counts.len()
+    end
+}
+
+// The first block from one on that has a count other than 0, or one past the last.
+fn next_block(numbers: &[usize], from: usize) -> usize
+    ensures { (b : ℕ) → from ≤ b → b < result → b < length numbers.now → get_or numbers.now b 0 ≡ 0 }
+{
+    for block in from..numbers.len() {
+        if numbers[block] != 0 {
+            return block;
+        }
+    }
+    numbers.len()
 }

@@ -1,11 +1,12 @@
 //! What a worker saw at its last exchange.
-ghost use Rattle.std.specs.Prelude.{◌≡◌, ◌≤◌, get_or};
+ghost use Rattle.std.specs.Prelude.{◌≡◌, ◌≤◌, ℕ, get_or};
 ghost use Rattle.mp_names.specs.Frontiers.{IsFrontierOf};
 ghost use Rattle.mp_names.specs.Limits.{most_stages_seen};
 ghost use Rattle.mp_names.specs.declared.locations.Frontier.TheVariants.{Done};
 ghost use Rattle.mp_names.specs.declared.locations.Loc.{Loc};
 ghost use Rattle.mp_names.specs.Locations.{IsLocation};
 ghost use Rattle.mp_stamps.specs.Counts.{count_in};
+ghost use Rattle.mp_stamps.specs.Flow.{HasNoMore, origin_of};
 ghost use Rattle.mp_stamps.specs.Places.{place_of};
 ghost use Rattle.mp_stamps.specs.Seen.{seen_at};
 
@@ -33,6 +34,7 @@ impl Seen {
         ensures version { result.version ≡ version }
         ensures stages { result.stages ≡ stages }
         ensures frontiers { (at : Loc) → IsLocation stages at → IsFrontierOf (count_in counts.now) at (seen_at result at) }
+        ensures others { (at : Loc) → ¬ IsLocation stages at → seen_at result at ≡ Done }
     {
         Seen {
             version,
@@ -69,7 +71,8 @@ impl Seen {
 // The frontiers of the locations of so many stages, by their places, in one pass along the dataflow.
 fn frontiers_of(stages: u32, counts: &Counts) -> [Frontier; PLACES]
     requires { stages ≤ most_stages_seen }
-    ensures { (at : Loc) → IsLocation stages at → IsFrontierOf (count_in counts.now) at (get_or result (place_of at) Done) }
+    ensures frontiers { (at : Loc) → IsLocation stages at → IsFrontierOf (count_in counts.now) at (get_or result (place_of at) Done) }
+    ensures others { (at : Loc) → ¬ IsLocation stages at → get_or result (place_of at) Done ≡ Done }
 {
     let mut frontiers = [Frontier::Done; PLACES];
     let own_ctl_mail = counts.first_time(Loc::CtlMail);
@@ -79,8 +82,7 @@ fn frontiers_of(stages: u32, counts: &Counts) -> [Frontier; PLACES]
     frontiers[place_of(Loc::Ctl)] = ctl;
     frontiers[place_of(Loc::CtlMail)] = ctl_mail;
     frontiers[place_of(Loc::Source)] = origin;
-    let all_stages = stages.max(counts.stages());
-    for stage in 0..all_stages {
+    for stage in 0..stages {
         let found = of_stage(counts, stage, ctl_mail, origin);
         frontiers[place_of(Loc::Route(stage))] = found.route;
         frontiers[place_of(Loc::Mail(stage))] = found.mail;
@@ -89,12 +91,27 @@ fn frontiers_of(stages: u32, counts: &Counts) -> [Frontier; PLACES]
         frontiers[place_of(Loc::Host(stage))] = found.host;
         origin = found.host;
     }
+    let last = last_origin(counts, stages, ctl_mail, origin);
     let own_out_route = counts.first_time(Loc::OutRoute);
     let own_out_mail = counts.first_time(Loc::OutMail);
-    let inputs = earlier(ctl_mail, origin);
+    let inputs = earlier(ctl_mail, last);
     let out_route = earlier(inputs, own_out_route);
     let out_mail = earlier(out_route, own_out_mail);
     frontiers[place_of(Loc::OutRoute)] = out_route;
     frontiers[place_of(Loc::OutMail)] = out_mail;
     frontiers
+}
+
+// The frontier of what the answer's rows come from, from that of what the records of a stage come from, where the counts may
+// have more stages.
+fn last_origin(counts: &Counts, stages: u32, ctl_mail: Frontier, origin: Frontier) -> Frontier
+    requires ctl_mail { IsFrontierOf (count_in counts.now) Loc.CtlMail ctl_mail }
+    requires origin { IsFrontierOf (count_in counts.now) (origin_of stages) origin }
+    ensures { (all : ℕ) × HasNoMore counts.now all × IsFrontierOf (count_in counts.now) (origin_of all) result }
+{
+    let mut last = origin;
+    for stage in stages..counts.stages() {
+        last = of_stage(counts, stage, ctl_mail, last).host;
+    }
+    last
 }

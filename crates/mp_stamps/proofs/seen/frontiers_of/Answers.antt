@@ -1,4 +1,5 @@
-use Rattle.std.proofs.Common.{◌≡◌, ◌<◌, ◌≤◌, ◌+◌, ◌∙◌, List, ℕ, add-one, arith, length, lit<, refl, replicate, set, rules, subst, sym}
+use Rattle.std.proofs.Common.{◌≡◌, ◌<◌, ◌≤◌, ◌+◌, ◌∙◌, List, ℕ, ⊎_elim, add-one, arith, length, lit<, refl, replicate, set, rules, subst, sym}
+use Rattle.std.proofs.lemmas.Bool.{cases_lt}
 use Rattle.std.proofs.lemmas.List.{length-set}
 use Rattle.mp_names.specs.declared.locations.Frontier.{Frontier}
 use Rattle.mp_names.specs.declared.locations.Frontier.TheVariants.{Done}
@@ -6,10 +7,10 @@ use Rattle.mp_names.specs.declared.locations.Loc.TheVariants.{Ctl, CtlMail, Sour
 use Rattle.mp_names.specs.Frontiers.{IsFrontierOf}
 use Rattle.mp_stamps.specs.Counts.{count_in}
 use Rattle.mp_stamps.specs.Flow.{origin_of}
-use Rattle.mp_stamps.specs.Places.{places_of}
+use Rattle.mp_stamps.specs.Places.{place_of, places_of}
 use Rattle.mp_stamps.proofs.Edges.{at_ctl, at_ctl_mail, at_out_mail, at_out_route, at_source}
-use Rattle.mp_stamps.proofs.Seeing.{AreFound, all_found, found_before_stages, found_next, none_found}
-use Rattle.mp_stamps.proofs.Tables.{place_inside}
+use Rattle.mp_stamps.proofs.Seeing.{AreFound, NoneFrom, all_found, found_before_stages, found_next, none_at_first, none_found, none_past}
+use Rattle.mp_stamps.proofs.Tables.{location_placed, place_inside}
 use Rattle.mp_stamps.proofs.seen.frontiers_of.Goals as goal
 
 pub of_stage-found-requires-clause-ctl_mail : goal.of_stage-found-requires-clause-ctl_mail
@@ -34,7 +35,10 @@ loop-stage-init c =
     let found1 : AreFound table fs1 1 = found_next table fs _ 0 Ctl _ c.place_of.ensures refl (lit< tt) ctl (none_found table fs) in
     let found2 : AreFound table fs2 2 = found_next table fs1 _ 1 CtlMail _ c.place_of-2.ensures refl (omega arith) ctl_mail found1 in
     let found3 : AreFound table fs3 3 = found_next table fs2 _ 2 Source _ c.place_of-3.ensures refl (omega arith) source found2 in
-    (found_before_stages table fs3 found3, source, long3)
+    let none1 : NoneFrom fs1 5 = none_past fs _ 0 5 _ (omega (arith, c.place_of.ensures)) (omega arith) (none_at_first 25) in
+    let none2 : NoneFrom fs2 5 = none_past fs1 _ 5 5 _ (omega (arith, c.place_of-2.ensures)) (omega arith) none1 in
+    let none3 : NoneFrom fs3 5 = none_past fs2 _ 5 5 _ (omega (arith, c.place_of-3.ensures)) (omega arith) none2 in
+    (found_before_stages table fs3 found3, source, long3, none3)
 
 pub loop-stage-preserved : goal.loop-stage-preserved
 loop-stage-preserved c =
@@ -47,6 +51,7 @@ loop-stage-preserved c =
     let fs = l.frontiers in
     let long = l.invariant.2 in
     let few : j < 4 = search rules in
+    let m = places_of (j + 1) in
     let fs1 = set fs c.place_of-in-loop-stage.result f.result.route in
     let fs2 = set fs1 c.place_of-in-loop-stage-2.result f.result.mail in
     let fs3 = set fs2 c.place_of-in-loop-stage-3.result f.result.moves in
@@ -63,22 +68,46 @@ loop-stage-preserved c =
     let found4 : AreFound table fs4 (n + 1 + 1 + 1 + 1) = found_next table fs3 _ (n + 1 + 1 + 1) (State j) f.result.state c.place_of-in-loop-stage-4.ensures (omega arith) (omega arith) f.ensures.state found3 in
     let found5 : AreFound table fs5 (n + 1 + 1 + 1 + 1 + 1) = found_next table fs4 _ (n + 1 + 1 + 1 + 1) (Host j) f.result.host c.place_of-in-loop-stage-5.ensures (omega arith) (omega arith) f.ensures.host found4 in
     let next : n + 1 + 1 + 1 + 1 + 1 ≡ places_of (j + 1) = omega arith in
-    (subst (AreFound table fs5) next found5, subst (λ (k : ℕ). IsFrontierOf counts (origin_of k) f.result.host) (sym (add-one j)) f.ensures.host, long5)
+    let none1 : NoneFrom fs1 m = none_past fs _ n m _ (omega (arith, c.place_of-in-loop-stage.ensures)) (omega arith) l.invariant.3 in
+    let none2 : NoneFrom fs2 m = none_past fs1 _ m m _ (omega (arith, c.place_of-in-loop-stage-2.ensures)) (omega arith) none1 in
+    let none3 : NoneFrom fs3 m = none_past fs2 _ m m _ (omega (arith, c.place_of-in-loop-stage-3.ensures)) (omega arith) none2 in
+    let none4 : NoneFrom fs4 m = none_past fs3 _ m m _ (omega (arith, c.place_of-in-loop-stage-4.ensures)) (omega arith) none3 in
+    let none5 : NoneFrom fs5 m = none_past fs4 _ m m _ (omega (arith, c.place_of-in-loop-stage-5.ensures)) (omega arith) none4 in
+    (subst (AreFound table fs5) next found5, subst (λ (k : ℕ). IsFrontierOf counts (origin_of k) f.result.host) (sym (add-one j)) f.ensures.host, long5, none5)
 
-pub returns : goal.returns
-returns c =
+pub last_origin-last-requires-clause-ctl_mail : goal.last_origin-last-requires-clause-ctl_mail
+last_origin-last-requires-clause-ctl_mail c =
+    let counts = count_in c.args.counts.now in
+    at_ctl_mail counts _ _ _ (at_ctl counts _ c.first_time-ctl.ensures) c.first_time-own_ctl_mail.ensures c.earlier-ctl_mail.ensures
+
+pub last_origin-last-requires-clause-origin : goal.last_origin-last-requires-clause-origin
+last_origin-last-requires-clause-origin c =
+    let l = c.loop-stage in
+    let end : l.stage ≡ c.args.stages = search rules in
+    subst (λ (k : ℕ). IsFrontierOf (count_in c.args.counts.now) (origin_of k) l.origin) end l.invariant.1
+
+pub returns-clause-frontiers : goal.returns-clause-frontiers
+returns-clause-frontiers c =
     let table = c.args.counts.now in
     let counts = count_in table in
     let l = c.loop-stage in
-    let all = c.max-all_stages.result in
-    let kept : c.stages.result ≤ all = search rules in
-    let few : c.args.stages ≤ all = search rules in
+    let all = c.last_origin-last.ensures.0 in
     let ctl = at_ctl counts _ c.first_time-ctl.ensures in
     let ctl_mail = at_ctl_mail counts _ _ _ ctl c.first_time-own_ctl_mail.ensures c.earlier-ctl_mail.ensures in
-    let end : l.stage ≡ all = search rules in
-    let origin = subst (λ (k : ℕ). IsFrontierOf counts (origin_of k) l.origin) end l.invariant.1 in
-    let rows : IsFrontierOf counts OutRoute c.earlier-out_route.result = at_out_route table c.stages.result all _ _ _ _ _ kept c.stages.ensures.none_elsewhere ctl_mail origin c.first_time-own_out_route.ensures c.earlier-inputs.ensures c.earlier-out_route.ensures in
+    let end : l.stage ≡ c.args.stages = search rules in
+    let rows : IsFrontierOf counts OutRoute c.earlier-out_route.result = at_out_route table all all _ _ _ _ _ (omega arith) c.last_origin-last.ensures.1 ctl_mail c.last_origin-last.ensures.2 c.first_time-own_out_route.ensures c.earlier-inputs.ensures c.earlier-out_route.ensures in
     let mail : IsFrontierOf counts OutMail c.earlier-out_mail.result = at_out_mail counts _ _ _ rows c.first_time-own_out_mail.ensures c.earlier-out_mail.ensures in
     λ at h.
     let p = place_inside c.args.stages at h in
-    all_found table l.frontiers (places_of l.stage) _ _ _ _ c.place_of-4.ensures c.place_of-5.ensures (omega (arith, l.invariant.2)) rows mail l.invariant.0 at (omega (arith, p, few, end))
+    all_found table l.frontiers (places_of l.stage) _ _ _ _ c.place_of-4.ensures c.place_of-5.ensures (omega (arith, l.invariant.2)) rows mail l.invariant.0 at (omega (arith, p, end))
+
+pub returns-clause-others : goal.returns-clause-others
+returns-clause-others c =
+    let l = c.loop-stage in
+    let fs = l.frontiers in
+    let end : l.stage ≡ c.args.stages = search rules in
+    let m = places_of c.args.stages in
+    let none : NoneFrom fs m = subst (λ (k : ℕ). NoneFrom fs (places_of k)) end l.invariant.3 in
+    let none1 = none_past fs c.place_of-4.result m m c.earlier-out_route.result (omega (arith, c.place_of-4.ensures)) (omega arith) none in
+    let none2 = none_past (set fs c.place_of-4.result c.earlier-out_route.result) c.place_of-5.result m m c.earlier-out_mail.result (omega (arith, c.place_of-5.ensures)) (omega arith) none1 in
+    λ at h. none2 (place_of at) (⊎_elim (λ (k : place_of at < m). absurd (h (location_placed c.args.stages at k))) (λ (k : m ≤ place_of at). k) (cases_lt (place_of at) m))
