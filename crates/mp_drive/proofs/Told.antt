@@ -1,5 +1,5 @@
 -- What a worker says of its step, by its answer.
-use Rattle.std.proofs.Common.{◌≡◌, ◌⊎◌, ℕ, Some, None, Ok, Err, List, Option, refl, ap, inl, inr, ⊎_elim}
+use Rattle.std.proofs.Common.{◌≡◌, ◌⊎◌, ℕ, Some, None, Ok, Err, List, Option, refl, sym, ap, ◌∙◌, inl, inr, ⊎_elim}
 use Rattle.std.specs.Prelude.{OnErr}
 use Rattle.std.specs.declared.result.Result.{Result}
 use Rattle.mp_names.specs.declared.kinds.Kind.{Kind}
@@ -9,6 +9,7 @@ use Rattle.mp_names.specs.Outlines.{Outline}
 use Rattle.mp_stamps.specs.declared.seen.Seen.{Seen}
 use Rattle.mp_mailbox.specs.Queues.{HadRoom, Queues, WasEmpty, WasFull}
 use Rattle.mp_board.specs.Boards.{Posted, ShowsFrontiers, exchanged}
+use Rattle.mp_board.specs.declared.causes.Cause.{Cause}
 use Rattle.mp_model.specs.Facts.{JobFacts, QueryFacts}
 use Rattle.mp_outside.specs.Sink.{grown}
 use Rattle.mp_answer_laws.specs.Lines.{lines_of_time}

@@ -1,5 +1,5 @@
 -- What a worker says of its step leads the workers on by one turn of the machine, or leaves them where they are.
-use Rattle.std.proofs.Common.{◌≡◌, ℕ, ◌<◌, ◌≤◌, List, [], ◌∷◌, ◌++◌, Some, Ok, Err, get_or, length, refl, sym, ap, ◌∙◌, subst, ⊎_elim, append-nil, arith}
+use Rattle.std.proofs.Common.{◌≡◌, ◌⊎◌, ℕ, ◌<◌, ◌≤◌, List, [], ◌∷◌, ◌++◌, Some, Ok, Err, get_or, length, refl, sym, ap, ◌∙◌, subst, inl, inr, ⊎_elim, append-nil, arith}
 use Rattle.std.specs.Prelude.{IfOk, OnErr, slice_get, slice_set}
 use Rattle.std.specs.declared.result.Result.{Result}
 use Rattle.std.proofs.lemmas.Option.{slice_get_read}
@@ -9,7 +9,8 @@ use Rattle.mp_names.specs.declared.names.Name.{Name}
 use Rattle.mp_names.specs.Outlines.{Outline, OutlineIsSound}
 use Rattle.mp_names.specs.Frontiers.{log_at}
 use Rattle.mp_names.specs.Logs.{Log}
-use Rattle.mp_mailbox.specs.Queues.{Queues}
+use Rattle.mp_stamps.specs.declared.seen.Seen.{Seen}
+use Rattle.mp_mailbox.specs.Queues.{HadRoom, Queues, WasEmpty, WasFull}
 use Rattle.mp_machine.specs.Worlds.{World, start_of_machine}
 use Rattle.mp_machine.specs.Runs.{Did, NotNow, Saw, Turn, after_turn, run_of_machine, step_of_machine, turn_of_machine}
 use Rattle.mp_machine.proofs.Turns.{not_now_from}
@@ -18,7 +19,8 @@ use Rattle.mp_board.specs.Boards.{Posted, ShowsFrontiers, exchanged, version_wit
 use Rattle.mp_refinement.specs.Ends.{PostMatchesLog, FollowsLog}
 use Rattle.mp_refinement.specs.Served.{IsAtHub, IsAtPost}
 use Rattle.mp_refinement.specs.Laws.{MailFollows, StepsMayBeAsked}
-use Rattle.mp_refinement.specs.State.{CanMake, WorkerState}
+use Rattle.mp_refinement.specs.Mail.{MailboxBlocks, MailboxAllows}
+use Rattle.mp_refinement.specs.State.{CanMake, Makes, WorkerState}
 use Rattle.mp_refinement.specs.SystemState.{Refines, SystemState, queues_denote}
 use Rattle.mp_refinement.proofs.Asked.{may_be_asked}
 use Rattle.mp_refinement.proofs.Exchanges as exchanges
