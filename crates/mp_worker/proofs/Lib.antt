@@ -12,6 +12,8 @@ pub mod Keeping
 pub mod Leaving
 pub mod Making
 pub mod Movers
+pub mod Numbered
+pub mod OwnLog
 pub mod Popped
 pub mod Received
 pub mod Roomy

@@ -8,6 +8,8 @@ mod exchange;
 mod extract;
 mod finished;
 mod ingest;
+mod kinds;
+mod known;
 mod parts;
 mod receive;
 mod room;
@@ -24,5 +26,6 @@ mod turn;
 mod worker;
 mod write;
 
+pub use kinds::{count_of_kinds, kind_at};
 pub use turn::{Stop, Turn};
 pub use worker::Worker;

@@ -1,7 +1,7 @@
 use Rattle.std.proofs.Common.{arith}
 use Rattle.mp_machine.proofs.Places.{length_kinds}
-use Rattle.mp_drive.proofs.Numbered.{route_at, receive_at, extract_at, settle_at, apply_at, send_row_at, write_at, exchange_at}
-use Rattle.mp_drive.proofs.places.kind_after.Goals as goal
+use Rattle.mp_worker.proofs.Numbered.{route_at, receive_at, extract_at, settle_at, apply_at, send_row_at, write_at, exchange_at}
+use Rattle.mp_worker.proofs.kinds.kind_after.Goals as goal
 
 pub returns-then-number-receive : goal.returns-then-number-receive
 returns-then-number-receive c = λ o workers stages below. route_at o _ _ (omega arith) (omega arith)

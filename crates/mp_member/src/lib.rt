@@ -1,0 +1,12 @@
+//! Layer: worker threads.
+//!
+//! A worker with its ends of the mailboxes and its way to the board: what one thread has of a running dataflow, and how
+//! it drives that.
+#![tactic(auto)]
+
+mod drive;
+mod member;
+mod step;
+
+pub use drive::Round;
+pub use member::Member;
