@@ -19,6 +19,7 @@ use Rattle.mp_drive.specs.Schedule.{AreFinished, AreScheduled, EndsAfter, Follow
 use Rattle.mp_drive.proofs.Counted.{some_at}
 use Rattle.mp_drive.proofs.Ended.{finished}
 use Rattle.mp_drive.proofs.Leading.{leads_further, run_more, still_there}
+use Rattle.mp_drive.proofs.Made.{made_more, one_made}
 use Rattle.mp_drive.proofs.Picked.{one_more_scheduled}
 use Rattle.mp_drive.proofs.Tried.{know_where_finished}
 
@@ -30,12 +31,6 @@ pub record LeadsBy (o : Outline) (seed n : ℕ) (old new : SystemState) : Type 0
   pub lead : LeadsOn o steps turns old new
   pub count : length steps ≡ n
   pub made : made_count turns ≡ n
-
-made_more : (a b : List Turn) → made_count (a ++ b) ≡ made_count a + made_count b
-made_more a b = sum_by-append (λ t. cond (is_made t) 1 0) a b
-
-one_made : (t : Turn) → is_made t ≡ true → made_count (t ∷ []) ≡ 1
-one_made t e = let here : made_count (t ∷ []) ≡ 0 + cond (is_made t) 1 0 = refl in here ∙ ap (λ (made : Bool). 0 + cond made 1 0) e
 
 module _ (o : Outline) (seed : ℕ) where
   pub begins_by_none : (t : SystemState) → LeadsBy o seed 0 t t

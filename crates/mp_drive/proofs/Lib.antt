@@ -3,6 +3,7 @@ pub mod Ended
 pub mod Followed
 pub mod Leading
 pub mod Listed
+pub mod Made
 pub mod Numbered
 pub mod Opened
 pub mod Owned

@@ -13,7 +13,7 @@ use Rattle.mp_refinement.specs.Laws.{IsNewWorker}
 use Rattle.mp_refinement.specs.State.{WorkerState}
 use Rattle.mp_refinement.specs.SystemState.{Refines, SystemState}
 use Rattle.mp_refinement.proofs.Begins.{opening_is_the_start}
-use Rattle.mp_drive.specs.Driven.{AreReached}
+use Rattle.mp_drive.specs.Driven.{AreReached, AreReachedBy}
 
 some_is : {X : Type 0} (x y : X) → Some x ≡ Some y → x ≡ y
 some_is x y e = cc
@@ -47,8 +47,15 @@ module _ (o : Outline) (ok : OutlineIsSound o) (t : SystemState) (depth : ℕ) (
   pub are_at_start : Refines o depth t (start_of_machine o)
   are_at_start = opening_is_the_start o depth t ok all new logs version post
 
+  begun : Refines o t.post.depth t (start_of_machine o)
+  begun = subst (λ (d : ℕ). Refines o d t (start_of_machine o)) (sym (ap (λ (p : Queues Name). p.depth) post)) are_at_start
+
   pub begin_reached : AreReached o t
-  begin_reached = ([], subst (λ (d : ℕ). Refines o d t (start_of_machine o)) (sym (ap (λ (p : Queues Name). p.depth) post)) are_at_start)
+  begin_reached = ([], begun)
+
+  -- no step is made
+  pub begin_counted : AreReachedBy o t 0
+  begin_counted = ([], begun, refl)
 
 -- the first of workers that have done nothing has an empty log, and where there is none so is what stands for it
 pub first_is_empty : (o : Outline) (xs : List WorkerState) → ((w : ℕ) (s : WorkerState) → slice_get xs w ≡ Some s → IsNewWorker o w s) → option_map_or (λ (s : WorkerState). s.log) (slice_get xs 0) empty_log ≡ empty_log

@@ -1,5 +1,5 @@
 -- What stands where a step was refused.
-use Rattle.std.proofs.Common.{◌≡◌, ℕ, suc, ◌+◌, ◌%◌, ◌<◌, List, [], ◌∷◌, ◌++◌, Option, Some, Err, drop, length, take, refl, sym, subst, inl, inr, ⊎_elim, append-nil}
+use Rattle.std.proofs.Common.{◌≡◌, ℕ, suc, ◌+◌, ◌%◌, ◌<◌, List, [], ◌∷◌, ◌++◌, Option, Some, Err, drop, length, take, refl, sym, subst, inl, inr, ⊎_elim, append-nil, ◌∙◌, arith}
 use Rattle.std.specs.Prelude.{IfErr, slice_get}
 use Rattle.std.specs.declared.result.Result.{Result}
 use Rattle.std.proofs.lemmas.List.{take-append-drop}
@@ -7,13 +7,13 @@ use Rattle.mp_names.specs.declared.kinds.Kind.{Kind}
 use Rattle.mp_names.specs.declared.kinds.Kind.TheVariants as kind
 use Rattle.mp_names.specs.Outlines.{Outline}
 use Rattle.mp_machine.specs.Places.{places}
-use Rattle.mp_machine.specs.Runs.{Turn, run_of_machine}
+use Rattle.mp_machine.specs.Runs.{Turn, made_count, run_of_machine}
 use Rattle.mp_model.specs.Facts.{JobFacts, QueryFacts}
 use Rattle.mp_outline.specs.JobOutline.{outline_of}
 use Rattle.mp_refinement.specs.SystemState.{SystemState}
 use Rattle.mp_drive.specs.declared.stop.DriveStop.{DriveStop}
 use Rattle.mp_drive.specs.declared.stop.DriveStop.TheVariants as stop
-use Rattle.mp_drive.specs.Driven.{HasBegun, HasKept, HasWritten, LeadsOn}
+use Rattle.mp_drive.specs.Driven.{Driven, HasBegun, HasKept, HasWritten, LeadsOn}
 use Rattle.mp_drive.specs.Refused.{IsWriteNext, IsWriteTried, KeepsSteps, RefusesDraw}
 use Rattle.mp_drive.specs.Schedule.{IsTried}
 use Rattle.mp_drive.proofs.Leading.{leads_further, still_there}
@@ -64,30 +64,33 @@ module _ {Cell : Type 0} (q : QueryFacts Cell) (job : JobFacts) where
       )
 
   -- no step of a list is made, and none is refused
-  pub keeps_none : (steps : List (ℕ × Kind)) (why : DriveStop) (t : SystemState) (has : Option (List ℕ)) → (why ≡ stop.Write → ⊥) → KeepsSteps q job steps why t t has has
+  pub keeps_none : (steps : List (ℕ × Kind)) (why : DriveStop) (t : Driven) (has : Option (List ℕ)) → (why ≡ stop.Write → ⊥) → KeepsSteps q job steps why t t has has
   keeps_none steps why t has not_write = record {
     kept = [];
     left = steps;
     turns = [];
     parts = refl;
-    lead = still_there o t;
+    lead = still_there o t.state;
+    counted = let none : made_count [] ≡ 0 = refl in omega arith;
     refused = inl refl;
     write = λ e. absurd (not_write e);
     lines = λ before h. inl h;
   }
 
   -- a step of a list is refused, after those before it
-  pub keeps_steps : (steps : List (ℕ × Kind)) (i : ℕ) (step : ℕ × Kind) (why : DriveStop) (turns : List Turn) (t mid new : SystemState) (had has : Option (List ℕ)) → drop i steps ≡ step ∷ drop (suc i) steps → LeadsOn o (take i steps) turns t mid → LeadsOn o [] [] mid new
-      → (why ≡ stop.Write → step.1 ≡ kind.Write) → ((before : Option (List ℕ)) → HasWritten q job.events before t had → HasKept q job.events step.1 before new has) → KeepsSteps q job steps why t new had has
-  keeps_steps steps i step why turns t mid new had has here lead still failed lines = record {
+  pub keeps_steps : (steps : List (ℕ × Kind)) (i : ℕ) (step : ℕ × Kind) (why : DriveStop) (turns : List Turn) (t mid new : Driven) (had has : Option (List ℕ)) → drop i steps ≡ step ∷ drop (suc i) steps → LeadsOn o (take i steps) turns t.state mid.state → LeadsOn o [] [] mid.state new.state
+      → mid.made ≡ t.made + made_count turns → new.made ≡ mid.made
+      → (why ≡ stop.Write → step.1 ≡ kind.Write) → ((before : Option (List ℕ)) → HasWritten q job.events before t.state had → HasKept q job.events step.1 before new.state has) → KeepsSteps q job steps why t new had has
+  keeps_steps steps i step why turns t mid new had has here lead still more same failed lines = record {
     kept = take i steps;
     left = drop i steps;
     turns = turns ++ [];
     parts = sym (take-append-drop i steps);
-    lead = subst (λ (made : List (ℕ × Kind)). LeadsOn o made (turns ++ []) t new) (append-nil (take i steps)) (leads_further o (take i steps) [] turns [] t mid new lead still);
+    lead = subst (λ (made : List (ℕ × Kind)). LeadsOn o made (turns ++ []) t.state new.state) (append-nil (take i steps)) (leads_further o (take i steps) [] turns [] t.state mid.state new.state lead still);
+    counted = subst (λ (made : List Turn). new.made ≡ t.made + made_count made) (sym (append-nil turns)) (same ∙ more);
     refused = inr (step, drop (suc i) steps, here);
     write = λ e. write (failed e);
-    lines = λ before h. ⊎_elim (λ (k : HasWritten q job.events before new has). inl k) (λ (k : (step.1 ≡ kind.Write) × HasBegun q job.events before has). inr (write k.0, k.1)) (lines before h);
+    lines = λ before h. ⊎_elim (λ (k : HasWritten q job.events before new.state has). inl k) (λ (k : (step.1 ≡ kind.Write) × HasBegun q job.events before has). inr (write k.0, k.1)) (lines before h);
   }
     where
       write : step.1 ≡ kind.Write → IsWriteNext (drop i steps)

@@ -1,5 +1,5 @@
 -- What driving workers on one thread does: a run of the machine, and the lines of the answer in a sink.
-use Rattle.std.specs.Prelude.{◌≡◌, ◌⊎◌, ℕ, List, ◌++◌, All, Option, Some, take, slice_get}
+use Rattle.std.specs.Prelude.{◌≡◌, ◌⊎◌, ℕ, List, [], ◌∷◌, ◌++◌, All, Option, Some, Result, Ok, Err, take, slice_get}
 use Rattle.std.specs.Option.{option_map_or}
 use Rattle.mp_names.specs.declared.kinds.Kind.{Kind}
 use Rattle.mp_names.specs.declared.kinds.Kind.TheVariants.{Write}
@@ -10,12 +10,19 @@ use Rattle.mp_model.specs.declared.record.Event.{Event}
 use Rattle.mp_model.specs.Answers.{one_thread_answer}
 use Rattle.mp_model.specs.Facts.{QueryFacts}
 use Rattle.mp_machine.specs.Promises.{LogIsFull}
-use Rattle.mp_machine.specs.Runs.{Turn, Did, IsFinished, NotNow, Saw, run_of_machine, turns_of}
+use Rattle.mp_machine.specs.Runs.{Turn, Did, IsFinished, NotNow, Saw, made_count, run_of_machine, turns_of}
+use Rattle.mp_machine.specs.Worlds.{start_of_machine}
 use Rattle.mp_refinement.specs.State.{WorkerState}
 use Rattle.mp_refinement.specs.SystemState.{Refines, KnowsTheEnd, SystemState}
 use Rattle.mp_answer_laws.specs.Lines.{written_lines}
 use Rattle.mp_worker.specs.declared.turn.Turn.{Turn as Answered}
 use Rattle.mp_worker.specs.declared.turn.Turn.TheVariants as worker
+use Rattle.mp_drive.specs.declared.stop.DriveStop.{DriveStop}
+
+-- Workers on one thread: their state, and how many steps were made on them
+pub record Driven : Type 0 where
+  pub state : SystemState
+  pub made : ℕ
 
 -- steps, each a worker and a kind
 abbrev pub Steps : Type 0
@@ -27,6 +34,11 @@ turn_in (worker.Did x) = Did x
 turn_in (worker.Seen version) = Saw version
 turn_in _ = NotNow
 
+-- how many steps are made where this is answered: one or none
+abbrev pub made_by : Result Answered DriveStop → ℕ
+made_by (Ok turn) = made_count (turn_in turn ∷ [])
+made_by (Err _) = 0
+
 -- after these steps the workers are in the state of the machine's run
 abbrev pub AreAfter : Outline → Steps → SystemState → Type 0
 AreAfter o steps t = Refines o t.post.depth t (run_of_machine o t.post.depth steps)
@@ -34,6 +46,10 @@ AreAfter o steps t = Refines o t.post.depth t (run_of_machine o t.post.depth ste
 -- some steps lead to the state of the workers
 abbrev pub AreReached : Outline → SystemState → Type 0
 AreReached o t = (steps : Steps) × AreAfter o steps t
+
+-- some steps lead to the state of the workers, so many of which are made
+abbrev pub AreReachedBy : Outline → SystemState → ℕ → Type 0
+AreReachedBy o t n = (steps : Steps) × AreAfter o steps t × (made_count (turns_of o t.post.depth (start_of_machine o) steps) ≡ n)
 
 -- Whatever steps led to the old state, these lead on to the new one, with these turns
 pub record LeadsOn (o : Outline) (steps : Steps) (turns : List Turn) (old new : SystemState) : Type 0 where

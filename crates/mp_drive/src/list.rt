@@ -1,8 +1,9 @@
 //! Driving by a list of steps.
-ghost use Rattle.std.specs.Prelude.{◌≡◌, ◌≢◌, ◌≤◌, ℕ, All, Err, IfErr, IfOk, List, OnErr, OnOk, Option, map};
+ghost use Rattle.std.specs.Prelude.{◌≡◌, ◌≢◌, ◌≤◌, ◌+◌, ℕ, All, Err, IfErr, IfOk, List, OnErr, OnOk, Option, map};
 ghost use Rattle.mp_outside.specs.Fault.{Rose};
 ghost use Rattle.mp_outside.specs.Sink.{OnlyAppends};
 ghost use Rattle.mp_outline.specs.JobOutline.{outline_of};
+ghost use Rattle.mp_machine.specs.Runs.{made_count};
 ghost use Rattle.mp_worker.specs.declared.turn.Turn.TheVariants.{Busy};
 ghost use Rattle.mp_drive.specs.declared.stop.DriveStop.TheVariants.{Write};
 ghost use Rattle.mp_drive.specs.Driven.{HasBegun, HasWritten, LeadsOn, turn_in};
@@ -27,16 +28,18 @@ impl<'a, Q: Query, J: Naming> Plain<'a, Q, J> {
         sink: &mut S,
     ) -> Result<Vec<Turn>, DriveStop>
         ensures turns { let o = outline_of (Q.facts J.job.rules) J.job in
-            IfOk result (λ turns. LeadsOn o steps.now (map turn_in turns.items) self.old self.new) }
+            IfOk result (λ turns. LeadsOn o steps.now (map turn_in turns.items) self.old.state self.new.state) }
+        ensures counted { IfOk result (λ turns.
+            self.new.made ≡ self.old.made + made_count (map turn_in turns.items)) }
         ensures not_busy { IfOk result (λ turns. All (λ turn. turn ≢ Busy) turns.items) }
         ensures kept { IfErr result (λ why. KeepsSteps (Q.facts J.job.rules) J.job steps.now why
             self.old self.new (S.written sink.old) (S.written sink.new)) }
 
         ensures written { let q = Q.facts J.job.rules in
-            (before : Option (List ℕ)) → HasWritten q J.job.events before self.old (S.written sink.old)
-            → OnOk result (HasWritten q J.job.events before self.new (S.written sink.new)) }
+            (before : Option (List ℕ)) → HasWritten q J.job.events before self.old.state (S.written sink.old)
+            → OnOk result (HasWritten q J.job.events before self.new.state (S.written sink.new)) }
         ensures part { let q = Q.facts J.job.rules in
-            (before : Option (List ℕ)) → HasWritten q J.job.events before self.old (S.written sink.old)
+            (before : Option (List ℕ)) → HasWritten q J.job.events before self.old.state (S.written sink.old)
             → OnErr result (HasBegun q J.job.events before (S.written sink.new)) }
         ensures failed { result ≡ Err Write → Rose (S.faults sink.old) (S.faults sink.new) }
         ensures no_fault { result ≢ Err Write → S.faults sink.new ≡ S.faults sink.old }

@@ -10,7 +10,7 @@ impl<'a, Q: Query, J: Naming> Plain<'a, Q, J> {
     /// never both, and each group is applied at most once, by its owner alone (Megaphone's handoff). A law:
     /// it does nothing.
     pub fn running_workers_keep_ownership(&self)
-        ensures { KeepOwnership (outline_of (Q.facts J.job.rules) J.job) self.now }
+        ensures { KeepOwnership (outline_of (Q.facts J.job.rules) J.job) self.now.state }
     {
         // From here on the invariant is known: a run of the machine leads here.
         let _ = &self.job;

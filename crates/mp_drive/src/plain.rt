@@ -1,8 +1,9 @@
 //! The workers of a job on one thread.
-ghost use Rattle.std.specs.Prelude.{◌≡◌, ◌≢◌, ◌≤◌, ◌↔◌, ◌∷◌, [], ℕ, Err, IfOk, IsTrue, List, OnErr, OnOk};
+ghost use Rattle.std.specs.Prelude.{◌≡◌, ◌≢◌, ◌≤◌, ◌↔◌, ◌∷◌, ◌+◌, ◌*◌, [], ℕ, Err, IfOk, IsTrue, List, OnErr, OnOk};
 ghost use Rattle.std.specs.Prelude.{Option, Some, length, replicate, slice_get, take};
 ghost use Rattle.mp_names.specs.declared.kinds.Kind.TheVariants.{Write};
 ghost use Rattle.mp_names.specs.Logs.{empty_log};
+ghost use Rattle.mp_names.specs.Outlines.{name_count};
 ghost use Rattle.mp_outside.specs.Fault.{Rose};
 ghost use Rattle.mp_outside.specs.Sink.{OnlyAppends};
 ghost use Rattle.mp_model.specs.Answers.{one_thread_answer};
@@ -16,7 +17,7 @@ ghost use Rattle.mp_refinement.specs.SystemState.{Refines};
 ghost use Rattle.mp_answer_laws.specs.Lines.{written_lines};
 ghost use Rattle.mp_worker.specs.declared.turn.Turn.TheVariants.{Busy};
 ghost use Rattle.mp_drive.specs.declared.stop.DriveStop.TheVariants as stop;
-ghost use Rattle.mp_drive.specs.Driven.{AllKnowTheEnd, HasKept, HasWritten, LeadsOn, first_log, turn_in};
+ghost use Rattle.mp_drive.specs.Driven.{AllKnowTheEnd, HasKept, HasWritten, LeadsOn, first_log, made_by, turn_in};
 
 use crate::DriveStop;
 use mp_board::{Board, OutlineOf};
@@ -32,7 +33,7 @@ use std::alloc::{AllocError, Global};
 use std::marker::Model;
 
 /// The workers of the job J, their board and the mailboxes between them, for one thread. Contracts see a
-/// `SystemState`.
+/// `SystemState`, and how many steps were made.
 #[derive(Drop)]
 pub struct Plain<'a, Q: Query, J: Naming> {
     pub(crate) job: &'a Job<Q>,
@@ -40,18 +41,20 @@ pub struct Plain<'a, Q: Query, J: Naming> {
     pub(crate) workers: Vec<Worker<'a, Q, J>>,
     pub(crate) board: Board<OutlineOf<Q, J>>,
     pub(crate) post: PlainPost<Msg<Q, J>>,
+    // How many steps were made.
+    made: u64,
 }
 
 impl<'a, Q: Query, J: Naming> Model for Plain<'a, Q, J> {
-    ghost use Rattle.mp_refinement.specs.SystemState.{SystemState};
+    ghost use Rattle.mp_drive.specs.Driven.{Driven};
     ghost use Rattle.mp_drive.specs.Kept.{IsKept, together};
 
-    ghost Value = { SystemState };
+    ghost Value = { Driven };
 
-    ghost view = { λ p. together p.workers.items p.board p.post };
+    ghost view = { λ p. record { state = together p.workers.items p.board p.post; made = p.made } };
 
     ghost invariant = { λ p.
-        IsKept (Q.facts J.job.rules) J.job p.job.now (together p.workers.items p.board p.post) };
+        IsKept (Q.facts J.job.rules) J.job p.job.now (together p.workers.items p.board p.post) p.made };
 }
 
 impl<'a, Q: Query, J: Naming> Plain<'a, Q, J> {
@@ -61,10 +64,11 @@ impl<'a, Q: Query, J: Naming> Plain<'a, Q, J> {
         requires job { job.now ≡ J.job }
         requires rows { GivesRows (Q.facts J.job.rules) }
         ensures start { let o = outline_of (Q.facts J.job.rules) J.job in
-            IfOk result (λ p. Refines o depth p (start_of_machine o)) }
-        ensures depth { IfOk result (λ p. p.post.depth ≡ depth) }
+            IfOk result (λ p. Refines o depth p.state (start_of_machine o)) }
+        ensures depth { IfOk result (λ p. p.state.post.depth ≡ depth) }
+        ensures made { IfOk result (λ p. p.made ≡ 0) }
         ensures nothing_written { let q = Q.facts J.job.rules in
-            IfOk result (λ p. written_lines q J.job.events (first_log p) ≡ []) }
+            IfOk result (λ p. written_lines q J.job.events (first_log p.state) ≡ []) }
     {
         let board = Board::open(alloc, job)?;
         let workers = new_workers(alloc, job, board.seen())?;
@@ -74,20 +78,31 @@ impl<'a, Q: Query, J: Naming> Plain<'a, Q, J> {
             workers,
             board,
             post,
+            made: 0,
         })
     }
 
     /// The frontiers that the posted logs show.
     pub fn seen(&self) -> Seen
-        ensures version { result.version ≡ self.now.board.version }
+        ensures version { result.version ≡ self.now.state.board.version }
         ensures frontiers { let o = outline_of (Q.facts J.job.rules) J.job in
-            ShowsFrontiers o self.now.board.logs result }
+            ShowsFrontiers o self.now.state.board.logs result }
     {
         self.board.seen()
     }
 
+    /// How many steps were made, those that couldn't be made then not counted. Whatever calls drove them, there are
+    /// no more than the job's names times the number of workers and two.
+    pub fn steps(&self) -> u64
+        ensures made { result ≡ self.now.made }
+        ensures few { let o = outline_of (Q.facts J.job.rules) J.job in result ≤ (o.workers + 2) * name_count o }
+    {
+        self.made
+    }
+
     /// One step of a worker. It answers `NotNow` where the step can't be made now, as that of a worker, stage
-    /// or sender that the job hasn't, and never `Busy`. `Memory`: no memory. `Write`: a write failed, which
+    /// or sender that the job hasn't, and never `Busy`. `Memory`: no memory, or more steps were made than a u64
+    /// counts. `Write`: a write failed, which
     /// comes only of a write, where the sink's count of faults rose in this call or stands at its last
     /// value, 2^64 - 1; any other answer leaves that count as it was. With either no step is made; where it
     /// is a write, a part of the lines of the next time, from their front, may be written.
@@ -98,17 +113,18 @@ impl<'a, Q: Query, J: Naming> Plain<'a, Q, J> {
         sink: &mut S,
     ) -> Result<Turn, DriveStop>
         ensures turn { let o = outline_of (Q.facts J.job.rules) J.job in
-            IfOk result (λ turn. LeadsOn o ((worker, kind) ∷ []) (turn_in turn ∷ []) self.old self.new) }
+            IfOk result (λ turn. LeadsOn o ((worker, kind) ∷ []) (turn_in turn ∷ []) self.old.state self.new.state) }
+        ensures counted { self.new.made ≡ self.old.made + made_by result }
         ensures not_busy { IfOk result (λ turn. turn ≢ Busy) }
         ensures unchanged { let o = outline_of (Q.facts J.job.rules) J.job in
-            OnErr result (LeadsOn o [] [] self.old self.new) }
+            OnErr result (LeadsOn o [] [] self.old.state self.new.state) }
 
         ensures written { let q = Q.facts J.job.rules in
-            (before : Option (List ℕ)) → HasWritten q J.job.events before self.old (S.written sink.old)
-            → OnOk result (HasWritten q J.job.events before self.new (S.written sink.new)) }
+            (before : Option (List ℕ)) → HasWritten q J.job.events before self.old.state (S.written sink.old)
+            → OnOk result (HasWritten q J.job.events before self.new.state (S.written sink.new)) }
         ensures part { let q = Q.facts J.job.rules in
-            (before : Option (List ℕ)) → HasWritten q J.job.events before self.old (S.written sink.old)
-            → OnErr result (HasKept q J.job.events kind before self.new (S.written sink.new)) }
+            (before : Option (List ℕ)) → HasWritten q J.job.events before self.old.state (S.written sink.old)
+            → OnErr result (HasKept q J.job.events kind before self.new.state (S.written sink.new)) }
         ensures failed { result ≡ Err stop.Write
             → (kind ≡ Write) × Rose (S.faults sink.old) (S.faults sink.new) }
         ensures no_fault { result ≢ Err stop.Write → S.faults sink.new ≡ S.faults sink.old }
@@ -117,27 +133,42 @@ impl<'a, Q: Query, J: Naming> Plain<'a, Q, J> {
         if worker as usize >= self.workers.len() {
             return Ok(Turn::NotNow);
         }
+        if self.made == u64::MAX {
+            return Err(DriveStop::Memory);
+        }
         let worker = &mut self.workers[worker as usize];
-        match worker.step(kind, &mut self.post, &mut self.board, sink) {
+        let answered = match worker.step(kind, &mut self.post, &mut self.board, sink) {
             Ok(turn) => Ok(turn),
             Err(Stop::Write) => Err(DriveStop::Write),
             Err(Stop::Memory) => Err(DriveStop::Memory),
             Err(Stop::Other(_)) => unreachable!(),
-        }
+        };
+        self.made += made_in(&answered);
+        answered
     }
 
     /// Whether each worker knows that all is over. What worker 0 has written is a beginning of the one-thread
     /// answer, and then all of it.
     pub fn is_finished(&self) -> bool
-        ensures known { IsTrue result ↔ AllKnowTheEnd (outline_of (Q.facts J.job.rules) J.job) self.now }
+        ensures known { IsTrue result ↔ AllKnowTheEnd (outline_of (Q.facts J.job.rules) J.job) self.now.state }
         ensures answer { let q = Q.facts J.job.rules in
             IsTrue result
-            → written_lines q J.job.events (first_log self.now) ≡ one_thread_answer q J.job.events }
+            → written_lines q J.job.events (first_log self.now.state) ≡ one_thread_answer q J.job.events }
         ensures begun { let q = Q.facts J.job.rules in
-            (k : ℕ) × (written_lines q J.job.events (first_log self.now)
+            (k : ℕ) × (written_lines q J.job.events (first_log self.now.state)
             ≡ take k (one_thread_answer q J.job.events)) }
     {
         self.workers.iter().all(|worker| worker.is_finished())
+    }
+}
+
+// How many steps are made where this is answered: one or none.
+fn made_in(answered: &Result<Turn, DriveStop>) -> u64
+    ensures { result ≡ made_by answered.now }
+{
+    match answered {
+        Ok(Turn::Did(_) | Turn::Seen(_)) => 1,
+        _ => 0,
     }
 }
 

@@ -1,5 +1,5 @@
 //! Driving by the seeded schedule.
-ghost use Rattle.std.specs.Prelude.{◌≡◌, ◌≢◌, ◌<◌, ◌≤◌, ℕ, [], Err, IfErr, IfOk, List, OnErr, OnOk, Option};
+ghost use Rattle.std.specs.Prelude.{◌≡◌, ◌≢◌, ◌<◌, ◌≤◌, ◌+◌, ℕ, [], Err, IfErr, IfOk, List, OnErr, OnOk, Option};
 ghost use Rattle.mp_outside.specs.Fault.{Rose};
 ghost use Rattle.mp_outside.specs.Sink.{OnlyAppends, grown};
 ghost use Rattle.mp_model.specs.Answers.{one_thread_answer};
@@ -30,19 +30,20 @@ impl<'a, Q: Query, J: Naming> Plain<'a, Q, J> {
         gate: &G,
         sink: &mut S,
     ) -> Result<u64, DriveStop>
-        requires depth { 0 < self.old.post.depth }
+        requires depth { 0 < self.old.state.post.depth }
         ensures made { let o = outline_of (Q.facts J.job.rules) J.job in
-            IfOk result (λ n. FollowsSchedule o seed n self.old self.new) }
-        ensures finished { OnOk result (AllKnowTheEnd (outline_of (Q.facts J.job.rules) J.job) self.new) }
-        ensures full { OnOk result (AllAreFull (outline_of (Q.facts J.job.rules) J.job) self.new) }
+            IfOk result (λ n. FollowsSchedule o seed n self.old.state self.new.state) }
+        ensures counted { IfOk result (λ n. self.new.made ≡ self.old.made + n) }
+        ensures finished { OnOk result (AllKnowTheEnd (outline_of (Q.facts J.job.rules) J.job) self.new.state) }
+        ensures full { OnOk result (AllAreFull (outline_of (Q.facts J.job.rules) J.job) self.new.state) }
         ensures kept { IfErr result (λ why. KeepsSchedule (Q.facts J.job.rules) J.job seed why
             self.old self.new (S.written sink.old) (S.written sink.new)) }
 
         ensures answer { let q = Q.facts J.job.rules in
-            (before : Option (List ℕ)) → HasWritten q J.job.events before self.old (S.written sink.old)
+            (before : Option (List ℕ)) → HasWritten q J.job.events before self.old.state (S.written sink.old)
             → OnOk result (S.written sink.new ≡ grown before (one_thread_answer q J.job.events)) }
         ensures part { let q = Q.facts J.job.rules in
-            (before : Option (List ℕ)) → HasWritten q J.job.events before self.old (S.written sink.old)
+            (before : Option (List ℕ)) → HasWritten q J.job.events before self.old.state (S.written sink.old)
             → OnErr result (HasBegun q J.job.events before (S.written sink.new)) }
         ensures failed { result ≡ Err Write → Rose (S.faults sink.old) (S.faults sink.new) }
         ensures no_fault { result ≢ Err Write → S.faults sink.new ≡ S.faults sink.old }
@@ -70,20 +71,22 @@ impl<'a, Q: Query, J: Naming> Plain<'a, Q, J> {
         gate: &G,
         sink: &mut S,
     ) -> Result<(), DriveStop>
-        requires depth { 0 < self.old.post.depth }
-        requires unfinished { AllKnowTheEnd (outline_of (Q.facts J.job.rules) J.job) self.old → ⊥ }
+        requires depth { 0 < self.old.state.post.depth }
+        requires unfinished { AllKnowTheEnd (outline_of (Q.facts J.job.rules) J.job) self.old.state → ⊥ }
         ensures made { let o = outline_of (Q.facts J.job.rules) J.job in
-            OnOk result (MakesPick o draw self.old self.new) }
+            OnOk result (MakesPick o draw self.old.state self.new.state) }
+        ensures one { OnOk result (self.new.made ≡ self.old.made + 1) }
+        ensures none { OnErr result (self.new.made ≡ self.old.made) }
         ensures still { let o = outline_of (Q.facts J.job.rules) J.job in
-            OnErr result (LeadsOn o [] [] self.old self.new) }
+            OnErr result (LeadsOn o [] [] self.old.state self.new.state) }
         ensures refused { IfErr result (λ why. RefusesDraw (Q.facts J.job.rules) J.job draw why []
-            self.old self.new (S.written sink.old) (S.written sink.new)) }
+            self.old.state self.new.state (S.written sink.old) (S.written sink.new)) }
 
         ensures written { let q = Q.facts J.job.rules in
-            (before : Option (List ℕ)) → HasWritten q J.job.events before self.old (S.written sink.old)
-            → OnOk result (HasWritten q J.job.events before self.new (S.written sink.new)) }
+            (before : Option (List ℕ)) → HasWritten q J.job.events before self.old.state (S.written sink.old)
+            → OnOk result (HasWritten q J.job.events before self.new.state (S.written sink.new)) }
         ensures part { let q = Q.facts J.job.rules in
-            (before : Option (List ℕ)) → HasWritten q J.job.events before self.old (S.written sink.old)
+            (before : Option (List ℕ)) → HasWritten q J.job.events before self.old.state (S.written sink.old)
             → OnErr result (HasBegun q J.job.events before (S.written sink.new)) }
         ensures failed { result ≡ Err Write → Rose (S.faults sink.old) (S.faults sink.new) }
         ensures no_fault { result ≢ Err Write → S.faults sink.new ≡ S.faults sink.old }

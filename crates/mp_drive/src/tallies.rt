@@ -18,13 +18,13 @@ impl<'a, Q: Query, J: Naming> Plain<'a, Q, J> {
         ensures all { IfOk result (λ tallies. length tallies.items ≡ J.job.shape.workers) }
         ensures told { let q = Q.facts J.job.rules in
             IfOk result (λ tallies. (w : ℕ) (s : WorkerState) (t : Told)
-            → slice_get self.now.workers w ≡ Some s → slice_get tallies.items w ≡ Some t
+            → slice_get self.now.state.workers w ≡ Some s → slice_get tallies.items w ≡ Some t
             → TellsLog q J.job s.log t) }
         ensures at_the_end { let q = Q.facts J.job.rules in
-            IfOk result (λ tallies. (w : ℕ) (t : Told) → AllKnowTheEnd (outline_of q J.job) self.now
+            IfOk result (λ tallies. (w : ℕ) (t : Told) → AllKnowTheEnd (outline_of q J.job) self.now.state
             → slice_get tallies.items w ≡ Some t → IsTallyOf q J.job w t) }
         ensures complete { let q = Q.facts J.job.rules in
-            IfOk result (λ tallies. (w : ℕ) (t : Told) → AreComplete (outline_of q J.job) self.now
+            IfOk result (λ tallies. (w : ℕ) (t : Told) → AreComplete (outline_of q J.job) self.now.state
             → slice_get tallies.items w ≡ Some t → IsTallyOf q J.job w t) }
     {
         let mut tallies = Vec::with_capacity(alloc, self.workers.len())?;

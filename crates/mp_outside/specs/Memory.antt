@@ -18,6 +18,10 @@ depot_files depot = files_on depot.shelf
 abbrev pub depot_calls : MemDepot → Op → CallPlan
 depot_calls depot op = calls_for depot.failures op
 
+-- how many bytes one call gives or takes at most
+abbrev pub depot_portion : MemDepot → ℕ
+depot_portion depot = depot.portion
+
 -- how many of its calls to read failed
 abbrev pub depot_read_faults : MemDepot → ℕ
 depot_read_faults depot = faults_of (depot_calls depot Find) + faults_of (depot_calls depot Read)
@@ -33,6 +37,10 @@ sink_bytes sink = sink.bytes.items
 -- the calls of one of its methods; those of its `write` are the only ones that are made
 abbrev pub sink_calls : MemSink → Op → CallPlan
 sink_calls sink op = calls_for sink.failures op
+
+-- how many bytes one write takes at most
+abbrev pub sink_portion : MemSink → ℕ
+sink_portion sink = sink.portion
 
 -- how many of its writes failed
 abbrev pub sink_faults : MemSink → ℕ

@@ -16,6 +16,7 @@ mod never_fails;
 mod no_sink;
 mod op;
 mod pieces;
+mod portion;
 mod read;
 mod shelf;
 mod sink;

@@ -1,34 +1,38 @@
 // A sink in memory, whose writes can be told to fail.
-ghost use Rattle.std.specs.Prelude.{◌≡◌, ◌≢◌, ◌≤◌, [], Some, length, take, IfOk, OnErr, OnOk};
+ghost use Rattle.std.specs.Prelude.{◌≡◌, ◌≢◌, ◌-◌, ◌^◌, ◌<◌, ◌≤◌, [], Some, length, min, take, IfOk, OnErr, OnOk};
 ghost use Rattle.mp_outside.specs.Calls.{no_calls, with_failure};
 ghost use Rattle.mp_outside.specs.Failures.{MakesCall};
 ghost use Rattle.mp_outside.specs.Fault.{HasCause};
-ghost use Rattle.mp_outside.specs.Memory.{sink_bytes, sink_calls, sink_faults};
+ghost use Rattle.mp_outside.specs.Memory.{sink_bytes, sink_calls, sink_faults, sink_portion};
 ghost use Rattle.mp_outside.specs.Sink.{grown};
 ghost use Rattle.mp_outside.specs.declared.op.Op.{Op as Method};
 ghost use Rattle.mp_outside.specs.declared.op.Op.TheVariants.{Write};
 
 use crate::failures::Failures;
+use crate::portion::Portion;
 use crate::{Fault, Op, Sink};
 use std::alloc::{AllocError, Global};
 
-/// A sink in memory. It tells its bytes, takes a whole piece at once, and fails only where it was
-/// told to.
+/// A sink in memory. It tells its bytes, takes a whole piece at once unless it was told to take less, and fails
+/// only where it was told to.
 #[derive(Drop)]
 pub struct MemSink {
     bytes: Vec<u8>,
     failures: Failures,
+    portion: Portion,
 }
 
 impl MemSink {
-    /// A sink to which nothing was written, none of whose calls fails.
+    /// A sink to which nothing was written, none of whose calls fails or takes less than it is asked for.
     pub fn new(alloc: Global) -> MemSink
         ensures bytes { sink_bytes result ≡ [] }
         ensures calls { (op : Method) → sink_calls result op ≡ no_calls }
+        ensures portion { sink_portion result ≡ 2 ^ 64 - 1 }
     {
         MemSink {
             bytes: Vec::new(alloc),
             failures: Failures::new(alloc),
+            portion: Portion::whole(),
         }
     }
 
@@ -52,8 +56,19 @@ impl MemSink {
 
         ensures bytes { sink_bytes self.new ≡ sink_bytes self.old }
         ensures writes { sink_faults self.new ≡ sink_faults self.old }
+        ensures portion { sink_portion self.new ≡ sink_portion self.old }
     {
         self.failures.fail(op, nth)
+    }
+
+    /// Makes each `write` take at most so many bytes from here on.
+    pub fn take_at_most(&mut self, most: u64)
+        requires { 0 < most }
+        ensures portion { sink_portion self.new ≡ most }
+        ensures bytes { sink_bytes self.new ≡ sink_bytes self.old }
+        ensures calls { (op : Method) → sink_calls self.new op ≡ sink_calls self.old op }
+    {
+        self.portion = Portion::at_most(most);
     }
 }
 
@@ -65,7 +80,10 @@ impl Sink for MemSink {
     #[tactic(auto, unfolding(crate::specs::Sink::grown))]
     fn write(&mut self, piece: &[u8]) -> Result<usize, Fault>
         ensures planned { MakesCall (sink_calls self.old) (sink_calls self.new) Write result }
-        ensures whole { IfOk result (λ n. n ≡ length piece.now) }
+        ensures same_portion { sink_portion self.new ≡ sink_portion self.old }
+        ensures taken { IfOk result (λ n. n ≡ min (length piece.now) (sink_portion self.old)) }
+        ensures within { IfOk result (λ n. n ≤ length piece.now) }
+        ensures some { IfOk result (λ n. 0 < length piece.now → 0 < n) }
         ensures grew { IfOk result (λ n.
             Some (sink_bytes self.new) ≡ grown (Some (sink_bytes self.old)) (take n piece.now)) }
         ensures unchanged { OnErr result (sink_bytes self.new ≡ sink_bytes self.old) }
@@ -75,7 +93,8 @@ impl Sink for MemSink {
         if self.failures.write.count() {
             return Err(Fault::Failed);
         }
-        self.bytes.extend_from_slice(piece)?;
-        Ok(piece.len())
+        let part = self.portion.of(piece.len());
+        self.bytes.extend_from_slice(&piece[..part])?;
+        Ok(part)
     }
 }

@@ -23,4 +23,4 @@ returns-clause-part g c =
 pub returns-clause-made : goal.returns-clause-made
 returns-clause-made g c =
     let o = outline_of (g.Q.Query.facts g.J.Naming.job.rules) g.J.Naming.job in
-    ends_after o c.args.depth c.args.seed c.in_ok-plain.plain c.drive_seed.new.self c.drive_seed.result c.in_ok-plain.ensures.start c.in_ok-plain.ensures.depth c.drive_seed.ensures.made c.drive_seed.ensures.finished
+    ends_after o c.args.depth c.args.seed c.in_ok-plain.plain.state c.drive_seed.new.self.state c.drive_seed.result c.in_ok-plain.ensures.start c.in_ok-plain.ensures.depth c.drive_seed.ensures.made c.drive_seed.ensures.finished

@@ -36,4 +36,4 @@ returns-clause-tallies g c = λ w t same. c.in_ok-tallies.ensures.at_the_end w t
 pub returns-clause-made : goal.returns-clause-made
 returns-clause-made g c =
     let o = outline_of (g.Q.Query.facts g.J.Naming.job.rules) g.J.Naming.job in
-    ends_after o c.args.depth c.args.seed c.in_ok-plain.plain c.drive_seed.new.self (Ok c.in_ok-steps.steps) c.in_ok-plain.ensures.start c.in_ok-plain.ensures.depth c.in_ok-steps.ensures.made c.in_ok-steps.ensures.finished
+    ends_after o c.args.depth c.args.seed c.in_ok-plain.plain.state c.drive_seed.new.self.state (Ok c.in_ok-steps.steps) c.in_ok-plain.ensures.start c.in_ok-plain.ensures.depth c.in_ok-steps.ensures.made c.in_ok-steps.ensures.finished

@@ -10,11 +10,12 @@ use Rattle.mp_outline.specs.JobOutline.{outline_of}
 use Rattle.mp_outline.proofs.Soundness.{outline_is_sound}
 use Rattle.mp_worker.specs.declared.turn.Turn.TheVariants.{Busy}
 use Rattle.mp_drive.specs.declared.stop.DriveStop.TheVariants.{Memory, Write}
-use Rattle.mp_drive.specs.Driven.{AreReached}
+use Rattle.mp_drive.specs.Driven.{AreReached, Driven}
 use Rattle.mp_drive.specs.Refused.{KeepsSteps}
 use Rattle.mp_drive.proofs.Appended.{appends_further}
 use Rattle.mp_drive.proofs.Ended.{has_begun, kept_has_begun}
 use Rattle.mp_drive.proofs.Listed.{one_more, whole}
+use Rattle.mp_drive.proofs.Made.{counted_more}
 use Rattle.mp_drive.proofs.Refusing.{handed_on, keeps_none, keeps_steps}
 use Rattle.mp_drive.proofs.plain.Plain.drive_list.Given as given
 use Rattle.mp_drive.proofs.plain.Plain.drive_list.Goals as goal
@@ -34,7 +35,7 @@ pub returns-in_default-clause-part : goal.returns-in_default-clause-part
 returns-in_default-clause-part g c = λ before has.
     let job = g.J.Naming.job in
     let q = g.Q.Query.facts job.rules in
-    has_begun q job (sound g c.self.invariant.legal) c.args.self.now (subst (AreReached (outline_of q job)) c.self.view_is c.self.invariant.reached) before (g.S.Sink.written c.args.sink.now) has
+    has_begun q job (sound g c.self.invariant.legal) c.args.self.now.state (subst (λ (u : Driven). AreReached (outline_of q job) u.state) c.self.view_is c.self.invariant.reached) before (g.S.Sink.written c.args.sink.now) has
 
 pub returns-in_err-turn-clause-kept : goal.returns-in_err-turn-clause-kept
 returns-in_err-turn-clause-kept g c =
@@ -48,17 +49,17 @@ returns-in_err-turn-clause-kept g c =
     let has = g.S.Sink.written c.step.new.sink in
     let p = err_from_is_err_and c.from_residual.result c.from_residual.ensures.1 in
     handed_on (λ why. KeepsSteps q job steps why c.args.self.now c.step.new.self had has) c.from_residual.result why p.0 p.1 p.2
-    (keeps_steps q job steps i _ why _ c.args.self.now c.loop-worker.self c.step.new.self had has (drop-cons steps i _ c.loop-worker-test.true) c.loop-worker.invariant.lead e.unchanged (λ f. (e.failed (ap Err f)).0) (λ before h. e.part before (c.loop-worker.invariant.written before h)))
+    (keeps_steps q job steps i _ why _ c.args.self.now c.loop-worker.self c.step.new.self had has (drop-cons steps i _ c.loop-worker-test.true) c.loop-worker.invariant.lead e.unchanged c.loop-worker.invariant.counted (omega (arith, e.counted)) (λ f. (e.failed (ap Err f)).0) (λ before h. e.part before (c.loop-worker.invariant.written before h)))
 
 pub returns-in_err-turn-clause-part : goal.returns-in_err-turn-clause-part
 returns-in_err-turn-clause-part g c = λ before had.
     let job = g.J.Naming.job in
     let q = g.Q.Query.facts job.rules in
     let p = err_from_is_err_and c.from_residual.result c.from_residual.ensures.1 in
-    let reached = subst (AreReached (outline_of q job)) c.self.view_is c.self.invariant.reached in
+    let reached = subst (λ (u : Driven). AreReached (outline_of q job) u.state) c.self.view_is c.self.invariant.reached in
     let e = c.in_err-turn.ensures in
-    let here : AreReached (outline_of q job) c.step.new.self = ((reached.0 ++ take c.loop-worker.worker-index c.args.steps.now) ++ [], e.unchanged.state_is (reached.0 ++ take c.loop-worker.worker-index c.args.steps.now) (c.loop-worker.invariant.lead.state_is reached.0 reached.1)) in
-    rw p.1 (kept_has_begun q job (sound g c.self.invariant.legal) c.step.new.self here _ before (g.S.Sink.written c.step.new.sink) (e.part before (c.loop-worker.invariant.written before had)))
+    let here : AreReached (outline_of q job) c.step.new.self.state = ((reached.0 ++ take c.loop-worker.worker-index c.args.steps.now) ++ [], e.unchanged.state_is (reached.0 ++ take c.loop-worker.worker-index c.args.steps.now) (c.loop-worker.invariant.lead.state_is reached.0 reached.1)) in
+    rw p.1 (kept_has_begun q job (sound g c.self.invariant.legal) c.step.new.self.state here _ before (g.S.Sink.written c.step.new.sink) (e.part before (c.loop-worker.invariant.written before had)))
 
 pub returns-in_err-turn-clause-failed : goal.returns-in_err-turn-clause-failed
 returns-in_err-turn-clause-failed g c = λ e.
@@ -91,7 +92,8 @@ loop-worker-preserved g c =
     record {
       room = omega (arith, i.room, pushed.capacity);
       many = omega (arith, ap length pushed.items, length-append turns (turn ∷ []), i.many);
-      lead = one_more o c.args.self.now c.loop-worker.self c.step.new.self c.args.steps.now c.loop-worker.worker-index _ turns c.push_reserved.new.self.items turn c.loop-worker-test.true pushed.items i.lead next.turn;
+      lead = one_more o c.args.self.now.state c.loop-worker.self.state c.step.new.self.state c.args.steps.now c.loop-worker.worker-index _ turns c.push_reserved.new.self.items turn c.loop-worker-test.true pushed.items i.lead next.turn;
+      counted = counted_more turns c.push_reserved.new.self.items turn c.args.self.now.made c.loop-worker.self.made c.step.new.self.made pushed.items i.counted next.counted;
       not_busy = subst (All (λ turn. turn ≡ Busy → ⊥)) (sym pushed.items) (All-push (λ turn. turn ≡ Busy → ⊥) turns turn i.not_busy next.not_busy);
       written = λ before has. next.written before (i.written before has);
       quiet = next.no_fault (λ e. cc) ∙ i.quiet;
@@ -101,7 +103,7 @@ loop-worker-preserved g c =
 pub returns-clause-turns : goal.returns-clause-turns
 returns-clause-turns g c =
     let o = outline_of (g.Q.Query.facts g.J.Naming.job.rules) g.J.Naming.job in
-    whole o c.args.self.now c.loop-worker.self c.args.steps.now c.loop-worker.worker-index _ c.loop-worker-test.false c.loop-worker.invariant.lead
+    whole o c.args.self.now.state c.loop-worker.self.state c.args.steps.now c.loop-worker.worker-index _ c.loop-worker-test.false c.loop-worker.invariant.lead
 
 pub returns-clause-not_busy : goal.returns-clause-not_busy
 returns-clause-not_busy g c = c.loop-worker.invariant.not_busy

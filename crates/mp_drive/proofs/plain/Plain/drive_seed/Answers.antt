@@ -8,7 +8,7 @@ use Rattle.mp_outline.specs.JobOutline.{outline_of}
 use Rattle.mp_outline.proofs.Soundness.{outline_is_sound}
 use Rattle.mp_drive.specs.declared.stop.DriveStop.TheVariants.{Write}
 use Rattle.mp_draws.specs.Draws.{draw_of, next_state, state_after}
-use Rattle.mp_drive.specs.Driven.{AllKnowTheEnd, AreReached}
+use Rattle.mp_drive.specs.Driven.{AllKnowTheEnd, AreReached, Driven}
 use Rattle.mp_drive.specs.Refused.{KeepsSchedule, RefusesDraw}
 use Rattle.mp_drive.specs.Schedule.{MakesPick}
 use Rattle.mp_drive.proofs.Appended.{appends_further, appends_none}
@@ -28,7 +28,8 @@ pub loop-draws-init : goal.loop-draws-init
 loop-draws-init g c =
     let o = outline_of (g.Q.Query.facts g.J.Naming.job.rules) g.J.Naming.job in
     record {
-      by = begins_by_none o c.args.seed c.args.self.now;
+      by = begins_by_none o c.args.seed c.args.self.now.state;
+      counted = omega arith;
       drawn = c.of-draws.ensures;
       written = λ before had. had;
       quiet = refl;
@@ -64,7 +65,8 @@ returns-in_default-clause-kept g c =
     let i = c.loop-draws.invariant in
     record {
       n = c.loop-draws.made;
-      follows = follows o c.args.seed c.loop-draws.made c.args.self.now c.loop-draws.self (sound g c.self.invariant.legal) (subst (AreReached o) c.self.view_is c.self.invariant.reached) i.by;
+      follows = follows o c.args.seed c.loop-draws.made c.args.self.now.state c.loop-draws.self.state (sound g c.self.invariant.legal) (subst (λ (u : Driven). AreReached o u.state) c.self.view_is c.self.invariant.reached) i.by;
+      counted = i.counted;
       refused = record { write = λ e. absurd (cc); lines = λ before h. inl (i.written before h) };
     }
 
@@ -84,9 +86,10 @@ returns-in_err-step_from-clause-kept g c =
     handed_on (λ why. KeepsSchedule q job c.args.seed why c.args.self.now c.step_from.new.self had has) c.from_residual.result why p.0 p.1 p.2
     (record {
       n = n;
-      follows = follows o c.args.seed n c.args.self.now c.step_from.new.self (sound g c.self.invariant.legal) (subst (AreReached o) c.self.view_is c.self.invariant.reached) (stays_by o c.args.seed n c.args.self.now c.loop-draws.self c.step_from.new.self i.by e.still);
-      refused = refuses_later q job (draw_of c.args.seed n) why i.by.steps i.by.turns c.args.self.now c.loop-draws.self c.step_from.new.self had (g.S.Sink.written c.loop-draws.sink) has i.by.lead i.written
-          (subst (λ (d : ℕ). RefusesDraw q job d why [] c.loop-draws.self c.step_from.new.self (g.S.Sink.written c.loop-draws.sink) has) drawn e.refused);
+      follows = follows o c.args.seed n c.args.self.now.state c.step_from.new.self.state (sound g c.self.invariant.legal) (subst (λ (u : Driven). AreReached o u.state) c.self.view_is c.self.invariant.reached) (stays_by o c.args.seed n c.args.self.now.state c.loop-draws.self.state c.step_from.new.self.state i.by e.still);
+      counted = e.none ∙ i.counted;
+      refused = refuses_later q job (draw_of c.args.seed n) why i.by.steps i.by.turns c.args.self.now.state c.loop-draws.self.state c.step_from.new.self.state had (g.S.Sink.written c.loop-draws.sink) has i.by.lead i.written
+          (subst (λ (d : ℕ). RefusesDraw q job d why [] c.loop-draws.self.state c.step_from.new.self.state (g.S.Sink.written c.loop-draws.sink) has) drawn e.refused);
     })
 
 pub returns-in_default-clause-no_fault : goal.returns-in_default-clause-no_fault
@@ -113,12 +116,13 @@ pub loop-draws-preserved : goal.loop-draws-preserved
 loop-draws-preserved g c =
     let o = outline_of (g.Q.Query.facts g.J.Naming.job.rules) g.J.Naming.job in
     let counted : c.in-Some.counted ≡ c.loop-draws.made + 1 = c.in-Some.ensures.1 in
-    let unfinished : AllKnowTheEnd o c.loop-draws.self → ⊥ = λ all. let known = c.is_finished.ensures.known.1 all in absurd (cc) in
+    let unfinished : AllKnowTheEnd o c.loop-draws.self.state → ⊥ = λ all. let known = c.is_finished.ensures.known.1 all in absurd (cc) in
     let one_more : c.in-Some.counted ≡ suc c.loop-draws.made = omega (arith, counted) in
     let drawn : c.draw.result ≡ draw_of c.args.seed c.loop-draws.made = c.draw.ensures.draw ∙ ap next_state c.loop-draws.invariant.drawn in
     record {
-      by = subst (λ (n : ℕ). LeadsBy o c.args.seed n c.args.self.now c.step_from.new.self) (sym counted)
-          (leads_by_one_more o c.args.seed c.loop-draws.made c.args.self.now c.loop-draws.self c.step_from.new.self c.loop-draws.invariant.by unfinished (subst (λ (d : ℕ). MakesPick o d c.loop-draws.self c.step_from.new.self) drawn c.in_ok-step_from.ensures.made));
+      by = subst (λ (n : ℕ). LeadsBy o c.args.seed n c.args.self.now.state c.step_from.new.self.state) (sym counted)
+          (leads_by_one_more o c.args.seed c.loop-draws.made c.args.self.now.state c.loop-draws.self.state c.step_from.new.self.state c.loop-draws.invariant.by unfinished (subst (λ (d : ℕ). MakesPick o d c.loop-draws.self.state c.step_from.new.self.state) drawn c.in_ok-step_from.ensures.made));
+      counted = let one = c.in_ok-step_from.ensures.one in let had = c.loop-draws.invariant.counted in omega arith;
       drawn = c.draw.ensures.state ∙ drawn ∙ ap (state_after c.args.seed) (sym one_more);
       written = λ before had. c.in_ok-step_from.ensures.written before (c.loop-draws.invariant.written before had);
       quiet = c.in_ok-step_from.ensures.no_fault (λ e. cc) ∙ c.loop-draws.invariant.quiet;
@@ -128,14 +132,14 @@ loop-draws-preserved g c =
 pub returns-clause-made : goal.returns-clause-made
 returns-clause-made g c =
     let o = outline_of (g.Q.Query.facts g.J.Naming.job.rules) g.J.Naming.job in
-    follows o c.args.seed c.loop-draws.made c.args.self.now c.loop-draws.self (sound g c.self.invariant.legal) (subst (AreReached o) c.self.view_is c.self.invariant.reached) c.loop-draws.invariant.by
+    follows o c.args.seed c.loop-draws.made c.args.self.now.state c.loop-draws.self.state (sound g c.self.invariant.legal) (subst (λ (u : Driven). AreReached o u.state) c.self.view_is c.self.invariant.reached) c.loop-draws.invariant.by
 
 pub returns-clause-full : goal.returns-clause-full
 returns-clause-full g c =
     let o = outline_of (g.Q.Query.facts g.J.Naming.job.rules) g.J.Naming.job in
-    let reached = subst (AreReached o) c.self.view_is c.self.invariant.reached in
+    let reached = subst (λ (u : Driven). AreReached o u.state) c.self.view_is c.self.invariant.reached in
     let by = c.loop-draws.invariant.by in
-    full_where_all_know o (sound g c.self.invariant.legal) c.loop-draws.self (reached.0 ++ by.steps, by.lead.state_is reached.0 reached.1) (c.loop-draws-test.ensures.known.0 refl)
+    full_where_all_know o (sound g c.self.invariant.legal) c.loop-draws.self.state (reached.0 ++ by.steps, by.lead.state_is reached.0 reached.1) (c.loop-draws-test.ensures.known.0 refl)
 
 pub returns-clause-answer : goal.returns-clause-answer
 returns-clause-answer g c = λ before had.

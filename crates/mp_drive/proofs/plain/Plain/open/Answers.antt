@@ -9,7 +9,7 @@ use Rattle.mp_outline.specs.JobOutline.{outline_of}
 use Rattle.mp_outline.proofs.Soundness.{outline_is_sound}
 use Rattle.mp_drive.specs.Kept.{together}
 use Rattle.mp_answer_laws.specs.Lines.{written_lines}
-use Rattle.mp_drive.proofs.Opened.{are_at_start, begin_reached, first_is_empty}
+use Rattle.mp_drive.proofs.Opened.{are_at_start, begin_counted, begin_reached, first_is_empty}
 use Rattle.mp_drive.proofs.plain.Plain.open.Given as given
 use Rattle.mp_drive.proofs.plain.Plain.open.Goals as goal
 
@@ -42,6 +42,7 @@ invariant_of-result g c =
       same = c.requires.job;
       legal = legal g c;
       reached = begin_reached o (sound g c) t c.args.depth workers.all workers.new board.logs board.version (empty g c);
+      counted = begin_counted o (sound g c) t c.args.depth workers.all workers.new board.logs board.version (empty g c);
       goes_on = board.cause;
     }
 

@@ -1,7 +1,7 @@
 use Rattle.std.proofs.Common.{subst}
 use Rattle.mp_outline.specs.JobOutline.{outline_of}
 use Rattle.mp_outline.proofs.Soundness.{outline_is_sound}
-use Rattle.mp_drive.specs.Driven.{AreReached}
+use Rattle.mp_drive.specs.Driven.{AreReached, Driven}
 use Rattle.mp_drive.proofs.Owned.{keep_ownership}
 use Rattle.mp_drive.proofs.plain.Plain.running_workers_keep_ownership.Goals as goal
 
@@ -11,4 +11,4 @@ returns g c =
     let job = g.J.Naming.job in
     let q = g.Q.Query.facts job.rules in
     let sound = outline_is_sound q (laws.has_stages job.rules) (laws.posts_are_later job.rules) (laws.later_stages_post_nothing job.rules) job c.self.invariant.legal in
-    keep_ownership (outline_of q job) sound c.args.self.now (subst (AreReached (outline_of q job)) c.self.view_is c.self.invariant.reached)
+    keep_ownership (outline_of q job) sound c.args.self.now.state (subst (λ (u : Driven). AreReached (outline_of q job) u.state) c.self.view_is c.self.invariant.reached)

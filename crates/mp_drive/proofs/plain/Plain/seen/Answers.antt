@@ -2,10 +2,10 @@
 use Rattle.std.proofs.Common.{subst}
 use Rattle.mp_outline.specs.JobOutline.{outline_of}
 use Rattle.mp_board.specs.Boards.{ShowsFrontiers}
-use Rattle.mp_refinement.specs.SystemState.{SystemState}
+use Rattle.mp_drive.specs.Driven.{Driven}
 use Rattle.mp_drive.proofs.plain.Plain.seen.Goals as goal
 
 pub returns-clause-frontiers : goal.returns-clause-frontiers
 returns-clause-frontiers g c =
     let o = outline_of (g.Q.Query.facts g.J.Naming.job.rules) g.J.Naming.job in
-    subst (λ (t : SystemState). ShowsFrontiers o t.board.logs c.seen.result) c.self.view_is c.seen.ensures.frontiers
+    subst (λ (t : Driven). ShowsFrontiers o t.state.board.logs c.seen.result) c.self.view_is c.seen.ensures.frontiers

@@ -1,19 +1,19 @@
-use Rattle.std.proofs.Common.{◌≡◌, [], ◌∷◌, Err, Some, arith, sym, ap, ◌∙◌, subst}
-use Rattle.std.specs.Prelude.{slice_get}
+use Rattle.std.proofs.Common.{◌≡◌, ◌+◌, ℕ, [], ◌∷◌, Err, Some, arith, sym, ap, ◌∙◌, subst}
+use Rattle.std.specs.Prelude.{slice_get, slice_set}
 use Rattle.mp_names.specs.Outlines.{OutlineIsSound}
 use Rattle.mp_job.specs.Legal.{JobIsLegal}
 use Rattle.mp_outline.specs.JobOutline.{outline_of}
 use Rattle.mp_outline.proofs.Soundness.{outline_is_sound}
-use Rattle.mp_refinement.specs.SystemState.{SystemState}
 use Rattle.mp_machine.specs.Runs.{NotNow}
-use Rattle.mp_drive.specs.Driven.{HasWritten, LeadsOn}
+use Rattle.mp_drive.specs.Driven.{AreReachedBy, Driven, HasWritten, LeadsOn}
 use Rattle.mp_drive.specs.Kept.{together}
+use Rattle.mp_drive.proofs.Made.{counted_by}
 use Rattle.mp_drive.proofs.Turned.{Passes, at_hub, at_post, leads_nowhere_on_err, leads_on_if_ok, leads_on_outside, not_busy_if_ok, number_is, placed, same_cause, still_reached}
 use Rattle.mp_drive.proofs.Told.{Says, Writes, no_fault_of, says_of, writes_of}
 use Rattle.mp_drive.proofs.Written.{kept_on_err, written_on_ok}
 use Rattle.mp_drive.proofs.plain.Plain.step.Given as given
 use Rattle.mp_drive.proofs.plain.Plain.step.Goals as goal
-use Rattle.mp_drive.proofs.plain.Plain.step.Goals.{in-Ok, in-Err-Write, in-Err-Memory}
+use Rattle.mp_drive.proofs.plain.Plain.step.Goals.{After-made_in, in-Ok, in-Err-Write, in-Err-Memory}
 
 sound : (g : given.Over) → let job = g.J.Naming.job in let q = g.Q.Query.facts job.rules in JobIsLegal q job → OutlineIsSound (outline_of q job)
 sound g legal =
@@ -37,31 +37,31 @@ step-requires-clause-at_hub g c κs within =
     let s = c.index_mut-worker.result.now in
     at_hub o (sound g kept.legal) t kept.reached c.args.worker s (placed t c.args.worker s (omega (arith, c.len.ensures, c.if-worker-len.false)) c.index_mut-worker.ensures.value)
 
-was : (g : given.Over) (c : goal.Joined-step g) → slice_get c.self.inside.workers.items c.args.worker ≡ Some c.index_mut-worker.result.now
+was : (g : given.Over) (c : After-made_in g) → slice_get c.self.inside.workers.items c.args.worker ≡ Some c.index_mut-worker.result.now
 was g c =
     let t = together c.self.inside.workers.items c.self.inside.board c.self.inside.post in
     placed t c.args.worker c.index_mut-worker.result.now (omega (arith, c.len.ensures, c.if-worker-len.false)) c.index_mut-worker.ensures.value
 
-told : (g : given.Over) (c : goal.Joined-step g) → let o = outline_of (g.Q.Query.facts g.J.Naming.job.rules) g.J.Naming.job in let s = c.index_mut-worker.result.now in
+told : (g : given.Over) (c : After-made_in g) → let o = outline_of (g.Q.Query.facts g.J.Naming.job.rules) g.J.Naming.job in let s = c.index_mut-worker.result.now in
     Says o c.args.kind c.self.inside.board c.step.new.hub c.self.inside.post c.step.new.post s c.step.new.self c.step.result s.number
 told g c =
     let o = outline_of (g.Q.Query.facts g.J.Naming.job.rules) g.J.Naming.job in
     let e = c.step.ensures in
     says_of o c.args.kind c.self.inside.board c.step.new.hub c.self.inside.post c.step.new.post c.index_mut-worker.result.now c.step.new.self c.step.result e.answers e.exchanges e.others_post_nothing e.mail
 
-writes : (g : given.Over) (c : goal.Joined-step g) → let job = g.J.Naming.job in
+writes : (g : given.Over) (c : After-made_in g) → let job = g.J.Naming.job in
     Writes (g.Q.Query.facts job.rules) job c.args.kind c.index_mut-worker.result.now (g.S.Sink.written c.args.sink.now) (g.S.Sink.written c.step.new.sink) c.step.result
 writes g c =
     let job = g.J.Naming.job in
     let e = c.step.ensures in
     writes_of (g.Q.Query.facts job.rules) job g.S.Sink.written g.S.Sink.faults c.args.kind c.index_mut-worker.result.now c.args.sink.now c.step.new.sink c.step.result e.writes e.others_write_nothing
 
-passes : (g : given.Over) (c : goal.Joined-step g) → Passes c.step.result c.match-step.result
+passes : (g : given.Over) (c : After-made_in g) → Passes c.step.result c.match-step.answered
 passes g c =
-    elim c.match-step.branch as (λ b. Passes c.step.result c.match-step.result) [
-      | in-Ok w ↦ subst (λ r. Passes r c.match-step.result) (sym w.in-Ok.is) w.result-is
-      | in-Err-Write w ↦ subst (λ r. Passes r c.match-step.result) (sym w.in-Err-Write.is) (_, w.result-is)
-      | in-Err-Memory w ↦ subst (λ r. Passes r c.match-step.result) (sym w.in-Err-Memory.is) (_, w.result-is)
+    elim c.match-step.branch as (λ b. Passes c.step.result c.match-step.answered) [
+      | in-Ok w ↦ subst (λ r. Passes r c.match-step.answered) (sym w.in-Ok.is) w.answered-is
+      | in-Err-Write w ↦ subst (λ r. Passes r c.match-step.answered) (sym w.in-Err-Write.is) (_, w.answered-is)
+      | in-Err-Memory w ↦ subst (λ r. Passes r c.match-step.answered) (sym w.in-Err-Memory.is) (_, w.answered-is)
     ]
 
 pub invariant_of-self : goal.invariant_of-self
@@ -71,11 +71,16 @@ invariant_of-self g c =
     let t = together c.self.inside.workers.items c.self.inside.board c.self.inside.post in
     let s = c.index_mut-worker.result.now in
     let ok = sound g kept.legal in
+    let next = together (slice_set c.self.inside.workers.items c.args.worker c.step.new.self) c.step.new.hub c.step.new.post in
     record {
       same = kept.same;
       legal = kept.legal;
-      reached = still_reached o ok t c.args.worker c.args.kind s c.step.new.self c.step.new.hub c.step.new.post (was g c) c.step.result (told g c) kept.reached;
-      goes_on = same_cause o ok t c.args.worker c.args.kind s c.step.new.self c.step.new.hub c.step.new.post (was g c) c.step.result (told g c) ∙ kept.goes_on;
+      reached = still_reached o ok t c.args.worker c.args.kind s c.step.new.self c.step.new.hub c.step.new.post (was g c.before) c.step.result (told g c.before) kept.reached;
+      counted = subst (λ (n : ℕ). AreReachedBy o next (c.self.inside.made + n)) (sym c.made_in.ensures)
+          (counted_by o c.args.worker c.self.inside.made c.args.kind c.match-step.answered t next kept.counted
+          (leads_on_if_ok o ok t c.args.worker c.args.kind s c.step.new.self c.step.new.hub c.step.new.post (was g c.before) c.step.result c.match-step.answered (passes g c.before) (told g c.before))
+          (leads_nowhere_on_err o ok t c.args.worker c.args.kind s c.step.new.self c.step.new.hub c.step.new.post (was g c.before) c.step.result c.match-step.answered (passes g c.before) (told g c.before)));
+      goes_on = same_cause o ok t c.args.worker c.args.kind s c.step.new.self c.step.new.hub c.step.new.post (was g c.before) c.step.result (told g c.before) ∙ kept.goes_on;
     }
 
 pub returns-clause-turn : goal.returns-clause-turn
@@ -83,14 +88,14 @@ returns-clause-turn g c =
     let o = outline_of (g.Q.Query.facts g.J.Naming.job.rules) g.J.Naming.job in
     let t = together c.self.inside.workers.items c.self.inside.board c.self.inside.post in
     rw (← c.self.view_is)
-    (leads_on_if_ok o (sound g c.self.invariant.legal) t c.args.worker c.args.kind c.index_mut-worker.result.now c.step.new.self c.step.new.hub c.step.new.post (was g c) c.step.result c.match-step.result (passes g c) (told g c))
+    (leads_on_if_ok o (sound g c.self.invariant.legal) t c.args.worker c.args.kind c.index_mut-worker.result.now c.step.new.self c.step.new.hub c.step.new.post (was g c.before) c.step.result c.match-step.answered (passes g c.before) (told g c.before))
 
 pub returns-clause-unchanged : goal.returns-clause-unchanged
 returns-clause-unchanged g c =
     let o = outline_of (g.Q.Query.facts g.J.Naming.job.rules) g.J.Naming.job in
     let t = together c.self.inside.workers.items c.self.inside.board c.self.inside.post in
     rw (← c.self.view_is)
-    (leads_nowhere_on_err o (sound g c.self.invariant.legal) t c.args.worker c.args.kind c.index_mut-worker.result.now c.step.new.self c.step.new.hub c.step.new.post (was g c) c.step.result c.match-step.result (passes g c) (told g c))
+    (leads_nowhere_on_err o (sound g c.self.invariant.legal) t c.args.worker c.args.kind c.index_mut-worker.result.now c.step.new.self c.step.new.hub c.step.new.post (was g c.before) c.step.result c.match-step.answered (passes g c.before) (told g c.before))
 
 pub returns-clause-written : goal.returns-clause-written
 returns-clause-written g c = λ before has.
@@ -101,9 +106,9 @@ returns-clause-written g c = λ before has.
     let t = together c.self.inside.workers.items c.self.inside.board c.self.inside.post in
     let s = c.index_mut-worker.result.now in
     let ok = sound g kept.legal in
-    let number = number_is o ok t kept.reached c.args.worker s (was g c) in
-    let here = subst (λ (u : SystemState). HasWritten q job.events before u (g.S.Sink.written c.args.sink.now)) (sym c.self.view_is) has in
-    written_on_ok q job ok t c.args.worker c.args.kind s c.step.new.self c.step.new.hub c.step.new.post (was g c) number (g.S.Sink.written c.args.sink.now) (g.S.Sink.written c.step.new.sink) before here c.self.inside.board c.self.inside.post c.step.result c.match-step.result (passes g c) (told g c) (writes g c)
+    let number = number_is o ok t kept.reached c.args.worker s (was g c.before) in
+    let here = subst (λ (u : Driven). HasWritten q job.events before u.state (g.S.Sink.written c.args.sink.now)) (sym c.self.view_is) has in
+    written_on_ok q job ok t c.args.worker c.args.kind s c.step.new.self c.step.new.hub c.step.new.post (was g c.before) number (g.S.Sink.written c.args.sink.now) (g.S.Sink.written c.step.new.sink) before here c.self.inside.board c.self.inside.post c.step.result c.match-step.answered (passes g c.before) (told g c.before) (writes g c.before)
 
 pub returns-clause-part : goal.returns-clause-part
 returns-clause-part g c = λ before has.
@@ -114,21 +119,21 @@ returns-clause-part g c = λ before has.
     let t = together c.self.inside.workers.items c.self.inside.board c.self.inside.post in
     let s = c.index_mut-worker.result.now in
     let ok = sound g kept.legal in
-    let number = number_is o ok t kept.reached c.args.worker s (was g c) in
-    let here = subst (λ (u : SystemState). HasWritten q job.events before u (g.S.Sink.written c.args.sink.now)) (sym c.self.view_is) has in
-    kept_on_err q job ok t c.args.worker c.args.kind s c.step.new.self c.step.new.hub c.step.new.post (was g c) number (g.S.Sink.written c.args.sink.now) (g.S.Sink.written c.step.new.sink) before here c.self.inside.post.depth kept.reached.0 kept.reached.1 c.step.result c.match-step.result (passes g c) (told g c).unchanged (writes g c)
+    let number = number_is o ok t kept.reached c.args.worker s (was g c.before) in
+    let here = subst (λ (u : Driven). HasWritten q job.events before u.state (g.S.Sink.written c.args.sink.now)) (sym c.self.view_is) has in
+    kept_on_err q job ok t c.args.worker c.args.kind s c.step.new.self c.step.new.hub c.step.new.post (was g c.before) number (g.S.Sink.written c.args.sink.now) (g.S.Sink.written c.step.new.sink) before here c.self.inside.post.depth kept.reached.0 kept.reached.1 c.step.result c.match-step.answered (passes g c.before) (told g c.before).unchanged (writes g c.before)
 
 pub returns-clause-not_busy : goal.returns-clause-not_busy
 returns-clause-not_busy g c =
     let o = outline_of (g.Q.Query.facts g.J.Naming.job.rules) g.J.Naming.job in
     let t = together c.self.inside.workers.items c.self.inside.board c.self.inside.post in
-    not_busy_if_ok o (sound g c.self.invariant.legal) t c.args.worker c.args.kind c.index_mut-worker.result.now c.step.new.self c.step.new.hub c.step.new.post (was g c) c.step.result c.match-step.result (passes g c) (told g c)
+    not_busy_if_ok o (sound g c.self.invariant.legal) t c.args.worker c.args.kind c.index_mut-worker.result.now c.step.new.self c.step.new.hub c.step.new.post (was g c.before) c.step.result c.match-step.answered (passes g c.before) (told g c.before)
 
 pub returns-then-worker-len-clause-turn : goal.returns-then-worker-len-clause-turn
 returns-then-worker-len-clause-turn g c =
     let o = outline_of (g.Q.Query.facts g.J.Naming.job.rules) g.J.Naming.job in
     let t = together c.self.inside.workers.items c.self.inside.board c.self.inside.post in
-    subst (λ (u : SystemState). LeadsOn o ((c.args.worker, c.args.kind) ∷ []) (NotNow ∷ []) u u) c.self.view_is (leads_on_outside o (sound g c.self.invariant.legal) t c.args.worker c.args.kind c.self.invariant.reached (omega (arith, c.len.ensures, c.if-worker-len.true)))
+    subst (λ (u : Driven). LeadsOn o ((c.args.worker, c.args.kind) ∷ []) (NotNow ∷ []) u.state u.state) c.self.view_is (leads_on_outside o (sound g c.self.invariant.legal) t c.args.worker c.args.kind c.self.invariant.reached (omega (arith, c.len.ensures, c.if-worker-len.true)))
 
 pub returns-clause-no_fault : goal.returns-clause-no_fault
 returns-clause-no_fault g c = λ not_failed.
@@ -137,7 +142,7 @@ returns-clause-no_fault g c = λ not_failed.
     let e = c.step.ensures in
     elim c.match-step.branch as (λ b. g.S.Sink.faults c.step.new.sink ≡ g.S.Sink.faults c.args.sink.now) [
       | in-Ok w ↦ let is = w.in-Ok.is in quiet (λ f. cc) e.writes e.others_write_nothing
-      | in-Err-Write w ↦ absurd (not_failed w.result-is)
+      | in-Err-Write w ↦ absurd (not_failed w.answered-is)
       | in-Err-Memory w ↦
           let is = w.in-Err-Memory.is ∙ ap Err w.in-Err-Memory.field-0-is in
           quiet (λ f. cc) e.writes e.others_write_nothing

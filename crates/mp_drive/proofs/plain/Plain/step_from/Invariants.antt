@@ -11,9 +11,10 @@ invariant-loop-tried g l =
     let q = g.Q.Query.facts g.J.Naming.job.rules in
     let o = outline_of q g.J.Naming.job in
     record {
-      still : LeadsOn o [] [] l.fn.self l.self;
-      none : NoneOf o l.fn.self (l.draw % length (places o)) l.tried;
-      written : (before : Option (List ℕ)) → HasWritten q g.J.Naming.job.events before l.fn.self (g.S.Sink.written l.fn.sink) → HasWritten q g.J.Naming.job.events before l.self (g.S.Sink.written l.sink);
+      still : LeadsOn o [] [] l.fn.self.state l.self.state;
+      made : l.self.made ≡ l.fn.self.made;
+      none : NoneOf o l.fn.self.state (l.draw % length (places o)) l.tried;
+      written : (before : Option (List ℕ)) → HasWritten q g.J.Naming.job.events before l.fn.self.state (g.S.Sink.written l.fn.sink) → HasWritten q g.J.Naming.job.events before l.self.state (g.S.Sink.written l.sink);
       quiet : g.S.Sink.faults l.sink ≡ g.S.Sink.faults l.fn.sink;
       appends : OnlyAppends g.S.Sink.frame g.S.Sink.faults l.fn.sink l.sink;
     }

@@ -2,8 +2,7 @@ use Rattle.std.proofs.Common.{[], ◌∷◌, ◌≡◌, ◌∙◌, ℕ, List, ap
 use Rattle.mp_outline.specs.JobOutline.{outline_of}
 use Rattle.mp_outline.proofs.Soundness.{outline_is_sound}
 use Rattle.mp_refinement.specs.State.{WorkerState}
-use Rattle.mp_refinement.specs.SystemState.{SystemState}
-use Rattle.mp_drive.specs.Driven.{AreReached}
+use Rattle.mp_drive.specs.Driven.{AreReached, Driven}
 use Rattle.mp_drive.proofs.Counted.{one_more_tells, tallied_at_the_end, tallied_where_complete}
 use Rattle.mp_drive.proofs.plain.Plain.tallies.Goals as goal
 
@@ -12,12 +11,12 @@ loop-worker-preserved g c =
     let job = g.J.Naming.job in
     let q = g.Q.Query.facts job.rules in
     let i = c.loop-worker.invariant in
-    let workers = c.args.self.now.workers in
+    let workers = c.args.self.now.state.workers in
     let tallies = c.loop-worker.tallies.items in
     let worker = c.worker-item.result in
     let tally = c.in_ok-tally.field-0 in
     let pushed = c.push_reserved.ensures in
-    let same = c.deref-worker-items.ensures.value ∙ ap (λ (t : SystemState). t.workers) c.self.view_is in
+    let same = c.deref-worker-items.ensures.value ∙ ap (λ (t : Driven). t.state.workers) c.self.view_is in
     let at = subst (λ (n : ℕ). worker ≡ get_or workers n worker) (sym i.many) (subst (λ (xs : List WorkerState). worker ≡ get_or xs c.loop-worker.worker-index worker) same c.worker-item.is) in
     let told = c.in_ok-tally.ensures in
     record {
@@ -30,8 +29,8 @@ loop-worker-preserved g c =
 pub returns-clause-all : goal.returns-clause-all
 returns-clause-all g c =
     let o = outline_of (g.Q.Query.facts g.J.Naming.job.rules) g.J.Naming.job in
-    let same = ap length (c.deref-worker-items.ensures.value ∙ ap (λ (t : SystemState). t.workers) c.self.view_is) in
-    let reached = subst (AreReached o) c.self.view_is c.self.invariant.reached in
+    let same = ap length (c.deref-worker-items.ensures.value ∙ ap (λ (t : Driven). t.state.workers) c.self.view_is) in
+    let reached = subst (λ (u : Driven). AreReached o u.state) c.self.view_is c.self.invariant.reached in
     omega (arith, same, c.loop-worker.invariant.many, c.loop-worker-test.false, c.loop-worker.auto.worker-index-end, reached.1.all_workers)
 
 pub returns-clause-at_the_end : goal.returns-clause-at_the_end
@@ -41,8 +40,8 @@ returns-clause-at_the_end g c = λ w t all at.
     let q = g.Q.Query.facts job.rules in
     let kept = c.self.invariant in
     let sound = outline_is_sound q (laws.has_stages job.rules) (laws.posts_are_later job.rules) (laws.later_stages_post_nothing job.rules) job kept.legal in
-    let reached = subst (AreReached (outline_of q job)) c.self.view_is kept.reached in
-    tallied_at_the_end q job sound c.args.self.now reached all c.loop-worker.tallies.items c.loop-worker.invariant.told (returns-clause-all g c) w t at
+    let reached = subst (λ (u : Driven). AreReached (outline_of q job) u.state) c.self.view_is kept.reached in
+    tallied_at_the_end q job sound c.args.self.now.state reached all c.loop-worker.tallies.items c.loop-worker.invariant.told (returns-clause-all g c) w t at
 
 pub returns-clause-complete : goal.returns-clause-complete
 returns-clause-complete g c = λ w t over at.
@@ -50,4 +49,4 @@ returns-clause-complete g c = λ w t over at.
     let job = g.J.Naming.job in
     let q = g.Q.Query.facts job.rules in
     let sound = outline_is_sound q (laws.has_stages job.rules) (laws.posts_are_later job.rules) (laws.later_stages_post_nothing job.rules) job c.self.invariant.legal in
-    tallied_where_complete q job sound c.args.self.now over c.loop-worker.tallies.items c.loop-worker.invariant.told (returns-clause-all g c) w t at
+    tallied_where_complete q job sound c.args.self.now.state over c.loop-worker.tallies.items c.loop-worker.invariant.told (returns-clause-all g c) w t at

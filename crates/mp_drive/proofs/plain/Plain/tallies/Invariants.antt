@@ -4,7 +4,7 @@ use Rattle.mp_drive.proofs.plain.Plain.tallies.Given as goal
 
 abbrev pub invariant-loop-worker : goal.invariant-loop-worker
 invariant-loop-worker g l = record {
-  room : length l.fn.self.workers ≤ vec_capacity l.tallies;
+  room : length l.fn.self.state.workers ≤ vec_capacity l.tallies;
   many : length l.tallies.items ≡ l.worker-index;
-  told : AllTell (g.Q.Query.facts g.J.Naming.job.rules) g.J.Naming.job l.fn.self.workers l.tallies.items;
+  told : AllTell (g.Q.Query.facts g.J.Naming.job.rules) g.J.Naming.job l.fn.self.state.workers l.tallies.items;
 }
