@@ -3,7 +3,7 @@ use Rattle.std.proofs.Common.{IfSome, None, Option, is_some, not, ◌≡◌, ◌
 use Rattle.std.proofs.Math.ListN.{drop_of_length-le}
 use Rattle.std.proofs.Math.Seq.{take-length}
 use Rattle.std.proofs.lemmas.Bool.{cases_order, false≢true}
-use Rattle.std.proofs.lemmas.List.{append-nil, length-map, set-get_or}
+use Rattle.std.proofs.lemmas.List.{append-nil, length-map}
 use Rattle.std.proofs.lemmas.Option.{slice_get-get_or}
 use Rattle.mp_names.specs.declared.kinds.Kind.TheVariants.{Apply}
 use Rattle.mp_names.specs.declared.locations.Loc.{Loc}
@@ -39,7 +39,7 @@ use Rattle.mp_worker_invariant.specs.Given.{values_given}
 use Rattle.mp_worker_invariant.specs.Laws.{CanDo, GroupsHandOn}
 use Rattle.mp_worker_invariant.specs.Parts.{ArePartsOf, AtEach, HoldsRowsBut, IsHostAt, IsRouterAt, Parts}
 use Rattle.mp_worker_invariant.proofs.Handed.{groups_hand_on}
-use Rattle.mp_worker_invariant.proofs.Items.{again_there, same_each, same_length}
+use Rattle.mp_worker_invariant.proofs.Items.{same_each, same_length}
 use Rattle.mp_worker_invariant.proofs.Others.{other_routers}
 use Rattle.mp_worker_invariant.proofs.Standing.{host_at, informed, router_at, steps, told}
 use Rattle.mp_parts.specs.Applying.{HandsOn, IsApplying}

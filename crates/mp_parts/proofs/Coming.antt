@@ -1,5 +1,5 @@
 -- A packet that comes to a worker: what it changes at the counts, and that the host holds it.
-use Rattle.std.proofs.Common.{◌≡◌, ℕ, ◌<◌, ◌+◌, ◌++◌, false, List, [], ◌∷◌, length, map, pos, refl, sym, ap, ◌∙◌, subst, arith}
+use Rattle.std.proofs.Common.{◌≡◌, ℕ, ◌<◌, ◌+◌, ◌++◌, false, List, [], ◌∷◌, length, pos, refl, sym, ap, ◌∙◌, subst, arith}
 use Rattle.std.proofs.lemmas.List.{length-map}
 use Rattle.mp_names.specs.declared.locations.Loc.TheVariants.{Host}
 use Rattle.mp_names.specs.declared.names.Name.TheVariants.{Packet}

@@ -1,5 +1,5 @@
 -- The next record of a worker's share goes to the router of stage 0: which record that is, and that the parts hold what the new log says.
-use Rattle.std.proofs.Common.{◌≡◌, ◌==◌, ◌%◌, ℕ, ◌<◌, ◌≤◌, Contains, List, [], ◌∷◌, ◌++◌, IsSome, Some, get_or, length, set, slice_get, refl, sym, ap, ◌∙◌, subst}
+use Rattle.std.proofs.Common.{◌≡◌, ◌==◌, ◌%◌, ℕ, ◌<◌, ◌≤◌, Contains, List, IsSome, Some, get_or, length, slice_get, refl, sym, ap, ◌∙◌, subst}
 use Rattle.std.specs.List.{range_with_len}
 use Rattle.std.specs.Option.{is_some}
 use Rattle.std.proofs.lemmas.Bool.{and_parts}
@@ -7,14 +7,12 @@ use Rattle.std.proofs.lemmas.Option.{slice_get_past, slice_get_read}
 use Rattle.mp_names.specs.declared.kinds.Kind.TheVariants.{Ingest}
 use Rattle.mp_names.specs.declared.names.Name.{Name}
 use Rattle.mp_names.specs.Logs.{Log, with_ingested}
-use Rattle.mp_names.specs.Names.{IsPrefix}
-use Rattle.mp_names.specs.Outlines.{OutlineIsSound, share}
+use Rattle.mp_names.specs.Outlines.{OutlineIsSound}
 use Rattle.mp_model.specs.declared.record.Rec.{Rec}
 use Rattle.mp_model.specs.Facts.{JobFacts, QueryFacts}
 use Rattle.mp_job.specs.Records.{is_taken_by, record_at, share_of}
 use Rattle.mp_job.proofs.Members.{Contains-filter}
 use Rattle.mp_outline.specs.JobOutline.{name_of_record, outline_of}
-use Rattle.mp_msg.specs.Contents.{IsRecordOf}
 use Rattle.mp_rows.specs.Entries.{AreChanges}
 use Rattle.mp_count_laws.specs.Changes.{ingested_at}
 use Rattle.mp_count_laws.proofs.Ingested.{ingested}
@@ -22,7 +20,7 @@ use Rattle.mp_route.specs.Routed.{Routed}
 use Rattle.mp_route.specs.Unsent.{HoldsOneMore, HoldsUnsent}
 use Rattle.mp_worker_invariant.specs.Kept.{with_router}
 use Rattle.mp_worker_invariant.specs.Laws.{CanDo, SharesAreIngested}
-use Rattle.mp_worker_invariant.specs.Parts.{ArePartsOf, IsRouterAt, Parts}
+use Rattle.mp_worker_invariant.specs.Parts.{ArePartsOf, Parts}
 use Rattle.mp_worker_invariant.proofs.Ingested.{shares_are_ingested}
 use Rattle.mp_parts.specs.Ingesting.{IsNextRecord}
 use Rattle.mp_worker_invariant.proofs.Standing.{router_at, steps}

@@ -1,5 +1,5 @@
 -- What a worker takes: that it is owed to it, what it changes at the counts, and that the parts hold it.
-use Rattle.std.proofs.Common.{◌≡◌, ◌∷◌, ℕ, Bool, true, false, cond, List, [], take, set, refl, sym, ap, ◌∙◌, subst}
+use Rattle.std.proofs.Common.{◌≡◌, ◌∷◌, ℕ, Bool, true, false, cond, List, [], take, refl, sym, ap, ◌∙◌, subst}
 use Rattle.mp_names.specs.declared.controls.Control.{Control}
 use Rattle.mp_names.specs.declared.locations.Loc.TheVariants.{Host, Mail}
 use Rattle.mp_names.specs.declared.names.Name.{Name}
