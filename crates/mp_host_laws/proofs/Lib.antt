@@ -18,3 +18,5 @@ pub mod Coming
 pub mod Leaving
 pub mod Returned
 pub mod MovingTold
+pub mod Wakes
+pub mod WakeTimes

@@ -1,2 +1,11 @@
 pub mod OneByOne
 pub mod Tallied
+pub mod Counted
+pub mod Coming
+pub mod LeavingPackets
+pub mod Extracting
+pub mod Settling
+pub mod Ingested
+pub mod Received
+pub mod Controls
+pub mod Applied

@@ -6,3 +6,6 @@ pub mod Steps
 pub mod Exchanges
 pub mod Begins
 pub mod Asked
+pub mod Popped
+pub mod Pushed
+pub mod Alone

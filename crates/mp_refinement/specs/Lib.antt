@@ -4,5 +4,6 @@ pub mod Ends
 pub mod Served
 pub mod Steps
 pub mod Mail
+pub mod Sending
 pub mod SystemState
 pub mod Laws

@@ -1,9 +1,6 @@
 -- A new worker: its parts hold nothing, as its empty log says.
-use Rattle.std.proofs.Common.{◌≡◌, ℕ, ◌+◌, ◌<◌, List, [], ◌∷◌, ◌++◌, arith, get_or, length, length-append, subst, sym, ⊎_elim}
+use Rattle.std.proofs.Common.{◌≡◌, ℕ, ◌<◌, List, [], arith, length}
 use Rattle.std.specs.Prelude.{replicate}
-use Rattle.std.proofs.lemmas.Bool.{cases_eq}
-use Rattle.std.proofs.Math.ListN.{get_or-append}
-use Rattle.std.proofs.Math.Seq.{get_or-append_seam}
 use Rattle.mp_names.specs.Logs.{Log, empty_log}
 use Rattle.mp_names.specs.Outlines.{OutlineIsSound}
 use Rattle.mp_stamps.specs.declared.seen.Seen.{Seen}
@@ -20,15 +17,6 @@ use Rattle.mp_worker_invariant.specs.Parts.{AreMoversAt, ArePartsOf, AtEach, IsH
 use Rattle.mp_worker_invariant.proofs.Asked.{parts_begin}
 use Rattle.mp_refinement.proofs.Begins.{opening_is_told}
 use Rattle.mp_worker.specs.Kept.{parts_with}
-
--- what holds of each item and its place holds of one more
-pub one_more_at : {X : Type 0} (P : ℕ → X → Type 0) (xs : List X) (x : X) → AtEach xs P → P (length xs) x → AtEach (xs ++ x ∷ []) P
-one_more_at P xs x each new j d l =
-    let inside : j < length xs + 1 = omega (arith, length-append xs (x ∷ [])) in
-    ⊎_elim
-    (λ (last : j ≡ length xs). subst (λ (i : ℕ). P i (get_or (xs ++ x ∷ []) i d)) (sym last) (subst (P (length xs)) (sym (get_or-append_seam xs x [] d)) new))
-    (λ (apart : j ≡ length xs → ⊥). let before : j < length xs = omega arith in subst (P j) (sym (get_or-append xs (x ∷ []) d j before)) (each j d before))
-    (cases_eq j (length xs))
 
 module _ {Cell : Type 0} (q : QueryFacts Cell) (job : JobFacts) (sound : OutlineIsSound (outline_of q job)) where
   -- there is a worker, a bin and a stage

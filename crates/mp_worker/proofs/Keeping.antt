@@ -1,83 +1,36 @@
--- What a worker keeps to where some of its parts are others.
-use Rattle.std.proofs.Common.{◌≡◌, ◌∙◌, ℕ, List, length, refl, subst, sym}
+-- What a worker keeps to where its parts are others, and what its parts say of its steps.
+use Rattle.std.proofs.Common.{◌≡◌, refl}
+use Rattle.mp_names.specs.declared.kinds.Kind.{Kind}
+use Rattle.mp_names.specs.declared.names.Name.{Name}
 use Rattle.mp_names.specs.Logs.{Log}
-use Rattle.mp_bins.specs.Notes.{Notes}
+use Rattle.mp_machine.specs.Steps.{KindFits, logged}
 use Rattle.mp_model.specs.Facts.{JobFacts, QueryFacts}
+use Rattle.mp_outline.specs.JobOutline.{outline_of}
 use Rattle.mp_rows.specs.WorkerLog.{WorkerLog}
-use Rattle.mp_route.specs.Routed.{Routed}
-use Rattle.mp_host_laws.specs.Hosted.{Hosted}
-use Rattle.mp_handoff.specs.MoversState.{MoversState}
-use Rattle.mp_worker_invariant.specs.Parts.{AreMoversAt, ArePartsOf, AreTaken, AtEach, IsHostAt, IsRouterAt, Parts}
+use Rattle.mp_worker_invariant.specs.Laws.{CanDo}
+use Rattle.mp_worker_invariant.specs.Parts.{ArePartsOf, Parts}
+use Rattle.mp_refinement.specs.State.{CanMake, Makes, WorkerState}
 use Rattle.mp_worker.specs.Kept.{IsKept}
 
--- a worker with another log, and with parts that hold what that says
-pub kept_as :
-    {Cell : Type 0} {q : QueryFacts Cell} {job its : JobFacts} {w : ℕ} {log : WorkerLog} {p : Parts Cell}
-    → IsKept q job its w log p
-    → (new : WorkerLog) (parts : Parts Cell)
-    → new.worker ≡ log.worker
-    → ArePartsOf q job parts
-    → IsKept q job its w new parts
-kept_as kept new parts same are = record {
-  same = kept.same;
-  legal = kept.legal;
-  rows = kept.rows;
-  sound = kept.sound;
-  hands_on = kept.hands_on;
-  number = same ∙ kept.number;
-  parts = are;
-}
+module _ {Cell : Type 0} {q : QueryFacts Cell} {job its : JobFacts} {p : Parts Cell} (kept : IsKept q job its p) where
+  -- a worker with other parts that hold what its log says
+  pub kept_as : {made : Parts Cell} → ArePartsOf q job made → IsKept q job its made
+  kept_as are = record { same = kept.same; legal = kept.legal; rows = kept.rows; sound = kept.sound; hands_on = kept.hands_on; parts = are }
 
--- where the parts hold what these names say, a worker whose log has them keeps to what it is to
-pub kept_by :
-    {Cell : Type 0} {q : QueryFacts Cell} {job its : JobFacts} {w : ℕ} {log : WorkerLog} {p : Parts Cell}
-    → IsKept q job its w log p
-    → p.number ≡ log.worker
-    → (new : WorkerLog)
-    → new.worker ≡ p.number
-    → (names : Log)
-    → new.log ≡ names
-    → (made : Parts Cell)
-    → ArePartsOf q job (record made { number = p.number; log = names })
-    → IsKept q job its w new (record made { number = new.worker; log = new.log })
-kept_by {q = q} {job = job} {p = p} kept worker new e names f made are =
-    kept_as kept new (record made { number = new.worker; log = new.log }) (e ∙ worker)
-    (subst (λ (l : Log). ArePartsOf q job (record made { number = new.worker; log = l })) (sym f)
-    (subst (λ (v : ℕ). ArePartsOf q job (record made { number = v; log = names })) (sym e) are))
+  -- where the parts hold what these names say, a worker whose log has them keeps to what it is to
+  pub kept_by : (new : WorkerLog) {made : Parts Cell} → new.worker ≡ made.number → new.log ≡ made.log → ArePartsOf q job made → IsKept q job its (record made { number = new.worker; log = new.log })
+  kept_by new e f are = kept_as (rw (e, f) are)
 
--- Parts of which some are others that hold what the log says too
+-- the worker as contracts see it
+abbrev pub state : {Cell : Type 0} → Parts Cell → WorkerState
+state p = record { number = p.number; log = p.log; posted = p.posted; seen = p.seen }
 
-module _ {Cell : Type 0} {q : QueryFacts Cell} {job : JobFacts} {p : Parts Cell} (are : ArePartsOf q job p) where
-  others : (notes : Notes) (routers : List Routed) (hosts : List (Hosted Cell)) (movers : List MoversState)
-      → AreTaken job p.number p.log notes
-      → length routers ≡ length p.routers → AtEach routers (IsRouterAt q job p.number p.log)
-      → length hosts ≡ length p.hosts → AtEach hosts (IsHostAt q job p.number p.log)
-      → length movers ≡ length p.movers → AtEach movers (AreMoversAt q job p.number p.log)
-      → ArePartsOf q job (record p { notes = notes; routers = routers; hosts = hosts; movers = movers })
-  others notes routers hosts movers taken all_routers at_routers all_hosts at_hosts all_movers at_movers = record {
-    worker = are.worker;
-    legal = are.legal;
-    done = are.done;
-    notes = taken;
-    next = are.next;
-    all_routers = all_routers ∙ are.all_routers;
-    routers = at_routers;
-    all_hosts = all_hosts ∙ are.all_hosts;
-    hosts = at_hosts;
-    all_movers = all_movers ∙ are.all_movers;
-    movers = at_movers;
-    unsent = are.unsent;
-    unwritten = are.unwritten;
-  }
+module _ {Cell : Type 0} {q : QueryFacts Cell} {job its : JobFacts} {p : Parts Cell} (kept : IsKept q job its p) (kind : Kind) (x : Name) where
+  pub can_make : KindFits (outline_of q job) kind → CanDo q job p kind x → CanMake (outline_of q job) kind (state p) x
+  can_make fits can = record { fits = fits; next = can.0; ready = can.1 }
 
-  pub other_notes : (notes : Notes) → AreTaken job p.number p.log notes → ArePartsOf q job (record p { notes = notes })
-  other_notes notes taken = others notes p.routers p.hosts p.movers taken refl are.routers refl are.hosts refl are.movers
+  pub can_do : CanMake (outline_of q job) kind (state p) x → CanDo q job p kind x
+  can_do can = (can.next, can.ready)
 
-  pub other_routers : (routers : List Routed) → length routers ≡ length p.routers → AtEach routers (IsRouterAt q job p.number p.log) → ArePartsOf q job (record p { routers = routers })
-  other_routers routers all at = others p.notes routers p.hosts p.movers are.notes all at refl are.hosts refl are.movers
-
-  pub other_hosts : (hosts : List (Hosted Cell)) → length hosts ≡ length p.hosts → AtEach hosts (IsHostAt q job p.number p.log) → ArePartsOf q job (record p { hosts = hosts })
-  other_hosts hosts all at = others p.notes p.routers hosts p.movers are.notes refl are.routers all at refl are.movers
-
-  pub other_movers : (movers : List MoversState) → length movers ≡ length p.movers → AtEach movers (AreMoversAt q job p.number p.log) → ArePartsOf q job (record p { movers = movers })
-  other_movers movers all at = others p.notes p.routers p.hosts movers are.notes refl are.routers refl are.hosts all at
+  pub makes : KindFits (outline_of q job) kind → CanDo q job p kind x → (l : Log) → l ≡ logged kind p.log x → Makes (outline_of q job) kind (state p) x (record { number = p.number; log = l; posted = p.posted; seen = p.seen })
+  makes fits can l is = record { can = can_make fits can; after = rw is refl }

@@ -33,24 +33,24 @@ passed : (frontier : Frontier) (rows : List Output) (t : ℕ) → IsDue frontier
 passed frontier [] t due = absurd due
 passed frontier (row ∷ rows) t due = due.1
 
-module _ {Cell : Type 0} (q : QueryFacts Cell) (job : JobFacts) (p : Parts Cell) (parts : ArePartsOf q job p) (w : ℕ) (number : p.number ≡ w) (first : w ≡ 0) (t : ℕ) (due : IsDue (seen_at p.seen OutMail) p.unwritten t) where
+module _ {Cell : Type 0} (q : QueryFacts Cell) (job : JobFacts) (p : Parts Cell) (parts : ArePartsOf q job p) (first : p.number ≡ 0) (t : ℕ) (due : IsDue (seen_at p.seen OutMail) p.unwritten t) where
   -- all rows of a time that is due have come
   pub rows_have_come : IsClosedForOne (outline_of q job) 0 p.log OutMail t
-  rows_have_come = subst (λ (v : ℕ). IsClosedForOne (outline_of q job) v p.log OutMail t) (number ∙ first) (parts.done OutMail t tt (passed _ p.unwritten t due))
+  rows_have_come = subst (λ (v : ℕ). IsClosedForOne (outline_of q job) v p.log OutMail t) first (parts.done OutMail t tt (passed _ p.unwritten t due))
 
   -- to write it is a step that the worker can make
-  can_write : IsLeast (IsUnwritten p.log) (Written t) → CanMake (outline_of q job) Write (record { number = w; log = p.log; posted = p.posted; seen = p.seen }) (Written t)
+  can_write : IsLeast (IsUnwritten p.log) (Written t) → CanMake (outline_of q job) Write (record { number = p.number; log = p.log; posted = p.posted; seen = p.seen }) (Written t)
   can_write least = record { fits = tt; next = (first, least); ready = passed _ p.unwritten t due }
 
   -- its lines are the answer's, so a part of them is a part of the answer's
   pub part_written :
       IsLeast (IsUnwritten p.log) (Written t) × (IsClosedForOne (outline_of q job) 0 p.log OutMail t → lines_of (rows_at t p.unwritten) ≡ answer_at q job.events t)
-      → (n : ℕ) (old new : Option (List ℕ)) → new ≡ grown old (take n (lines_of (rows_at t p.unwritten))) → WritesPart q job (record { number = w; log = p.log; posted = p.posted; seen = p.seen }) old new
+      → (n : ℕ) (old new : Option (List ℕ)) → new ≡ grown old (take n (lines_of (rows_at t p.unwritten))) → WritesPart q job (record { number = p.number; log = p.log; posted = p.posted; seen = p.seen }) old new
   part_written told n old new grew = (t, n, can_write told.0, grew ∙ ap (λ (lines : List ℕ). grown old (take n lines)) (told.1 rows_have_come))
 
   -- once it is written the parts hold what the new log says
   pub time_written : OutlineIsSound (outline_of q job) → (rows : List Output) → WritesNext p.log t rows → ArePartsOf q job (with_unwritten p (with_settled p.log (Written t)) rows)
-  time_written sound rows next = (steps_keep_parts q job sound p parts).write t rows (number ∙ first) next.least (passed _ p.unwritten t due) next.held
+  time_written sound rows next = (steps_keep_parts q job sound p parts).write t rows first next.least (passed _ p.unwritten t due) next.held
 
 pub err_is : {T : Type 0} (e f : OutRefused) → ◌≡◌ {A = Result T OutRefused} (Err e) (Err f) → e ≡ f
 err_is e f is = cc

@@ -5,7 +5,6 @@ pub mod Applying
 pub mod Contents
 pub mod Kept
 pub mod Rooms
-pub mod Sending
 pub mod Stops
 pub mod Turns
 pub mod Writing

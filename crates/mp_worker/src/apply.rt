@@ -1,17 +1,25 @@
 //! How a worker applies groups.
-ghost use Rattle.std.specs.Prelude.{◌≡◌, ◌≤◌, ◌<◌, ◌+◌, ◌^◌, ◌++◌, ◌∷◌, ℕ, [], IfNone, IfOk, IfSome, IsOk, length, map};
+ghost use Rattle.std.specs.Prelude.{◌≡◌, ◌≤◌, ◌<◌, ◌+◌, ◌^◌, ◌++◌, ◌∷◌, ℕ, [], IfNone, IfOk, IfSome, IsOk, OnErr, get_or, length, map};
 ghost use Rattle.std.specs.Vec.{vec_capacity};
 ghost use Rattle.mp_names.specs.declared.locations.Loc.TheVariants.{Host as HostLoc};
 ghost use Rattle.mp_names.specs.declared.kinds.Kind.TheVariants.{Apply};
 ghost use Rattle.mp_names.specs.declared.names.Name.{Name};
+ghost use Rattle.mp_names.specs.Logs.{Log};
+ghost use Rattle.mp_model.specs.Facts.{JobFacts};
 ghost use Rattle.mp_count_laws.specs.Changes.{one_less, one_more, some_more};
 ghost use Rattle.mp_outline.specs.JobOutline.{outline_of};
+ghost use Rattle.mp_host_laws.specs.HostOf.{HostMatchesLogAndSeen, OwnersAreCurrent};
+ghost use Rattle.mp_host.specs.Ready.{IsReadyHere};
+ghost use Rattle.mp_worker_invariant.specs.Parts.{Parts as PartsFacts};
+ghost use Rattle.mp_parts.specs.Applying.{IsApplying};
 ghost use Rattle.mp_refinement.specs.State.{CanMake};
 ghost use Rattle.mp_refinement.specs.Steps.{StepsAlone};
 ghost use Rattle.mp_worker.specs.Applying.{HasRoomToApply, IsEnoughFor, SomeGroupIsReady};
+ghost use Rattle.mp_worker.specs.Kept.{IsKept};
 
 use crate::parts::Parts;
-use mp_host::Applied;
+use mp_bins::Owners;
+use mp_host::{Applied, Host};
 use mp_model::{Naming, Query};
 use mp_names::{Loc, Name};
 use mp_parts::{
@@ -19,7 +27,8 @@ use mp_parts::{
     room_in_log,
 };
 use mp_rows::{Change, LogList};
-use std::alloc::AllocError;
+use mp_stamps::Seen;
+use std::alloc::{AllocError, Global};
 
 impl<'a, Q: Query, J: Naming> Parts<'a, Q, J> {
     /// The least group of a stage that waits is applied, once all that belongs to it has come; what it gives goes to the
@@ -83,9 +92,7 @@ impl<'a, Q: Query, J: Naming> Parts<'a, Q, J> {
     {
         let stages = self.job.shape().stages;
         let host = &mut self.hosts[stage as usize];
-        let Some(applied) = host.apply(self.alloc, &self.seen, &self.owners)? else {
-            unreachable!()
-        };
+        let applied = apply_group(self.alloc, stage, host, &self.seen, &self.owners)?;
         let name = Name::Group {
             stage,
             time: applied.time,
@@ -110,6 +117,30 @@ impl<'a, Q: Query, J: Naming> Parts<'a, Q, J> {
         }
         Ok(Some(name))
     }
+}
+
+// Applies the group of a host that may be applied. What is known of it is told of each worker whose host of that stage it is.
+fn apply_group<'a, Q: Query, J: Naming>(
+    alloc: Global,
+    stage: u32,
+    host: &mut Host<'a, Q, J>,
+    seen: &Seen,
+    owners: &Owners,
+) -> Result<Applied, AllocError>
+    requires stage { stage < J.job.shape.stages }
+    requires shape { owners.now.shape ≡ J.job.shape }
+    requires informed { let q = Q.facts J.job.rules in
+        (log : Log) × HostMatchesLogAndSeen q J.job log seen.now host.old × OwnersAreCurrent q J.job owners.now seen.now host.old.stage }
+    requires ready { ((t k : ℕ) → IsReadyHere J.job seen.now owners.now host.old t k → ⊥) → ⊥ }
+    ensures told { let q = Q.facts J.job.rules in IfOk result (λ a. (its : JobFacts) (p : PartsFacts Q.Cell)
+        → IsKept q J.job its p → host.old ≡ get_or p.hosts stage host.old → seen.now ≡ p.seen → owners.now ≡ p.notes
+        → IsApplying q J.job p stage a.time a.key a.outputs.items a.woke.items host.new) }
+    ensures unchanged { OnErr result (host.new ≡ host.old) }
+{
+    let Some(applied) = host.apply(alloc, seen, owners)? else {
+        unreachable!()
+    };
+    Ok(applied)
 }
 
 // Lists the changes that a group brings to the counts: it waits no longer, what it gives is to be sent, and the groups that

@@ -20,7 +20,8 @@ impl<'a, Q: Query, J: Naming> Parts<'a, Q, J> {
         ensures at_hub { IsAtHub H.serves H.posted H.version self.new.worker hub.new }
         ensures still_serves { (w : ℕ) → H.serves hub.old w → H.serves hub.new w }
     {
-        let seen = match hub.exchange(self.number, &mut self.log)? {
+        let number = self.log.worker();
+        let seen = match hub.exchange(number, &mut self.log)? {
             Answer::Got(seen) => seen,
             Answer::Busy => return Ok(Turn::Busy),
         };

@@ -19,7 +19,7 @@ impl<'a, Q: Query, J: Naming> Worker<'a, Q, J> {
     {
         let parts = &self.parts;
         let stages = parts.job.shape().stages;
-        all_are_done(&parts.seen, stages) && (parts.number != 0 || parts.rows.is_empty())
+        all_are_done(&parts.seen, stages) && (parts.number() != 0 || parts.rows.is_empty())
     }
 }
 

@@ -40,6 +40,6 @@ impl<'a, Q: Query, J: Naming> Worker<'a, Q, J> {
             KnowsTheEnd o self.now → LogIsFull o self.now.number self.now.log }
     {
         let parts = &self.parts;
-        let _ = &parts.number;
+        let _ = &parts.log;
     }
 }

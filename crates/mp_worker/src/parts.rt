@@ -23,7 +23,6 @@ use std::snapshot::Snapshot;
 pub(crate) struct Parts<'a, Q: Query, J: Naming> {
     pub(crate) alloc: Global,
     pub(crate) job: &'a Job<Q>,
-    pub(crate) number: u32,
     pub(crate) log: Log<OutlineOf<Q, J>>,
     // The log that it posted last; no more than proofs see.
     pub(crate) posted: Snapshot<Log<OutlineOf<Q, J>>>,
@@ -52,7 +51,7 @@ impl<'a, Q: Query, J: Naming> Model for Parts<'a, Q, J> {
     ghost Value = { Contents Q.Cell };
 
     ghost view = { λ p. record {
-      worker = record { number = p.number; log = p.log.log; posted = p.posted.value.log; seen = p.seen };
+      worker = record { number = p.log.worker; log = p.log.log; posted = p.posted.value.log; seen = p.seen };
       names = p.log.room_for_names;
       changes = p.log.room_for_changes;
       notes = p.owners;
@@ -65,7 +64,7 @@ impl<'a, Q: Query, J: Naming> Model for Parts<'a, Q, J> {
     } };
 
     ghost invariant = { λ p.
-        IsKept (Q.facts J.job.rules) J.job p.job.now p.number p.log
+        IsKept (Q.facts J.job.rules) J.job p.job.now
         (parts_with p.log p.posted.value.log p.seen p.owners p.next p.routers.items p.hosts.items p.movers.items p.unsent p.rows) };
 }
 
@@ -75,6 +74,6 @@ impl<'a, Q: Query, J: Naming> Parts<'a, Q, J> {
         ensures is { result ≡ self.now.worker.number }
         ensures inside { self.now.worker.number < J.job.shape.workers }
     {
-        self.number
+        self.log.worker()
     }
 }

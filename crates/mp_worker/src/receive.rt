@@ -35,7 +35,7 @@ impl<'a, Q: Query, J: Naming> Parts<'a, Q, J> {
             return Ok(None);
         };
         let name = message.name();
-        self.take(message)?;
+        self.take(message);
         Ok(Some(name))
     }
 }

@@ -6,7 +6,7 @@ ghost use Rattle.mp_job.specs.Legal.{JobIsLegal};
 ghost use Rattle.mp_outline.specs.JobOutline.{outline_of};
 ghost use Rattle.mp_rows.specs.Entries.{AreChanges};
 ghost use Rattle.mp_refinement.specs.Served.{IsAtPost, PostFollows};
-ghost use Rattle.mp_worker.specs.Sending.{MaySend};
+ghost use Rattle.mp_refinement.specs.Sending.{MaySend};
 
 use mp_mailbox::Post;
 use mp_model::{Naming, Query};

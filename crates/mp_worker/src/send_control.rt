@@ -29,7 +29,7 @@ impl<'a, Q: Query, J: Naming> Parts<'a, Q, J> {
             PostFollows P.workers P.depth P.serves P.denotes o self.old.worker.number self.old.worker.log self.new.worker.log post.old post.new }
     {
         let ControlCursor { index, receiver } = self.next;
-        if self.number != 0 {
+        if self.log.worker() != 0 {
             return Ok(None);
         }
         let Some(control) = self.job.controls().get(index as usize) else {

@@ -50,7 +50,6 @@ impl<'a, Q: Query, J: Naming> Worker<'a, Q, J> {
         let parts = Parts {
             alloc,
             job,
-            number,
             log,
             posted,
             seen,

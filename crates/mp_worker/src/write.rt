@@ -23,7 +23,7 @@ impl<'a, Q: Query, J: Naming> Parts<'a, Q, J> {
         ensures writes { Writes (Q.facts J.job.rules) J.job S.written S.faults self.old.worker sink.old sink.new result }
         ensures appends_only { OnlyAppends S.frame S.faults sink.old sink.new }
     {
-        if self.number != 0 {
+        if self.log.worker() != 0 {
             return Ok(None);
         }
         self.log.make_room(1)?;

@@ -10,3 +10,8 @@ pub mod Kept
 pub mod InTurn
 pub mod Asked
 pub mod Agreeing
+pub mod Items
+pub mod Others
+pub mod Standing
+pub mod Routers
+pub mod RowsGone

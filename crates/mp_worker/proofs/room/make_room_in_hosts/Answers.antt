@@ -1,7 +1,7 @@
 use Rattle.std.proofs.Common.{◌<◌, ◌≤◌, ap, length, rules}
 use Rattle.mp_host_laws.specs.Hosted.{Hosted}
 use Rattle.mp_worker.specs.Rooms.{without_room}
-use Rattle.mp_worker.proofs.Roomy.{one_more_so, same_put}
+use Rattle.mp_worker_invariant.proofs.Items.{one_more_so, same_put}
 use Rattle.mp_worker.proofs.room.make_room_in_hosts.Goals as goal
 
 pub loop-host-preserved : goal.loop-host-preserved

@@ -1,7 +1,7 @@
 use Rattle.std.proofs.Common.{◌<◌, ◌≤◌, ap, length, rules}
 use Rattle.mp_handoff.specs.MoversState.{MoversState}
 use Rattle.mp_worker.specs.Rooms.{roomless}
-use Rattle.mp_worker.proofs.Roomy.{one_more_so, same_put}
+use Rattle.mp_worker_invariant.proofs.Items.{one_more_so, same_put}
 use Rattle.mp_worker.proofs.room.make_room_in_movers.Goals as goal
 
 pub loop-one-preserved : goal.loop-one-preserved

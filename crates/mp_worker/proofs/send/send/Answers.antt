@@ -1,5 +1,5 @@
 use Rattle.mp_outline.proofs.Soundness.{outline_is_sound}
-use Rattle.mp_worker.proofs.Sent.{edge_fits, edge_is, follows_push, may_push}
+use Rattle.mp_refinement.proofs.Pushed.{edge_fits, edge_is, follows_push, may_push}
 use Rattle.mp_worker.proofs.send.send.Goals as goal
 
 pub push-requires-clause-workers : goal.push-requires-clause-workers

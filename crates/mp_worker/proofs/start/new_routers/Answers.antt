@@ -1,7 +1,7 @@
 use Rattle.std.proofs.Common.{[], ◌∷◌, arith, length-append}
 use Rattle.mp_names.specs.Logs.{empty_log}
 use Rattle.mp_worker_invariant.specs.Parts.{IsRouterAt}
-use Rattle.mp_worker.proofs.Begun.{one_more_at}
+use Rattle.mp_worker_invariant.proofs.Items.{one_more_at}
 use Rattle.mp_worker.proofs.start.new_routers.Goals as goal
 
 pub loop-stage-preserved : goal.loop-stage-preserved

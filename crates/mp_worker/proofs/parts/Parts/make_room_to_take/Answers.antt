@@ -1,35 +1,35 @@
-use Rattle.std.proofs.Common.{◌∙◌, ap, length, refl}
+use Rattle.std.proofs.Common.{◌∙◌, ap, length}
 use Rattle.mp_model.specs.Facts.{JobFacts}
 use Rattle.mp_worker.specs.Contents.{number_of_times}
-use Rattle.mp_worker.proofs.Received.{front_roomy, hosts_roomy, movers_roomy}
-use Rattle.mp_worker.proofs.Roomy.{written_back}
+use Rattle.mp_worker_invariant.proofs.Items.{written_back}
+use Rattle.mp_worker.proofs.Rooms.{front_roomy, hosts_roomy, movers_roomy}
 use Rattle.mp_worker.specs.Rooms.{roomless, without_room}
 use Rattle.mp_worker.proofs.parts.Parts.make_room_to_take.Goals as goal
 
 pub invariant_of-self-in_err-make_room_to_take : goal.invariant_of-self-in_err-make_room_to_take
 invariant_of-self-in_err-make_room_to_take g c =
     let made = c.make_room_to_take in
-    front_roomy c.self.invariant refl made.new.log made.ensures.same_log.0 made.new.owners made.new.rows.rows made.ensures.same_log.1 made.ensures.same_owners made.ensures.same_rows
+    front_roomy c.self.invariant made.new.log made.ensures.same_log.0 made.new.owners made.new.rows.rows made.ensures.same_log.1 made.ensures.same_owners made.ensures.same_rows
 
 pub invariant_of-self-in_err-make_room_in_hosts : goal.invariant_of-self-in_err-make_room_in_hosts
 invariant_of-self-in_err-make_room_in_hosts g c =
     let made = c.make_room_to_take in
-    let front = front_roomy c.self.invariant refl made.new.log made.ensures.same_log.0 made.new.owners made.new.rows.rows made.ensures.same_log.1 made.ensures.same_owners made.ensures.same_rows in
-    hosts_roomy front refl c.deref_mut.result.now c.make_room_in_hosts.new.hosts c.self.inside.hosts.len c.deref_mut.ensures.value c.deref_mut.ensures.len c.make_room_in_hosts.ensures.same
+    let front = front_roomy c.self.invariant made.new.log made.ensures.same_log.0 made.new.owners made.new.rows.rows made.ensures.same_log.1 made.ensures.same_owners made.ensures.same_rows in
+    hosts_roomy front c.deref_mut.result.now c.make_room_in_hosts.new.hosts c.self.inside.hosts.len c.deref_mut.ensures.value c.deref_mut.ensures.len c.make_room_in_hosts.ensures.same
 
 pub invariant_of-self-in_err-make_room_in_movers : goal.invariant_of-self-in_err-make_room_in_movers
 invariant_of-self-in_err-make_room_in_movers g c =
     let made = c.make_room_to_take in
-    let front = front_roomy c.self.invariant refl made.new.log made.ensures.same_log.0 made.new.owners made.new.rows.rows made.ensures.same_log.1 made.ensures.same_owners made.ensures.same_rows in
-    let hosts = hosts_roomy front refl c.deref_mut.result.now c.make_room_in_hosts.new.hosts c.self.inside.hosts.len c.deref_mut.ensures.value c.deref_mut.ensures.len c.make_room_in_hosts.ensures.same in
-    movers_roomy hosts refl c.deref_mut-2.result.now c.make_room_in_movers.new.movers c.self.inside.movers.len c.deref_mut-2.ensures.value c.deref_mut-2.ensures.len c.make_room_in_movers.ensures.same
+    let front = front_roomy c.self.invariant made.new.log made.ensures.same_log.0 made.new.owners made.new.rows.rows made.ensures.same_log.1 made.ensures.same_owners made.ensures.same_rows in
+    let hosts = hosts_roomy front c.deref_mut.result.now c.make_room_in_hosts.new.hosts c.self.inside.hosts.len c.deref_mut.ensures.value c.deref_mut.ensures.len c.make_room_in_hosts.ensures.same in
+    movers_roomy hosts c.deref_mut-2.result.now c.make_room_in_movers.new.movers c.self.inside.movers.len c.deref_mut-2.ensures.value c.deref_mut-2.ensures.len c.make_room_in_movers.ensures.same
 
 pub invariant_of-self-2 : goal.invariant_of-self-2
 invariant_of-self-2 g c =
     let made = c.make_room_to_take in
-    let front = front_roomy c.self.invariant refl made.new.log made.ensures.same_log.0 made.new.owners made.new.rows.rows made.ensures.same_log.1 made.ensures.same_owners made.ensures.same_rows in
-    let hosts = hosts_roomy front refl c.deref_mut.result.now c.make_room_in_hosts.new.hosts c.self.inside.hosts.len c.deref_mut.ensures.value c.deref_mut.ensures.len c.make_room_in_hosts.ensures.same in
-    movers_roomy hosts refl c.deref_mut-2.result.now c.make_room_in_movers.new.movers c.self.inside.movers.len c.deref_mut-2.ensures.value c.deref_mut-2.ensures.len c.make_room_in_movers.ensures.same
+    let front = front_roomy c.self.invariant made.new.log made.ensures.same_log.0 made.new.owners made.new.rows.rows made.ensures.same_log.1 made.ensures.same_owners made.ensures.same_rows in
+    let hosts = hosts_roomy front c.deref_mut.result.now c.make_room_in_hosts.new.hosts c.self.inside.hosts.len c.deref_mut.ensures.value c.deref_mut.ensures.len c.make_room_in_hosts.ensures.same in
+    movers_roomy hosts c.deref_mut-2.result.now c.make_room_in_movers.new.movers c.self.inside.movers.len c.deref_mut-2.ensures.value c.deref_mut-2.ensures.len c.make_room_in_movers.ensures.same
 
 pub returns-clause-room : goal.returns-clause-room
 returns-clause-room g c =

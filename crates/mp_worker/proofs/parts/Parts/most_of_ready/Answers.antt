@@ -1,29 +1,32 @@
-use Rattle.std.proofs.Common.{◌≡◌, ap, arith, is_some, refl, subst, Some}
+use Rattle.std.proofs.Common.{◌≡◌, ap, arith, is_some, subst, Some}
 use Rattle.mp_host_laws.specs.Hosted.{Hosted}
 use Rattle.mp_host.specs.Ready.{IsReadyHere}
-use Rattle.mp_worker.proofs.Applied.{enough_here, informed, knows, none_to_apply, not_none, same_host_there}
+use Rattle.mp_names.specs.declared.kinds.Kind.TheVariants.{Apply}
+use Rattle.mp_worker_invariant.proofs.Standing.{host_at, informed, knows}
+use Rattle.mp_parts.proofs.Applied.{enough_here, none_to_apply, not_none, same_host_there}
+use Rattle.mp_worker.proofs.Keeping.{can_do}
 use Rattle.mp_worker.proofs.parts.Parts.most_of_ready.Goals as goal
 
 pub returns-then-is_none-clause-none : goal.returns-then-is_none-clause-none
 returns-then-is_none-clause-none g c =
     let kept = c.self.invariant in
-    let i = c.self.inside in
     let j = c.args.stage in
     let below = c.requires.stage in
     let h = c.index-host.result.now in
-    let is = c.index-host.ensures in
-    rw (← c.self.view_is) (none_to_apply kept refl j below h is (λ t k ready.
-    let found : c.ready.result ≡ Some (t, k) = (c.ready.ensures.exact i.log.log (informed kept refl j below h is) (knows kept refl j below h is) t k).1 ready in
+    let at = host_at kept.parts j below h c.index-host.ensures in
+    let none = none_to_apply kept.sound kept.parts j below h c.index-host.ensures (λ t k ready.
+    let found : c.ready.result ≡ Some (t, k) = (c.ready.ensures.exact c.self.inside.log.log (informed kept.sound kept.parts j h at) (knows kept.sound kept.parts j below h at) t k).1 ready in
     let none = c.if-is_none.ensures in
     let some = ap is_some found in
-    cc))
+    cc) in
+    rw (← c.self.view_is) (λ x can. none x (can_do kept (Apply j) x can))
 
 pub most-requires-clause-informed : goal.most-requires-clause-informed
 most-requires-clause-informed g c κs within =
     let kept = c.self.invariant in
     let h = c.index-host.result.now in
-    let is = c.index-host.ensures in
-    (c.self.inside.log.log, informed kept refl c.args.stage c.requires.stage h is, knows kept refl c.args.stage c.requires.stage h is)
+    let at = host_at kept.parts c.args.stage c.requires.stage h c.index-host.ensures in
+    (c.self.inside.log.log, informed kept.sound kept.parts c.args.stage h at, knows kept.sound kept.parts c.args.stage c.requires.stage h at)
 
 pub returns-clause-ready : goal.returns-clause-ready
 returns-clause-ready g c =

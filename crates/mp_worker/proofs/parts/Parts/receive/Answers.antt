@@ -1,5 +1,5 @@
 use Rattle.mp_outline.specs.JobOutline.{outline_of}
-use Rattle.mp_worker.proofs.Popped.{follows_nothing, follows_taken, not_taken, stands_here}
+use Rattle.mp_refinement.proofs.Popped.{follows_nothing, follows_taken, not_taken, stands_here}
 use Rattle.mp_worker.proofs.parts.Parts.receive.Goals as goal
 
 pub pop-requires-clause-denotes : goal.pop-requires-clause-denotes
@@ -38,4 +38,4 @@ returns-clause-mail g c =
     let some = rw c.number-number.ensures.is at c.in-Some.ensures.some in
     let others = rw c.number-number.ensures.is at c.in-Some.ensures.others in
     let follows = follows_taken o s.number s.log c.args.from c.in-Some.message c.in-Some.ensures.edge.0 (g.P.Post.denotes c.args.post.now) (g.P.Post.denotes c.pop.new.self) some others in
-    rw (c.take.ensures.took, c.make_room_to_take.ensures.same) (record { follows = follows; keeps = c.in-Some.ensures.keeps })
+    rw (c.take.ensures, c.make_room_to_take.ensures.same) (record { follows = follows; keeps = c.in-Some.ensures.keeps })

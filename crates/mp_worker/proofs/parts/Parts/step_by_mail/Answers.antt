@@ -1,7 +1,20 @@
-use Rattle.std.proofs.Common.{refl}
+use Rattle.std.proofs.Common.{◌≡◌, ◌↔◌, ◌∙◌, Bool, IsTrue, ap, refl, sym}
 use Rattle.std.proofs.lemmas.Bool.{both_ways}
-use Rattle.mp_worker.proofs.Stepped.{fits_outline}
+use Rattle.mp_names.specs.declared.controls.Shape.{Shape}
+use Rattle.mp_names.specs.declared.kinds.Kind.{Kind}
+use Rattle.mp_names.specs.Outlines.{Outline}
+use Rattle.mp_machine.specs.Steps.{KindFits}
+use Rattle.mp_model.specs.Facts.{JobFacts, QueryFacts}
+use Rattle.mp_outline.specs.JobOutline.{outline_of}
 use Rattle.mp_worker.proofs.parts.Parts.step_by_mail.Goals as goal
+
+-- the outline has the job's stages and workers
+fits_outline : {Cell : Type 0} (q : QueryFacts Cell) (job its : JobFacts) (shape : Shape) (kind : Kind) (fits : Bool) → its ≡ job → shape ≡ its.shape
+    → ((o : Outline) → o.stages ≡ shape.stages → o.workers ≡ shape.workers → IsTrue fits ↔ KindFits o kind)
+    → IsTrue fits ↔ KindFits (outline_of q job) kind
+fits_outline q job its shape kind fits same is tells =
+    let of_job = is ∙ ap (λ (j : JobFacts). j.shape) same in
+    tells (outline_of q job) (sym (ap (λ (s : Shape). s.stages) of_job)) (sym (ap (λ (s : Shape). s.workers) of_job))
 
 pub returns-then-not-fits-clause-steps : goal.returns-then-not-fits-clause-steps
 returns-then-not-fits-clause-steps g c =
@@ -12,11 +25,9 @@ returns-then-not-fits-clause-steps g c =
 pub step_that_fits-requires-clause-fits : goal.step_that_fits-requires-clause-fits
 step_that_fits-requires-clause-fits g c κs within =
     let job = g.J.Naming.job in
-    let fits = fits_outline (g.Q.Query.facts job.rules) job _ _ c.args.kind _ c.self.invariant.same c.shape.ensures.shape c.fits.ensures in
-    fits.0 c.if-not-fits.false
+    (fits_outline (g.Q.Query.facts job.rules) job _ _ c.args.kind _ c.self.invariant.same c.shape.ensures.shape c.fits.ensures).0 c.if-not-fits.false
 
 pub returns-clause-fits : goal.returns-clause-fits
 returns-clause-fits g c = λ other.
     let job = g.J.Naming.job in
-    let fits = fits_outline (g.Q.Query.facts job.rules) job _ _ c.args.kind _ c.self.invariant.same c.shape.ensures.shape c.fits.ensures in
-    absurd (other (fits.0 c.if-not-fits.false))
+    absurd (other ((fits_outline (g.Q.Query.facts job.rules) job _ _ c.args.kind _ c.self.invariant.same c.shape.ensures.shape c.fits.ensures).0 c.if-not-fits.false))

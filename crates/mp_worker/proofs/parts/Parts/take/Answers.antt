@@ -2,7 +2,7 @@ use Rattle.std.proofs.Common.{◌∙◌, ◌<◌, ℕ, ap, sym, subst}
 use Rattle.mp_names.specs.declared.names.Name.{Name}
 use Rattle.mp_names.specs.Outlines.{IsOwedTo, receiver}
 use Rattle.mp_outline.specs.JobOutline.{outline_of}
-use Rattle.mp_worker.proofs.Received.{control_here, packet_owed, record_owed, row_owed}
+use Rattle.mp_parts.proofs.Received.{control_here, packet_owed, record_owed, row_owed}
 use Rattle.mp_worker.proofs.parts.Parts.take.Goals as goal
 
 pub take_control-requires-clause-content : goal.take_control-requires-clause-content
@@ -17,11 +17,11 @@ take_control-requires-clause-fresh g c κs within =
     let job = g.J.Naming.job in
     rw (control_here (g.Q.Query.facts job.rules) job c.in-Ctrl.index c.in-Ctrl.to c.args.self.now.worker.number c.args.message c.in-Ctrl.ensures.name c.requires.to) c.requires.fresh
 
-pub returns-in-Ctrl-clause-took : goal.returns-in-Ctrl-clause-took
-returns-in-Ctrl-clause-took g c =
+pub returns-in-Ctrl : goal.returns-in-Ctrl
+returns-in-Ctrl g c =
     let job = g.J.Naming.job in
     let named = control_here (g.Q.Query.facts job.rules) job c.in-Ctrl.index c.in-Ctrl.to c.args.self.now.worker.number c.args.message c.in-Ctrl.ensures.name c.requires.to in
-    rw (← named) c.take_control.ensures.took
+    rw (← named) c.take_control.ensures
 
 pub take_record-requires-clause-owed : goal.take_record-requires-clause-owed
 take_record-requires-clause-owed g c κs within =

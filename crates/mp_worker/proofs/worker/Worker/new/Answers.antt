@@ -39,6 +39,5 @@ invariant_of-parts g c =
       rows = c.requires.rows;
       sound = sound;
       hands_on = record { later = laws.posts_are_later job.rules; nothing = laws.later_stages_post_nothing job.rules; keys = laws.outputs_have_keys job.rules };
-      number = log.worker;
       parts = parts;
     }

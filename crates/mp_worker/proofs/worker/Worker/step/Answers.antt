@@ -1,4 +1,4 @@
-use Rattle.std.proofs.Common.{Ok, ap, subst, sym}
+use Rattle.std.proofs.Common.{Ok, ap, refl, subst, sym}
 use Rattle.mp_names.specs.Logs.{Log}
 use Rattle.mp_names.specs.declared.kinds.Kind.{Kind}
 use Rattle.mp_names.specs.declared.kinds.Kind.TheVariants.{Write}
@@ -6,7 +6,7 @@ use Rattle.mp_outline.specs.JobOutline.{outline_of}
 use Rattle.mp_refinement.specs.State.{WorkerState}
 use Rattle.mp_worker.specs.Turns.{Answers}
 use Rattle.mp_worker.specs.Writing.{WritesInTurn}
-use Rattle.mp_worker.proofs.Stepped.{post_same, write_kept, writes}
+use Rattle.mp_refinement.proofs.Alone.{alone_by_mail, post_kept, post_same}
 use Rattle.mp_worker.proofs.Turned.{answers, answers_exchange, answers_no_memory, answers_refused, refused_in_turn, same_log_after, stays_at_hub, writes_in_turn}
 use Rattle.mp_worker.proofs.worker.Worker.step.Goals as goal
 
@@ -20,14 +20,14 @@ returns-in-Exchange-clause-mail g c =
 
 pub returns-in_ok-write-in-Write-clause-answers : goal.returns-in_ok-write-in-Write-clause-answers
 returns-in_ok-write-in-Write-clause-answers g c =
-    let made = answers (g.P.Post.had_room c.args.post.now) (g.P.Post.was_full c.args.post.now) (g.P.Post.was_empty c.args.post.now) (outline_of (g.Q.Query.facts g.J.Naming.job.rules) g.J.Naming.job) Write _ _ (Unit {0}) c.in_ok-write-in-Write.field-0 c.turn_of.result c.turn_of.ensures.did c.turn_of.ensures.not_now (writes (g.P.Post.had_room c.args.post.now) (g.P.Post.was_full c.args.post.now) (g.P.Post.was_empty c.args.post.now) (outline_of (g.Q.Query.facts g.J.Naming.job.rules) g.J.Naming.job) {E = Unit {0}} _ _ (Ok c.in_ok-write-in-Write.field-0) c.in_ok-write-in-Write.ensures.steps) in
+    let made = answers (g.P.Post.had_room c.args.post.now) (g.P.Post.was_full c.args.post.now) (g.P.Post.was_empty c.args.post.now) (outline_of (g.Q.Query.facts g.J.Naming.job.rules) g.J.Naming.job) Write _ _ (Unit {0}) c.in_ok-write-in-Write.field-0 c.turn_of.result c.turn_of.ensures.did c.turn_of.ensures.not_now (alone_by_mail (g.P.Post.had_room c.args.post.now) (g.P.Post.was_full c.args.post.now) (g.P.Post.was_empty c.args.post.now) (outline_of (g.Q.Query.facts g.J.Naming.job.rules) g.J.Naming.job) {E = Unit {0}} Write (λ w x. tt) _ _ (Ok c.in_ok-write-in-Write.field-0) c.in_ok-write-in-Write.ensures.steps) in
     subst (λ (s : WorkerState). Answers (g.P.Post.had_room c.args.post.now) (g.P.Post.was_full c.args.post.now) (g.P.Post.was_empty c.args.post.now) (outline_of (g.Q.Query.facts g.J.Naming.job.rules) g.J.Naming.job) c.args.kind s c.write.new.self.worker (Ok c.turn_of.result)) c.self.view_is (subst (λ (k : Kind). Answers (g.P.Post.had_room c.args.post.now) (g.P.Post.was_full c.args.post.now) (g.P.Post.was_empty c.args.post.now) (outline_of (g.Q.Query.facts g.J.Naming.job.rules) g.J.Naming.job) k c.self.inside.parts.worker c.write.new.self.worker (Ok c.turn_of.result)) (sym c.in-Write.is) made)
 
 pub returns-in_ok-write-in-Write-clause-mail : goal.returns-in_ok-write-in-Write-clause-mail
-returns-in_ok-write-in-Write-clause-mail g c = rw (← c.self.view_is) (write_kept g.P.Post.workers g.P.Post.depth g.P.Post.serves g.P.Post.denotes (outline_of (g.Q.Query.facts g.J.Naming.job.rules) g.J.Naming.job) {E = Unit {0}} _ _ _ (Ok c.in_ok-write-in-Write.field-0) c.in_ok-write-in-Write.ensures.steps)
+returns-in_ok-write-in-Write-clause-mail g c = rw (← c.self.view_is) (post_kept g.P.Post.workers g.P.Post.depth g.P.Post.serves g.P.Post.denotes (outline_of (g.Q.Query.facts g.J.Naming.job.rules) g.J.Naming.job) {E = Unit {0}} Write (λ log x. (refl, refl)) _ _ _ (Ok c.in_ok-write-in-Write.field-0) c.in_ok-write-in-Write.ensures.steps)
 
 pub returns-in_ok-write-in-Write-clause-at_hub : goal.returns-in_ok-write-in-Write-clause-at_hub
-returns-in_ok-write-in-Write-clause-at_hub g c = stays_at_hub (g.P.Post.had_room c.args.post.now) (g.P.Post.was_full c.args.post.now) (g.P.Post.was_empty c.args.post.now) (outline_of (g.Q.Query.facts g.J.Naming.job.rules) g.J.Naming.job) Write _ _ g.H.Hub.serves g.H.Hub.posted g.H.Hub.version c.args.hub.now (rw (← c.self.view_is) at c.requires.at_hub) {E = Unit {0}} (Ok c.in_ok-write-in-Write.field-0) (writes (g.P.Post.had_room c.args.post.now) (g.P.Post.was_full c.args.post.now) (g.P.Post.was_empty c.args.post.now) (outline_of (g.Q.Query.facts g.J.Naming.job.rules) g.J.Naming.job) {E = Unit {0}} _ _ (Ok c.in_ok-write-in-Write.field-0) c.in_ok-write-in-Write.ensures.steps)
+returns-in_ok-write-in-Write-clause-at_hub g c = stays_at_hub (g.P.Post.had_room c.args.post.now) (g.P.Post.was_full c.args.post.now) (g.P.Post.was_empty c.args.post.now) (outline_of (g.Q.Query.facts g.J.Naming.job.rules) g.J.Naming.job) Write _ _ g.H.Hub.serves g.H.Hub.posted g.H.Hub.version c.args.hub.now (rw (← c.self.view_is) at c.requires.at_hub) {E = Unit {0}} (Ok c.in_ok-write-in-Write.field-0) (alone_by_mail (g.P.Post.had_room c.args.post.now) (g.P.Post.was_full c.args.post.now) (g.P.Post.was_empty c.args.post.now) (outline_of (g.Q.Query.facts g.J.Naming.job.rules) g.J.Naming.job) {E = Unit {0}} Write (λ w x. tt) _ _ (Ok c.in_ok-write-in-Write.field-0) c.in_ok-write-in-Write.ensures.steps)
 
 pub returns-in_ok-write-in-Write-clause-writes : goal.returns-in_ok-write-in-Write-clause-writes
 returns-in_ok-write-in-Write-clause-writes g c = λ kind. subst (λ (s : WorkerState). WritesInTurn (g.Q.Query.facts g.J.Naming.job.rules) g.J.Naming.job g.S.Sink.written g.S.Sink.faults s c.args.sink.now c.write.new.sink (Ok c.turn_of.result)) c.self.view_is (writes_in_turn (g.Q.Query.facts g.J.Naming.job.rules) g.J.Naming.job g.S.Sink.written g.S.Sink.faults c.self.inside.parts.worker c.args.sink.now c.write.new.sink c.in_ok-write-in-Write.field-0 c.turn_of.result c.turn_of.ensures.did c.turn_of.ensures.not_now c.in_ok-write-in-Write.ensures.writes)

@@ -1,16 +1,13 @@
 -- A packet that leaves a worker: that it may, and what it changes.
-use Rattle.std.proofs.Common.{◌≡◌, ℕ, ◌<◌, ◌+◌, ◌==◌, ◌++◌, List, [], ◌∷◌, neg_ℤ, pos, sym, ap, ◌∙◌, subst}
+use Rattle.std.proofs.Common.{◌≡◌, ℕ, ◌<◌, ◌+◌, ◌==◌, List, sym, ap, ◌∙◌, subst}
 use Rattle.std.proofs.lemmas.Bool.{and_parts, eqb-true}
-use Rattle.std.proofs.lemmas.List.{map-append}
-use Rattle.mp_names.specs.declared.locations.Loc.TheVariants.{Host as HostLoc, State}
 use Rattle.mp_names.specs.declared.names.Name.TheVariants.{Packet}
-use Rattle.mp_names.specs.declared.pointstamps.Change.{Change}
 use Rattle.mp_names.specs.Logs.{Log, LogIsLegal, with_sent}
 use Rattle.mp_names.specs.Outlines.{IsOwedBy, OutlineIsSound}
 use Rattle.mp_model.specs.Facts.{JobFacts, QueryFacts}
 use Rattle.mp_outline.specs.JobOutline.{outline_of}
-use Rattle.mp_rows.specs.Entries.{AreChanges, change_at}
-use Rattle.mp_count_laws.specs.Changes.{AreMore, one_more, packet_sent_at, waiting_at}
+use Rattle.mp_rows.specs.Entries.{AreChanges}
+use Rattle.mp_count_laws.specs.Changes.{AreMore, packet_sent_at, waiting_at}
 use Rattle.mp_count_laws.proofs.Moved.{groups_leave}
 use Rattle.mp_count_laws.proofs.Packets.{packet_sent}
 use Rattle.mp_msg.specs.Contents.{IsPacketOf}
@@ -23,8 +20,8 @@ use Rattle.mp_host_laws.specs.HostOf.{IsHostOf}
 use Rattle.mp_host_laws.specs.Laws.{MayLeaveNow}
 use Rattle.mp_host_laws.specs.Moving.{AreNumbersOf, IsTakenOut, not_waiting}
 use Rattle.mp_host_laws.proofs.MovingTold.{leaving_are_told}
+use Rattle.mp_host_laws.proofs.Wakes.{wakes_once}
 use Rattle.mp_worker_invariant.specs.Parts.{IsHostAt}
-use Rattle.mp_worker.proofs.Wakes.{wakes_once}
 
 -- what was taken out is of the bin
 pub taken_of_bin : {Cell : Type 0} (b t : ℕ) (one : Held Cell) (old new : Hosted Cell) → IsTakenOut b t one old new → one.bin ≡ b
@@ -71,10 +68,6 @@ module _ {Cell : Type 0} (q : QueryFacts Cell) (job : JobFacts) (w : ℕ) (log :
   -- the host without it
   pub host_without : (new : Hosted Cell) → new.stage ≡ h.stage → new.worker ≡ h.worker → IsHostOf q job (with_sent log (Packet h.stage b t)) new → IsHostAt q job w (with_sent log (Packet j b t)) j new
   host_without new stage worker host = (stage ∙ at.0, worker ∙ at.1, subst (λ (i : ℕ). IsHostOf q job (with_sent log (Packet i b t)) new) at.0 host)
-
--- the changes that are listed with one more number
-pub sent_push : (j t : ℕ) (ns : List (ℕ × ℕ)) (n : ℕ × ℕ) → packet_sent_at j t (ns ++ n ∷ []) ≡ packet_sent_at j t ns ++ change_at (HostLoc j) n.0 (neg_ℤ (pos n.1)) ∷ []
-sent_push j t ns n = ap (λ (cs : List Change). one_more (State j) t ∷ cs) (map-append (λ (m : ℕ × ℕ). change_at (HostLoc j) m.0 (neg_ℤ (pos m.1))) ns (n ∷ []))
 
 -- A state that comes back
 

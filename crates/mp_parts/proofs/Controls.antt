@@ -9,6 +9,7 @@ use Rattle.mp_names.specs.declared.names.Name.TheVariants.{Ctrl, Settled}
 use Rattle.mp_names.specs.Controls.{control_of, no_control}
 use Rattle.mp_names.specs.Names.{has, is_ctrl}
 use Rattle.mp_names.specs.Keeping.{IsHeld}
+use Rattle.mp_names.specs.Outlines.{OutlineIsSound}
 use Rattle.mp_names.specs.Logs.{Log, is_noted, with_sent, with_took}
 use Rattle.mp_names.proofs.Orders.{least_unique}
 use Rattle.mp_bins.specs.declared.owners.Note.{Note}
@@ -17,7 +18,6 @@ use Rattle.mp_model.specs.Facts.{JobFacts, QueryFacts}
 use Rattle.mp_job.specs.Legal.{JobIsLegal}
 use Rattle.mp_outline.specs.JobOutline.{outline_of}
 use Rattle.mp_rows.specs.Entries.{AreChanges}
-use Rattle.mp_rows.specs.WorkerLog.{WorkerLog}
 use Rattle.mp_count_laws.specs.Changes.{control_sent_at, control_taken_at, one_less, one_more}
 use Rattle.mp_count_laws.proofs.Sent.{control_sent}
 use Rattle.mp_count_laws.proofs.Took.{control_taken}
@@ -25,14 +25,8 @@ use Rattle.mp_msg.specs.Contents.{IsControlOf}
 use Rattle.mp_handoff.specs.MoversState.{MoversState}
 use Rattle.mp_handoff.specs.MoversOf.{IsMoversOf, IsNewControl}
 use Rattle.mp_worker_invariant.specs.Laws.{CanDo}
-use Rattle.mp_worker_invariant.specs.Parts.{AreMoversAt, AreTaken, Parts, place_after}
-use Rattle.mp_worker_invariant.proofs.Kept.{steps_keep_parts}
-use Rattle.mp_refinement.specs.State.{CanMake}
-use Rattle.mp_worker.specs.Kept.{IsKept}
-use Rattle.mp_worker.specs.Sending.{MaySend}
-use Rattle.mp_worker.proofs.Keeping.{kept_by}
-use Rattle.mp_worker.proofs.Making.{can_do, can_make, state, told}
-use Rattle.mp_worker.proofs.Sent.{held_may}
+use Rattle.mp_worker_invariant.specs.Parts.{AreMoversAt, ArePartsOf, AreTaken, Parts, place_after}
+use Rattle.mp_worker_invariant.proofs.Standing.{steps, told}
 
 -- A job
 
@@ -47,45 +41,29 @@ module _ {Cell : Type 0} (q : QueryFacts Cell) (job : JobFacts) (legal : JobIsLe
 
 -- Sending
 
-module _ {Cell : Type 0} {q : QueryFacts Cell} {job its : JobFacts} {number : ℕ} {log : WorkerLog} {p : Parts Cell} (kept : IsKept q job its number log p) (worker : p.number ≡ log.worker) where
+module _ {Cell : Type 0} {q : QueryFacts Cell} {job : JobFacts} {p : Parts Cell} (sound : OutlineIsSound (outline_of q job)) (are : ArePartsOf q job p) where
   -- another worker than the first sends none, and neither does the first where all are sent
-  pub no_control_of_others : (number ≡ 0 → length job.controls ≤ p.next.index) → (x : Name) → CanMake (outline_of q job) SendControl (state kept worker) x → ⊥
-  no_control_of_others none x can =
-      (told kept worker).no_send_control (λ e. none (sym (worker ∙ kept.number) ∙ e)) x (can_do kept worker SendControl x can)
+  pub no_control_of_others : (p.number ≡ 0 → length job.controls ≤ p.next.index) → (x : Name) → CanDo q job p SendControl x → ⊥
+  no_control_of_others = (told sound are).no_send_control
 
-  module _ (first : number ≡ 0) where
-    its_first : p.number ≡ 0
-    its_first = worker ∙ kept.number ∙ first
-
+  module _ (first : p.number ≡ 0) where
     pub receiver_fits : p.next.receiver < job.shape.workers
-    receiver_fits = (kept.parts.next its_first).fits
+    receiver_fits = (are.next first).fits
 
     module _ (listed : p.next.index < length job.controls) where
-      sends : CanDo q job p SendControl (Ctrl p.next.index p.next.receiver)
-      sends = (told kept worker).send_control its_first listed
-
-      pub can_send_control : CanMake (outline_of q job) SendControl (state kept worker) (Ctrl p.next.index p.next.receiver)
-      can_send_control = can_make kept worker SendControl (Ctrl p.next.index p.next.receiver) tt sends
-
-      is_held : IsHeld (outline_of q job) p.number p.log is_ctrl (Ctrl p.next.index p.next.receiver)
-      is_held = sends.0.0
-
-      pub may_send_control : MaySend (outline_of q job) p.number p.log (Ctrl p.next.index p.next.receiver)
-      may_send_control = held_may (outline_of q job) p.number p.log kept.parts.legal is_ctrl (Ctrl p.next.index p.next.receiver) is_held
+      pub can_send_control : CanDo q job p SendControl (Ctrl p.next.index p.next.receiver)
+      can_send_control = (told sound are).send_control first listed
 
       pub control_counted : AreChanges (outline_of q job) p.number p.log (with_sent p.log (Ctrl p.next.index p.next.receiver)) (control_sent_at (control_of job.controls p.next.index).time)
-      control_counted = control_sent (outline_of q job) p.number p.log kept.sound p.next.index p.next.receiver is_held
+      control_counted = control_sent (outline_of q job) p.number p.log sound p.next.index p.next.receiver can_send_control.0.0
 
       -- no other is next
-      pub one_control : (x : Name) → CanMake (outline_of q job) SendControl (state kept worker) x → Ctrl p.next.index p.next.receiver ≡ x
-      one_control x can = least_unique (IsHeld (outline_of q job) p.number p.log is_ctrl) (Ctrl p.next.index p.next.receiver) x sends.0 (can_do kept worker SendControl x can).0
+      pub one_control : (x : Name) → CanDo q job p SendControl x → Ctrl p.next.index p.next.receiver ≡ x
+      one_control x can = least_unique (IsHeld (outline_of q job) p.number p.log is_ctrl) (Ctrl p.next.index p.next.receiver) x can_send_control.0 can.0
 
       -- it was sent
-      pub control_kept : (new : WorkerLog) → new.worker ≡ p.number → new.log ≡ with_sent p.log (Ctrl p.next.index p.next.receiver)
-          → IsKept q job its number new (record p { number = new.worker; log = new.log; next = place_after job.shape.workers p.next })
-      control_kept new e f =
-          kept_by kept worker new e (with_sent p.log (Ctrl p.next.index p.next.receiver)) f (record p { next = place_after job.shape.workers p.next })
-          ((steps_keep_parts q job kept.sound p kept.parts).send_control its_first listed)
+      pub control_kept : ArePartsOf q job (record p { log = with_sent p.log (Ctrl p.next.index p.next.receiver); next = place_after job.shape.workers p.next })
+      control_kept = (steps sound are).send_control first listed
 
 -- Taking
 

@@ -1,5 +1,5 @@
 -- What a push of a name that the worker has to send does to its log and to its mailboxes.
-use Rattle.std.proofs.Common.{◌≡◌, ◌≢◌, ℕ, ◌<◌, ◌⊎◌, ◌==◌, Bool, true, false, cond, List, [], ◌∷◌, ◌++◌, All, filter, sym, ap, ◌∙◌, subst, inl, inr, ⊎_elim, refl, arith}
+use Rattle.std.proofs.Common.{◌≡◌, ◌≢◌, ℕ, ◌<◌, ◌⊎◌, ◌==◌, Bool, false, cond, List, [], ◌∷◌, ◌++◌, All, filter, sym, ap, ◌∙◌, subst, inl, inr, ⊎_elim, refl, arith}
 use Rattle.std.proofs.lemmas.Bool.{both_ways, cases_eq, cond-false, cond-true, eq-eqb, eqb-true, false_from_ne_true}
 use Rattle.std.proofs.lemmas.List.{append-nil}
 use Rattle.std.proofs.lemmas.List.Elements.{All-cons, All-nil, filter-append}
@@ -16,7 +16,8 @@ use Rattle.mp_names.proofs.Steps.{given_own}
 use Rattle.mp_mailbox.specs.Names.{Distinct as DistinctMail}
 use Rattle.mp_mailbox.specs.Standing.{AddsPushed, IsFresh, KeepsOthers}
 use Rattle.mp_refinement.specs.Ends.{PostMatchesLog, FollowsLog, Standing, popped_by, pushed_by, sent_to}
-use Rattle.mp_worker.specs.Sending.{MaySend}
+use Rattle.mp_refinement.specs.Sending.{MaySend}
+use Rattle.mp_refinement.proofs.Lists.{filter_push}
 
 -- names that stand once, as mailboxes say it
 
@@ -32,9 +33,6 @@ once [] d = λ i j e before inside. absurd (omega arith)
 once (x ∷ xs) d = AllPairs-cons (λ (y z : Name). y ≢ z) x xs (apart x xs d.0) (once xs d.1)
 
 -- a list with one element more
-
-push_kept : {X : Type 0} (p : X → Bool) (xs : List X) (x : X) → p x ≡ true → filter p (xs ++ x ∷ []) ≡ filter p xs ++ x ∷ []
-push_kept {X} p xs x e = filter-append p xs (x ∷ []) ∙ ap (λ (l : List X). filter p xs ++ l) (cond-true (p x) (x ∷ []) [] e)
 
 push_left : {X : Type 0} (p : X → Bool) (xs : List X) (x : X) → p x ≡ false → filter p (xs ++ x ∷ []) ≡ filter p xs
 push_left {X} p xs x e = filter-append p xs (x ∷ []) ∙ ap (λ (l : List X). filter p xs ++ l) (cond-false (p x) (x ∷ []) [] e) ∙ append-nil (filter p xs)
@@ -60,7 +58,7 @@ module _ {o : Outline} (sound : OutlineIsSound o) {w : ℕ} (worker : w < o.work
   edge_fits workers e = rw e (subst (λ (u : ℕ). u < o.workers) (sym from) worker, to_worker)
 
   sent_more : sent_to o (with_sent log x) v ≡ sent_to o log v ++ x ∷ []
-  sent_more = push_kept (λ y. receiver o y == v) log.sent x (eq-eqb (receiver o x) v (sym to))
+  sent_more = filter_push (λ y. receiver o y == v) log.sent x (eq-eqb (receiver o x) v (sym to))
 
   new_there : DistinctMail (sent_to o log v ++ x ∷ [])
   new_there = subst DistinctMail sent_more (once (sent_to o (with_sent log x) v) (Distinct_filter (λ y. receiver o y == v) (with_sent log x).sent may.legal.sent_once))

@@ -1,8 +1,8 @@
 -- The router of a stage while its first record is sent.
-use Rattle.std.proofs.Common.{◌≡◌, ℕ, ◌<◌, List, get_or, sym, ap, ◌∙◌, subst}
+use Rattle.std.proofs.Common.{◌≡◌, ℕ, List, sym, ap, ◌∙◌, subst}
 use Rattle.mp_names.specs.declared.controls.Shape.{Shape}
 use Rattle.mp_names.specs.declared.names.Name.{Name}
-use Rattle.mp_names.specs.Outlines.{receiver}
+use Rattle.mp_names.specs.Outlines.{OutlineIsSound, receiver}
 use Rattle.mp_names.specs.Logs.{Log, with_sent}
 use Rattle.mp_stamps.specs.declared.seen.Seen.{Seen}
 use Rattle.mp_bins.specs.Bins.{bin_of_key}
@@ -11,7 +11,6 @@ use Rattle.mp_model.specs.declared.record.Rec.{Rec as Record}
 use Rattle.mp_model.specs.Facts.{JobFacts, QueryFacts}
 use Rattle.mp_ordered.specs.InOrder.{put_in_order}
 use Rattle.mp_outline.specs.JobOutline.{name_of_record, outline_of}
-use Rattle.mp_rows.specs.WorkerLog.{WorkerLog}
 use Rattle.mp_msg.specs.declared.message.Body.{Body}
 use Rattle.mp_msg.specs.declared.message.Body.TheVariants.{Rec}
 use Rattle.mp_msg.specs.Contents.{IsRecordOf}
@@ -19,8 +18,7 @@ use Rattle.mp_msg.proofs.Telling.{bodies_follow_names}
 use Rattle.mp_route.specs.Routed.{GivesUp, Routed, tag_rank}
 use Rattle.mp_route.specs.Unsent.{HoldsUnsent, MayGo}
 use Rattle.mp_worker_invariant.specs.Parts.{ArePartsOf, IsRouterAt, Parts}
-use Rattle.mp_worker_invariant.proofs.Asked.{parts_are_asked}
-use Rattle.mp_worker.specs.Kept.{IsKept}
+use Rattle.mp_worker_invariant.proofs.Standing.{asked}
 
 -- it holds what is unsent, whatever its room
 other_room : {Cell : Type 0} (q : QueryFacts Cell) (job : JobFacts) (w : ℕ) (log : Log) (old new : Routed)
@@ -35,18 +33,12 @@ same_record i j r s e = cc
 
 module _ {Cell : Type 0} {q : QueryFacts Cell} {job : JobFacts} where
   -- where a record may go, the owner by the notes is the receiver of its name
-  pub owner_is : {its : JobFacts} {number : ℕ} {log : WorkerLog} {p : Parts Cell} → IsKept q job its number log p
+  pub owner_is : {p : Parts Cell} → OutlineIsSound (outline_of q job) → ArePartsOf q job p
       → (j : ℕ) (r : Record) → MayGo q job p.number p.log j p.seen (name_of_record j r)
-      → (shape : Shape) (bin n : ℕ) → shape ≡ its.shape → bin ≡ bin_of_key r.key shape.bins → n ≡ noted_owner p.notes j bin r.time → n ≡ receiver (outline_of q job) (name_of_record j r)
-  owner_is {p = p} kept j r may shape bin n its_shape at owns =
-      let same : shape ≡ job.shape = its_shape ∙ ap (λ (f : JobFacts). f.shape) kept.same in
-      let known = (parts_are_asked q job kept.sound p kept.parts).moves j in
+      → (shape : Shape) (bin n : ℕ) → shape ≡ job.shape → bin ≡ bin_of_key r.key shape.bins → n ≡ noted_owner p.notes j bin r.time → n ≡ receiver (outline_of q job) (name_of_record j r)
+  owner_is {p = p} sound are j r may shape bin n same at owns =
+      let known = (asked sound are).moves j in
       owns ∙ ap (λ (b : ℕ). noted_owner p.notes j b r.time) (at ∙ ap (λ (s : Shape). bin_of_key r.key s.bins) same) ∙ (known.owners (bin_of_key r.key job.shape.bins) r.time may.1).1
-
-  -- the router of a stage
-  pub router_at : {p : Parts Cell} → ArePartsOf q job p → (j : ℕ) (h : Routed) → j < job.shape.stages → h ≡ get_or p.routers j h → IsRouterAt q job p.number p.log j h
-  router_at {p} parts j h fits is =
-      subst (IsRouterAt q job p.number p.log j) (sym is) (parts.routers j h (subst (λ (n : ℕ). j < n) (sym parts.all_routers) fits))
 
   module _ {w : ℕ} {log : Log} {j : ℕ} {old : Routed} (here : IsRouterAt q job w log j old) where
     -- where it gives none up, no record may go
