@@ -61,7 +61,7 @@ impl Query for Q5 {
     ) -> Result<Vec<Value>, AllocError> {
         if stage == 0 {
             let outputs = cell.count(group).into_iter().collect(alloc)?;
-            *cell = cell.with(alloc, group)?;
+            cell.apply(group)?;
             Ok(outputs)
         } else {
             counts::rows(alloc, group.recs())

@@ -1,5 +1,6 @@
 //! The times of the bids on an auction that windows may still hold.
-ghost use Rattle.std.specs.Prelude.{◌≡◌, ◌↔◌, [], IfOk, IsTrue, length};
+ghost use Rattle.std.specs.Prelude.{◌≡◌, ◌↔◌, ◌≤◌, [], IsTrue, OnErr, OnOk, length, vec_len};
+ghost use Rattle.std.specs.Vec.{vec_capacity};
 ghost use Rattle.mp_q_window.specs.Recent.{after_group, count_in, count_row, kept_by, since};
 
 use mp_model::{Group, Time, Value};
@@ -56,42 +57,21 @@ impl Recent {
         }
     }
 
-    /// With the times of a group's bids. The end of a window drops the times that no later window holds.
-    /// `AllocError`: no memory.
-    pub fn with(&self, alloc: Global, group: &Group) -> Result<Recent, AllocError>
-        ensures { IfOk result (λ r. r ≡ after_group self.now group.now) }
+    /// Takes the times of a group's bids. The end of a window drops the times that no later window holds.
+    /// `AllocError`: no memory, and nothing changes.
+    pub fn apply(&mut self, group: &Group) -> Result<(), AllocError>
+        ensures taken { OnOk result (self.new ≡ after_group self.old group.now) }
+        ensures unchanged { OnErr result (self.new ≡ self.old) }
     {
-        let mut times = self.kept_by(alloc, group)?;
-        for rec in group.recs() {
+        let recs = group.recs();
+        self.times.reserve(recs.len())?;
+        drop_gone(&mut self.times, group);
+        for rec in recs {
             if let Value::Bid { .. } = &rec.value {
-                times.push(rec.time)?;
+                self.times.push_reserved(rec.time);
             }
         }
-        Ok(Recent { times })
-    }
-
-    /// The times that stay when the records of a group come.
-    fn kept_by(&self, alloc: Global, group: &Group) -> Result<Vec<Time>, AllocError>
-        ensures { IfOk result (λ v. v.items ≡ kept_by self.now group.now) }
-    {
-        if group.is_woken() {
-            self.since(alloc, group.time().saturating_sub(KEPT))
-        } else {
-            Vec::from_slice(alloc, self.times.as_slice())
-        }
-    }
-
-    /// The times that are not before this one.
-    fn since(&self, alloc: Global, first: Time) -> Result<Vec<Time>, AllocError>
-        ensures { IfOk result (λ v. v.items ≡ since first self.now) }
-    {
-        let mut times = Vec::new(alloc);
-        for time in self.times.as_slice() {
-            if *time >= first {
-                times.push(*time)?;
-            }
-        }
-        Ok(times)
+        Ok(())
     }
 
     /// How many times are not before this one.
@@ -106,6 +86,26 @@ impl Recent {
         }
         count
     }
+}
+
+/// Drops the times that no later window holds, where a group ends a window.
+fn drop_gone(times: &mut Vec<Time>, group: &Group)
+    ensures times { times.new.items ≡ kept_by times.old.items group.now }
+    ensures few { vec_len times.new ≤ vec_len times.old }
+    ensures capacity { vec_capacity times.new ≡ vec_capacity times.old }
+{
+    if group.is_woken() {
+        keep_since(times, group.time().saturating_sub(KEPT));
+    }
+}
+
+/// Keeps the times that are not before this one.
+fn keep_since(times: &mut Vec<Time>, first: Time)
+    ensures times { times.new.items ≡ since first times.old.items }
+    ensures few { vec_len times.new ≤ vec_len times.old }
+    ensures capacity { vec_capacity times.new ≡ vec_capacity times.old }
+{
+    times.retain(|time| *time >= first);
 }
 
 /// The count of an auction's bids, where it had some.
