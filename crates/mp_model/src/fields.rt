@@ -26,7 +26,12 @@ impl Clone for Field {
     }
 }
 
+// What stands where an array has room and no field.
 impl Default for Field {
+    ghost use Rattle.mp_model.specs.declared.fields.Field.TheVariants.{Number};
+
+    ghost is_default = { λ field. field ≡ Number 0 };
+
     fn default() -> Field {
         Field::Number(0)
     }

@@ -26,9 +26,8 @@ pub enum Loc {
     OutMail,
 }
 
-/// The least time at which something can still come to a location, or that nothing can. Frontiers are
-/// ordered: a later one has passed more.
-#[derive(Clone, Copy, PartialEq, Eq, PartialOrd, Ord, Hash, Debug)]
+/// The least time at which something can still come to a location, or that nothing can.
+#[derive(Clone, Copy, PartialEq, Eq, Hash, Debug)]
 pub enum Frontier {
     /// Something may still come at this time; nothing before it.
     At(Time),

@@ -1,4 +1,3 @@
-use Rattle.mp_worker_invariant.proofs.Standing.{informed}
 use Rattle.mp_parts.proofs.Applied.{applying}
 use Rattle.mp_worker.proofs.apply.apply_group.Goals as goal
 

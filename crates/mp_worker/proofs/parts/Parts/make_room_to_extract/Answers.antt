@@ -1,4 +1,4 @@
-use Rattle.std.proofs.Common.{◌<◌, ◌∙◌, ap, arith, get_or, length, set, subst, sym}
+use Rattle.std.proofs.Common.{◌<◌, ◌∙◌, ap, arith, length, set, subst, sym}
 use Rattle.std.proofs.lemmas.List.{get_or-set_same, length-set}
 use Rattle.mp_count_laws.specs.Changes.{packet_sent_at}
 use Rattle.mp_handoff.specs.MoversState.{MoversState}

@@ -1,4 +1,3 @@
-use Rattle.std.proofs.Common.{◌∙◌, ap}
 use Rattle.mp_names.specs.declared.kinds.Kind.TheVariants.{Ingest}
 use Rattle.mp_parts.proofs.Ingested.{has_record, next_record, none_to_ingest}
 use Rattle.mp_worker.proofs.Keeping.{can_do}

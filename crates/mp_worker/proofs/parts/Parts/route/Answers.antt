@@ -6,7 +6,6 @@ use Rattle.mp_names.proofs.Orders.{least_unique}
 use Rattle.mp_count_laws.proofs.Sent.{record_sent}
 use Rattle.mp_model.specs.Facts.{JobFacts}
 use Rattle.mp_outline.specs.JobOutline.{name_of_record, outline_of}
-use Rattle.mp_worker_invariant.proofs.Items.{put_at}
 use Rattle.mp_worker_invariant.proofs.Others.{other_router}
 use Rattle.mp_worker_invariant.proofs.Routers.{back, goes, gone, none_goes, owner_is}
 use Rattle.mp_worker_invariant.proofs.Standing.{router_at, steps, told}

@@ -8,7 +8,6 @@ use Rattle.mp_msg.specs.States.{IsStateBefore}
 use Rattle.mp_worker_invariant.proofs.Standing.{host_at, movers_at}
 use Rattle.mp_parts.proofs.Extracting.{can_extract, host_back, leaving, one_packet, packet_kept, packet_stays_legal, packet_still_kept, some_leaves}
 use Rattle.mp_parts.proofs.LeavingPackets.{bin_back, state_back}
-use Rattle.mp_worker.specs.Contents.{worker_of}
 use Rattle.mp_worker.proofs.Keeping.{can_do, kept_by, makes}
 use Rattle.mp_worker.proofs.parts.Parts.send_bin.Goals as goal
 

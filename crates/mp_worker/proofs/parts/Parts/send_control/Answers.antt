@@ -10,7 +10,7 @@ use Rattle.mp_outline.specs.JobOutline.{outline_of}
 use Rattle.mp_worker_invariant.specs.Parts.{place_after}
 use Rattle.mp_parts.proofs.Controls.{can_send_control, control_counted, control_kept, one_control}
 use Rattle.mp_refinement.proofs.Pushed.{held_may}
-use Rattle.mp_worker.proofs.Keeping.{can_do, kept_by, makes}
+use Rattle.mp_worker.proofs.Keeping.{can_do, kept_by}
 use Rattle.mp_worker.proofs.parts.Parts.send_control.Goals as goal
 
 pub send-requires-clause-may : goal.send-requires-clause-may

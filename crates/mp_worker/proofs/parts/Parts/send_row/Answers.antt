@@ -1,13 +1,12 @@
-use Rattle.std.proofs.Common.{ap, refl, subst, sym, List, ◌∙◌}
+use Rattle.std.proofs.Common.{◌∙◌}
 use Rattle.mp_names.specs.declared.kinds.Kind.TheVariants.{SendRow}
 use Rattle.mp_names.specs.Names.{is_row}
 use Rattle.mp_count_laws.proofs.Sent.{row_sent}
-use Rattle.mp_model.specs.declared.record.Output.{Output}
 use Rattle.mp_outline.specs.JobOutline.{name_of_row, outline_of}
 use Rattle.mp_worker_invariant.proofs.RowsGone.{holds_row, least_row, rows_back, rows_left}
 use Rattle.mp_worker_invariant.proofs.Standing.{steps, told}
 use Rattle.mp_refinement.proofs.Pushed.{held_may}
-use Rattle.mp_worker.proofs.Keeping.{kept_as, kept_by, makes}
+use Rattle.mp_worker.proofs.Keeping.{kept_by, makes}
 use Rattle.mp_worker.proofs.parts.Parts.send_row.Goals as goal
 
 pub unreachable-requires : goal.unreachable-requires

@@ -1,4 +1,4 @@
-use Rattle.std.proofs.Common.{ap, refl, ◌∙◌}
+use Rattle.std.proofs.Common.{ap, refl}
 use Rattle.mp_names.specs.declared.names.Name.TheVariants.{Settled}
 use Rattle.mp_names.specs.declared.kinds.Kind.TheVariants.{Settle}
 use Rattle.mp_handoff.specs.MoversState.{MoversState}

@@ -1,6 +1,5 @@
-use Rattle.std.proofs.Common.{◌≡◌, ◌<◌, ◌≤◌, ◌+◌, ◌∙◌, ℕ, ap, arith, length, refl, subst, sym}
+use Rattle.std.proofs.Common.{◌<◌, ◌≤◌, ◌∙◌, ℕ, ap, arith, length, refl, subst, sym}
 use Rattle.mp_names.proofs.Owners.{move_in_shape}
-use Rattle.mp_names.specs.declared.names.Name.TheVariants.{Packet}
 use Rattle.mp_outline.specs.JobOutline.{outline_of}
 use Rattle.mp_msg.specs.Contents.{IsPacketOf}
 use Rattle.mp_host_laws.specs.Hosted.{Hosted}

@@ -1,4 +1,4 @@
-use Rattle.std.proofs.Common.{◌≡◌, ◌<◌, ◌≤◌, ◌∙◌, ℕ, arith, cond, length, refl, subst, sym}
+use Rattle.std.proofs.Common.{◌≡◌, ◌<◌, ◌≤◌, ℕ, arith, cond, refl, subst, sym}
 use Rattle.mp_msg.specs.Contents.{IsRecordOf}
 use Rattle.mp_host_laws.specs.Hosted.{Hosted}
 use Rattle.mp_worker_invariant.proofs.Standing.{host_at}

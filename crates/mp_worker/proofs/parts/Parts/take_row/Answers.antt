@@ -1,4 +1,4 @@
-use Rattle.std.proofs.Common.{arith, refl}
+use Rattle.std.proofs.Common.{arith}
 use Rattle.mp_outline.specs.JobOutline.{outline_of}
 use Rattle.mp_rows.proofs.RowTaken.{row_taken as taken_is_counted}
 use Rattle.mp_worker_invariant.proofs.Asked.{row_not_written}
