@@ -1,6 +1,8 @@
 mod Behind
 mod Blocked
 mod Changed
+mod Dropped
+pub mod Fronts
 mod Placed
 pub mod Placing
 mod Running

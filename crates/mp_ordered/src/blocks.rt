@@ -1,7 +1,8 @@
 //! Items in order, in blocks.
-ghost use Rattle.std.specs.Prelude.{◌≡◌, ◌≤◌, ◌<◌, ◌+◌, ◌*◌, ◌-◌, ◌∷◌, [], length, max, slice_get, IfNone, IfOk, IfSome, None, OnErr, OnOk, Some};
+ghost use Rattle.std.specs.Prelude.{◌≡◌, ◌≤◌, ◌<◌, ◌+◌, ◌*◌, ◌-◌, ◌∷◌, [], drop, length, max, slice_get, IfNone, IfOk, IfSome, None, OnErr, OnOk, Some};
 ghost use Rattle.std.specs.List.{prefix_len, remove};
 ghost use Rattle.std.specs.List.Sorted.{IsPartitionedBy};
+ghost use Rattle.mp_ordered.specs.Blocks.{items_of};
 ghost use Rattle.mp_ordered.specs.InOrder.{IsInOrder, first_from, put_in_order};
 
 use crate::block::{
@@ -9,6 +10,7 @@ use crate::block::{
     place_in, put_in, retire, split, take_at,
 };
 use crate::cut::Cut;
+use crate::front::{count_of, drop_front, end_of, retire_first};
 use crate::order::Order;
 use std::alloc::{AllocError, Global};
 use std::collections::VecDeque;
@@ -156,6 +158,44 @@ impl<T: Drop, O: Order<T>> Blocks<T, O> {
             retire(&mut self.blocks, &mut self.spare, 0);
         }
         Some(item)
+    }
+
+    /// Drops the first `count` items, at most all of them. They leave their room.
+    pub fn drop_first(&mut self, count: usize)
+        requires { count ≤ length self.old.items }
+        ensures items { self.new.items ≡ drop count self.old.items }
+        ensures room { self.new.room ≡ self.old.room + count }
+    {
+        if count == 0 {
+            return;
+        }
+        let (at, place) = end_of(&self.blocks, count);
+        self.past = retire_first(&mut self.blocks, &mut self.spare, at, self.past);
+        let block = &mut self.blocks[0];
+        let len = block.len();
+        drop_front(block, place);
+        self.past -= past_half(len) - past_half(len - place);
+        self.len -= count;
+        self.room += count;
+    }
+
+    /// The items in order, in the blocks that they stand in.
+    pub fn as_blocks(&self) -> &[VecDeque<T>]
+        ensures { items_of result.now ≡ self.now.items }
+    {
+        &self.blocks
+    }
+
+    /// How many items stand in front of a cut. Goes from block to block.
+    pub fn count_in_front<C: Cut<T>>(&self, cut: &C) -> usize
+        requires { IsPartitionedBy (C.front cut.now) self.now.items }
+        ensures { result ≡ prefix_len (C.front cut.now) self.now.items }
+    {
+        if self.blocks.is_empty() {
+            return 0;
+        }
+        let at = cut_block(&self.blocks, cut);
+        count_of(&self.blocks[..at]) + cut_in(&self.blocks[at], cut)
     }
 
     /// The last item in front of a cut; `None` exactly where there is none.

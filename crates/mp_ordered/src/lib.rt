@@ -6,16 +6,15 @@
 mod block;
 mod blocks;
 mod cut;
+mod front;
 mod gone;
 mod order;
 mod ordered;
-mod queue;
 mod runs;
 mod stored;
 
 pub use cut::Cut;
 pub use order::Order;
 pub use ordered::Ordered;
-pub use queue::OrderedQueue;
 pub use runs::{Kinds, OrderedRuns};
 pub use stored::OrderedBlocks;

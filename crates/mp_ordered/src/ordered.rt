@@ -88,7 +88,7 @@ impl<T: Drop, O: Order<T>> Ordered<T, O> {
     }
 
     /// Takes out the first item; `None` exactly where there is none. It leaves its room, so `insert` takes it back
-    /// to its place. Moves all others: where many are taken out one by one, an `OrderedQueue` serves.
+    /// to its place. Moves all others: where many are taken out one by one, `OrderedBlocks` serve.
     pub fn pop_first(&mut self) -> Option<T>
         ensures some { IfSome result (λ x. self.old.items ≡ x ∷ self.new.items) }
         ensures none { IfNone result (self.old.items ≡ []) }

@@ -1,13 +1,15 @@
 //! Items in order, of which the first one is taken.
-ghost use Rattle.std.specs.Prelude.{◌≡◌, ◌≤◌, ◌<◌, ◌+◌, ◌-◌, ◌∷◌, [], length, slice_get, IfNone, IfOk, IfSome, IsOk, OnErr, OnOk, Some};
+ghost use Rattle.std.specs.Prelude.{◌≡◌, ◌≤◌, ◌<◌, ◌+◌, ◌-◌, ◌∷◌, [], ◌↔◌, drop, length, slice_get, IfNone, IfOk, IfSome, IsOk, IsTrue, OnErr, OnOk, Some};
 ghost use Rattle.std.specs.List.{prefix_len, remove};
 ghost use Rattle.std.specs.List.Sorted.{IsPartitionedBy};
+ghost use Rattle.mp_ordered.specs.Blocks.{items_of};
 ghost use Rattle.mp_ordered.specs.InOrder.{GoesBack, IsInOrder, put_in_order};
 
 use crate::blocks::Blocks;
 use crate::cut::Cut;
 use crate::order::Order;
 use std::alloc::{AllocError, Global};
+use std::collections::VecDeque;
 use std::marker::Model;
 
 /// Items in the order `O`, the first one first, in blocks. Contracts see an `InOrder`: the items, and how many more there is
@@ -72,6 +74,20 @@ impl<T: Drop, O: Order<T>> OrderedBlocks<T, O> {
         self.blocks.first()
     }
 
+    /// Whether there are no items.
+    pub fn is_empty(&self) -> bool
+        ensures { IsTrue result ↔ (self.now.items ≡ []) }
+    {
+        self.blocks.len() == 0
+    }
+
+    /// The items in order, in the blocks that they stand in.
+    pub fn as_blocks(&self) -> &[VecDeque<T>]
+        ensures { items_of result.now ≡ self.now.items }
+    {
+        self.blocks.as_blocks()
+    }
+
     /// Takes out the first item; `None` exactly where there is none. It leaves its room, so `insert` takes it back
     /// to its place.
     pub fn pop_first(&mut self) -> Option<T>
@@ -81,6 +97,23 @@ impl<T: Drop, O: Order<T>> OrderedBlocks<T, O> {
         ensures room { IfSome result (λ x. self.new.room ≡ self.old.room + 1) }
     {
         self.blocks.pop_first()
+    }
+
+    /// Drops the first `count` items, at most all of them. They leave their room.
+    pub fn drop_first(&mut self, count: usize)
+        requires { count ≤ length self.old.items }
+        ensures items { self.new.items ≡ drop count self.old.items }
+        ensures room { self.new.room ≡ self.old.room + count }
+    {
+        self.blocks.drop_first(count);
+    }
+
+    /// How many items stand in front of a cut. Goes from block to block.
+    pub fn count_in_front<C: Cut<T>>(&self, cut: &C) -> usize
+        requires { IsPartitionedBy (C.front cut.now) self.now.items }
+        ensures { result ≡ prefix_len (C.front cut.now) self.now.items }
+    {
+        self.blocks.count_in_front(cut)
     }
 
     /// The last item in front of a cut; `None` exactly where there is none.

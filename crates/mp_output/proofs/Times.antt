@@ -1,6 +1,7 @@
 -- Rows in the order of their places stand in the order of their times, so those of the first time stand in front.
 use Rattle.std.proofs.Common.{◌≡◌, ◌⊎◌, ℕ, suc, ◌+◌, ◌<◌, ◌≤◌, ◌==◌, true, false, List, [], ◌∷◌, take, drop, get_or, All, Contains, refl, sym, ap, ◌∙◌, inl, ⊎_elim, arith}
 use Rattle.std.specs.List.{prefix_len}
+use Rattle.std.specs.List.Sorted.{IsPartitionedBy}
 use Rattle.std.proofs.lemmas.Bool.{both_ways, cases_Bool, cases_order, eq-eqb, eqb-true, false_from_ne_true}
 use Rattle.std.proofs.lemmas.List.Elements.{All-contains, Contains-get_or}
 use Rattle.mp_names.specs.Names.{is_before}
@@ -99,3 +100,14 @@ none_is_earlier x xs h = λ k d l. first_is_least x xs (rows_by_time (x ∷ xs) 
 -- the rows of the least time in front, and all others behind them, as the order says
 pub front_of : (t : ℕ) (rows : List Output) → IsInOrder place_rank rows → All (λ row. t ≤ row.time) rows → (take (count_front t rows) rows ≡ rows_at t rows) × (drop (count_front t rows) rows ≡ rows_beside t rows)
 front_of t rows h least = front_is t rows (rows_by_time rows h) (λ x i. All-contains (λ row. t ≤ row.time) rows x least i)
+
+-- and no other row stands between them
+pub first_parted : (t : ℕ) (rows : List Output) → IsInOrder place_rank rows → All (λ row. t ≤ row.time) rows → IsPartitionedBy (λ row. row.time == t) rows
+first_parted t rows h least i j d l m e = ⊎_elim (λ (f : i ≡ j). rw f e) (λ (f : (i < j) ⊎ (j < i)). ⊎_elim (λ (k : i < j). there k) (λ (k : j < i). absurd (omega arith)) f) (cases_order i j)
+  where
+    there : i < j → ((get_or rows i d).time == t) ≡ true
+    there k =
+        let low : t ≤ (get_or rows i d).time = least i d (omega arith) in
+        let high : (get_or rows i d).time ≤ (get_or rows j d).time = no_earlier (get_or rows i d) (get_or rows j d) (h i j d k m) in
+        let same : (get_or rows j d).time ≡ t = eqb-true (get_or rows j d).time t e in
+        eq-eqb (get_or rows i d).time t (omega arith)

@@ -19,12 +19,12 @@ ghost use Rattle.mp_output.specs.Holding.{AllAreWritten, HoldsUnwritten, WritesN
 ghost use Rattle.mp_output.specs.Unwritten.{IsDue, lines_of, place_rank, rows_at, rows_beside};
 ghost use Rattle.mp_output.specs.Wrote.{IfNothing, IfTime};
 
-use crate::lines::{count_of_time, lines_of_first};
-use crate::place::ByPlace;
+use crate::lines::lines_of_first;
+use crate::place::{ByPlace, OfTime};
 use crate::refused::OutRefused;
 use mp_model::{Fields, Naming, Output, Query, Time, Value};
 use mp_names::{Loc, Tag};
-use mp_ordered::OrderedQueue;
+use mp_ordered::OrderedBlocks;
 use mp_outside::{Sink, write_piece};
 use mp_stamps::{Seen, passed};
 use std::alloc::{AllocError, Global};
@@ -44,7 +44,7 @@ pub enum Wrote {
 #[derive(Drop)]
 pub struct Rows<Q: Query, J: Naming> {
     alloc: Global,
-    rows: OrderedQueue<Output, ByPlace>,
+    rows: OrderedBlocks<Output, ByPlace>,
     of: PhantomData<(Q, J)>,
 }
 
@@ -68,7 +68,7 @@ impl<Q: Query, J: Naming> Rows<Q, J> {
     {
         Rows {
             alloc,
-            rows: OrderedQueue::new(alloc),
+            rows: OrderedBlocks::new(alloc),
             of: PhantomData,
         }
     }
@@ -176,6 +176,6 @@ impl<Q: Query, J: Naming> Rows<Q, J> {
         ensures rest { drop result self.now.rows ≡ rows_beside time self.now.rows }
     {
         let _ = self.rows.first();
-        count_of_time(&self.rows, time)
+        self.rows.count_in_front(&OfTime { time })
     }
 }

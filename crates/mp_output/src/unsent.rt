@@ -6,7 +6,7 @@ ghost use Rattle.mp_output.specs.Unwritten.{place_rank};
 
 use crate::place::ByPlace;
 use mp_model::{Naming, Output, Query};
-use mp_ordered::OrderedQueue;
+use mp_ordered::OrderedBlocks;
 use std::alloc::{AllocError, Global};
 use std::marker::{Model, PhantomData};
 
@@ -14,7 +14,7 @@ use std::marker::{Model, PhantomData};
 /// `Unwritten`: the rows in the order of their places, and how many more there is room for.
 #[derive(Drop)]
 pub struct Unsent<Q: Query, J: Naming> {
-    rows: OrderedQueue<Output, ByPlace>,
+    rows: OrderedBlocks<Output, ByPlace>,
     of: PhantomData<(Q, J)>,
 }
 
@@ -36,7 +36,7 @@ impl<Q: Query, J: Naming> Unsent<Q, J> {
         ensures { result.rows ≡ [] }
     {
         Unsent {
-            rows: OrderedQueue::new(alloc),
+            rows: OrderedBlocks::new(alloc),
             of: PhantomData,
         }
     }

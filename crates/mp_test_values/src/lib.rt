@@ -8,6 +8,8 @@
 #[cfg(test)]
 mod bins;
 #[cfg(test)]
+mod blocks;
+#[cfg(test)]
 mod gate;
 #[cfg(test)]
 mod ordered;

@@ -1,19 +1,24 @@
-use Rattle.std.proofs.Common.{◌≡◌, ◌+◌, ◌<◌, ◌++◌, ◌∷◌, [], ℕ, List, length, take, ap, sym, ◌∙◌, arith, append-nil}
-use Rattle.std.specs.List.{flat_map, slice_get}
+use Rattle.std.proofs.Common.{◌∙◌, ◌≤◌, ◌++◌, ℕ, List, ap, arith, get_or, length, sym, take}
 use Rattle.std.proofs.lemmas.Grind.{flat_map-append}
-use Rattle.std.proofs.lemmas.List.{take_more}
-use Rattle.std.proofs.lemmas.Option.{get_or_from_slice_get}
 use Rattle.mp_model.specs.Answers.{line_of}
 use Rattle.mp_model.specs.declared.record.Output.{Output}
+use Rattle.mp_ordered.specs.Blocks.{items_of}
+use Rattle.mp_ordered.proofs.Fronts.{items_upto}
 use Rattle.mp_output.specs.Unwritten.{lines_of, place_of}
 use Rattle.mp_output.proofs.lines.lines_of_first.Goals as goal
 
-pub loop-index-preserved : goal.loop-index-preserved
-loop-index-preserved c =
-    let items : List Output = c.args.rows.now.items in
-    let i : ℕ = c.loop-index.index in
-    let row : Output = c.in-Some.row.now in
+pub returns-then-left-len : goal.returns-then-left-len
+returns-then-left-len c =
+    let bs = c.as_blocks-block-items.result.now in
+    let i = c.loop-block.block-index in
+    let left = c.loop-block.left in
+    let b = c.block-item.result in
     let line : Output → List ℕ = λ r. line_of (place_of r, r.value) in
-    let more = take_more items i row (omega (arith, c.loop-index-test.true, c.requires)) ∙ ap (λ r. take i items ++ r ∷ []) (get_or_from_slice_get items i row row c.in-Some.ensures.some) in
-    let lines = ap lines_of more ∙ flat_map-append line (take i items) (row ∷ []) ∙ ap (λ l. lines_of (take i items) ++ l) (append-nil (line row)) in
-    c.in_ok-put_line.ensures ∙ ap (λ p. c.loop-index.lines.items ++ line_of (p, row.value)) c.place_of.ensures ∙ ap (λ l. l ++ line row) c.loop-index.invariant ∙ sym lines
+    let front = items_of (take i bs) in
+    let inside : left ≤ length (get_or bs i b).items = omega (arith, c.if-left-len.true, c.len.ensures, b.ok.0, ap (λ v. length v.items) c.block-item.is) in
+    let rows = sym (items_upto bs i left b c.loop-block-test.true inside) ∙ ap (λ n. take n (items_of bs)) c.loop-block.invariant.left ∙ ap (λ r. take c.args.count r) c.as_blocks-block-items.ensures in
+    c.in_ok-put_lines.ensures
+    ∙ ap (λ l. l ++ lines_of (take left b.items)) c.loop-block.invariant.lines
+    ∙ ap (λ v. lines_of front ++ lines_of (take left v.items)) c.block-item.is
+    ∙ sym (flat_map-append line front (take left (get_or bs i b).items))
+    ∙ ap lines_of rows

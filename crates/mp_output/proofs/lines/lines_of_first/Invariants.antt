@@ -1,7 +1,11 @@
--- The lines of the rows so far are written.
-use Rattle.std.proofs.Common.{◌≡◌, take}
+-- The lines of the blocks so far are written, and so many rows of the others are to be.
+use Rattle.std.proofs.Common.{◌≡◌, ◌+◌, length, take}
+use Rattle.mp_ordered.specs.Blocks.{items_of}
 use Rattle.mp_output.specs.Unwritten.{lines_of}
 use Rattle.mp_output.proofs.lines.lines_of_first.Given as goal
 
-abbrev pub invariant-loop-index : goal.invariant-loop-index
-invariant-loop-index l = l.lines.items ≡ lines_of (take l.index l.rows.items)
+abbrev pub invariant-loop-block : goal.invariant-loop-block
+invariant-loop-block l = record {
+  lines : l.lines.items ≡ lines_of (items_of (take l.block-index l.block-items));
+  left : length (items_of (take l.block-index l.block-items)) + l.left ≡ l.count;
+}

@@ -1,4 +1,4 @@
-use Rattle.std.proofs.Common.{◌∙◌, Contains, length, sym, arith}
+use Rattle.std.proofs.Common.{◌∙◌, Contains, sym, arith}
 use Rattle.std.proofs.lemmas.List.Elements.{All-drop}
 use Rattle.mp_names.specs.declared.locations.Loc.TheVariants.{OutMail}
 use Rattle.mp_stamps.specs.Seen.{seen_at}

@@ -1,0 +1,88 @@
+//! The first items of blocks: how many they are, where they end, and how they are dropped.
+ghost use Rattle.std.specs.Prelude.{◌≡◌, ◌≤◌, ◌<◌, ◌+◌, ◌^◌, suc, All, drop, get_or, length, take};
+ghost use Rattle.std.specs.declared.alloc.Global.{Global};
+ghost use Rattle.std.specs.declared.collections.VecDeque.{VecDeque};
+ghost use Rattle.std.specs.Vec.{vec_capacity};
+ghost use Rattle.std.specs.VecDeque.{deque_capacity};
+ghost use Rattle.mp_ordered.specs.Blocks.{IsBlock, IsSpare, items_of, past_halves};
+
+use crate::block::past_half;
+use std::collections::VecDeque;
+
+/// How many items all blocks have.
+pub fn count_of<T>(blocks: &[VecDeque<T>]) -> usize
+    requires { length (items_of blocks.now) < 2 ^ 64 }
+    ensures { result ≡ length (items_of blocks.now) }
+{
+    let mut count = 0;
+    for block in blocks {
+        count += block.len();
+    }
+    count
+}
+
+/// Where the first `count` items end: in which block, and how many of them it has. Those are all of its items only where no
+/// other block follows.
+pub fn end_of<T>(blocks: &[VecDeque<T>], count: usize) -> (usize, usize)
+    requires some { 0 < length blocks.now }
+    requires inside { count ≤ length (items_of blocks.now) }
+    ensures at { result.0 < length blocks.now }
+    ensures count { length (items_of (take result.0 blocks.now)) + result.1 ≡ count }
+    ensures place { (d : VecDeque T Global) → result.1 ≤ length (get_or blocks.now result.0 d).items }
+    ensures last { (d : VecDeque T Global)
+        → result.1 ≡ length (get_or blocks.now result.0 d).items → suc result.0 ≡ length blocks.now }
+{
+    let mut left = count;
+    for (at, block) in blocks.iter().enumerate() {
+        if left < block.len() {
+            return (at, left);
+        }
+        left -= block.len();
+    }
+    let last = blocks.len() - 1;
+    (last, blocks[last].len())
+}
+
+/// Makes the first `count` blocks spare ones. Answers how many items of the others are more than half of their block, each
+/// block for itself.
+pub fn retire_first<T: Drop>(
+    blocks: &mut Vec<VecDeque<T>>,
+    spare: &mut Vec<VecDeque<T>>,
+    count: usize,
+    past: usize,
+) -> usize
+    requires inside { count ≤ length blocks.old.items }
+    requires low { All IsBlock blocks.old.items }
+    requires empty { All IsSpare spare.old.items }
+    requires past { past ≡ past_halves blocks.old.items }
+    requires memory { length spare.old.items + count ≤ vec_capacity spare.old }
+    ensures blocks { blocks.new.items ≡ drop count blocks.old.items }
+    ensures empty { All IsSpare spare.new.items }
+    ensures more { length spare.new.items ≡ length spare.old.items + count }
+    ensures past { result ≡ past_halves blocks.new.items }
+    ensures memory { (vec_capacity blocks.new ≡ vec_capacity blocks.old)
+        × (vec_capacity spare.new ≡ vec_capacity spare.old) }
+{
+    blocks.rotate_left(count);
+    let mut left = past;
+    for _retired in 0..count {
+        let Some(mut block) = blocks.pop() else {
+            unreachable!()
+        };
+        left -= past_half(block.len());
+        block.clear();
+        spare.push_reserved(block);
+    }
+    left
+}
+
+/// Drops the first `count` items of a block.
+pub fn drop_front<T: Drop>(block: &mut VecDeque<T>, count: usize)
+    requires { count ≤ length block.old.items }
+    ensures items { block.new.items ≡ drop count block.old.items }
+    ensures memory { deque_capacity block.new ≡ deque_capacity block.old }
+{
+    for _dropped in 0..count {
+        let _ = block.pop_front();
+    }
+}
