@@ -1,8 +1,7 @@
 //! The fields of an answer row.
-ghost use Rattle.std.specs.Prelude.{◌≡◌, ◌<◌, ◌++◌, ◌∷◌, [], length};
+ghost use Rattle.std.specs.Prelude.{◌≡◌, ◌≤◌, IfOk};
 
 use crate::Text;
-use arrayvec::ArrayVec;
 use std::alloc::{AllocError, Global};
 use std::marker::Model;
 
@@ -26,48 +25,33 @@ impl Clone for Field {
     }
 }
 
-// What stands where an array has room and no field.
-impl Default for Field {
-    ghost use Rattle.mp_model.specs.declared.fields.Field.TheVariants.{Number};
-
-    ghost is_default = { λ field. field ≡ Number 0 };
-
-    fn default() -> Field {
-        Field::Number(0)
-    }
-}
-
 /// At most four fields, in order. Contracts see the list of them.
+// They stand on the heap, since a value is moved often and few values are rows.
 #[derive(Drop, Debug)]
 pub struct Fields {
-    fields: ArrayVec<Field, 4>,
+    fields: Vec<Field>,
 }
 
 impl Model for Fields {
-    ghost use Rattle.std.specs.Prelude.{List};
+    ghost use Rattle.std.specs.Prelude.{List, ◌≤◌, length};
     ghost use Rattle.mp_model.specs.declared.fields.Field.{Field};
 
     ghost Value = { List Field };
 
     ghost view = { λ f. f.fields.items };
+
+    ghost invariant = { λ f. length f.fields.items ≤ 4 };
 }
 
 impl Fields {
-    /// No fields.
-    pub fn new() -> Fields
-        ensures { result ≡ [] }
+    /// These fields, in order. `AllocError`: no memory.
+    pub fn of<const N: usize>(alloc: Global, fields: [Field; N]) -> Result<Fields, AllocError>
+        requires { N ≤ 4 }
+        ensures { IfOk result (λ f. f ≡ fields.entry) }
     {
-        Fields {
-            fields: ArrayVec::new(),
-        }
-    }
-
-    /// Adds a field at the end.
-    pub fn push(&mut self, field: Field)
-        requires { length self.old < 4 }
-        ensures { self.new ≡ self.old ++ field ∷ [] }
-    {
-        self.fields.push(field);
+        Ok(Fields {
+            fields: Vec::from_array(alloc, fields)?,
+        })
     }
 
     /// The fields, in order.
@@ -82,10 +66,8 @@ impl Clone for Fields {
     ghost is_clone = { λ fields copy. copy ≡ fields };
 
     fn clone(&self) -> Result<Fields, AllocError> {
-        let mut copy = ArrayVec::new();
-        for field in self.fields.as_slice() {
-            copy.push(field.clone()?);
-        }
-        Ok(Fields { fields: copy })
+        Ok(Fields {
+            fields: self.fields.as_slice().to_vec(*self.fields.allocator())?,
+        })
     }
 }

@@ -3,19 +3,22 @@ ghost use Rattle.std.specs.Prelude.{◌≡◌, IfOk};
 
 use std::alloc::{AllocError, Global};
 use std::marker::Model;
+use std::sync::ArcSlice;
 
 /// Bytes of any value, such as the name of a person. Contracts see the list of the bytes.
+// A value holds up to three of these and is moved often, so a text is one pointer, and its clones share the bytes.
 #[derive(Drop, Debug)]
 pub struct Text {
-    bytes: Vec<u8>,
+    bytes: ArcSlice<u8>,
 }
 
 impl Model for Text {
     ghost use Rattle.std.specs.Prelude.{ℕ, List};
+    ghost use Rattle.std.specs.Arc.{arc_slice_items};
 
     ghost Value = { List ℕ };
 
-    ghost view = { λ t. t.bytes.items };
+    ghost view = { λ t. arc_slice_items t.bytes };
 }
 
 impl Text {
@@ -24,7 +27,7 @@ impl Text {
         ensures { IfOk result (λ t. t ≡ bytes.now) }
     {
         Ok(Text {
-            bytes: bytes.to_vec(alloc)?,
+            bytes: ArcSlice::from_slice(alloc, bytes)?,
         })
     }
 
@@ -40,6 +43,8 @@ impl Clone for Text {
     ghost is_clone = { λ text copy. copy ≡ text };
 
     fn clone(&self) -> Result<Text, AllocError> {
-        Text::new(*self.bytes.allocator(), self.as_bytes())
+        Ok(Text {
+            bytes: self.bytes.clone()?,
+        })
     }
 }

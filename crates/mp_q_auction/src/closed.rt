@@ -1,6 +1,6 @@
 //! A query on closed auctions: stage 0 sells each lot when its auction closes, stage 1 says the average price of the
 //! sales.
-ghost use Rattle.std.specs.Prelude.{◌≡◌};
+ghost use Rattle.std.specs.Prelude.{◌≡◌, IfOk};
 ghost use Rattle.mp_q_auction.specs.Closed.{key_of, posts_of, row_of, sale_by};
 
 use crate::{Bidding, Sales};
@@ -73,7 +73,9 @@ impl<S: Sales + Send + Sync> Query for Closed<S> {
             Ok(outputs)
         } else {
             let sales = cell.sales.with(group.recs());
-            let outputs = row(group, sales.average()).into_iter().collect(alloc)?;
+            let outputs = row(alloc, group, sales.average())?
+                .into_iter()
+                .collect(alloc)?;
             cell.sales = sales;
             Ok(outputs)
         }
@@ -135,15 +137,13 @@ fn sale<S: Sales>(bidding: &Bidding, group: &Group) -> Option<Value>
     }
 }
 
-/// The row of a group that has records: its key, and this average.
-fn row(group: &Group, average: u64) -> Option<Value>
-    ensures { result ≡ row_of group.now average }
+/// The row of a group that has records: its key, and this average. `AllocError`: no memory.
+fn row(alloc: Global, group: &Group, average: u64) -> Result<Option<Value>, AllocError>
+    ensures { IfOk result (λ row. row ≡ row_of group.now average) }
 {
     if group.recs().is_empty() {
-        return None;
+        return Ok(None);
     }
-    let mut fields = Fields::new();
-    fields.push(Field::Number(group.key()));
-    fields.push(Field::Number(average));
-    Some(Value::Row(fields))
+    let fields = [Field::Number(group.key()), Field::Number(average)];
+    Ok(Some(Value::Row(Fields::of(alloc, fields)?)))
 }

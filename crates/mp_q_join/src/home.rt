@@ -3,7 +3,7 @@ ghost use Rattle.std.specs.Prelude.{◌≡◌, ◌++◌, map, IfOk, OnOk};
 ghost use Rattle.mp_q_join.specs.Joining.{first_home, home_of, row_of};
 
 use mp_model::{Field, Fields, Rec, Text, Value};
-use std::alloc::AllocError;
+use std::alloc::{AllocError, Global};
 
 /// A person's name, city and state. It is public only as a part of q3's `Cell`.
 #[derive(Drop, Debug)]
@@ -49,21 +49,21 @@ impl Home {
     pub fn push_rows(&self, auctions: &[u64], rows: &mut Vec<Value>) -> Result<(), AllocError>
         ensures { OnOk result (rows.new.items ≡ rows.old.items ++ map (row_of self.now) auctions.now) }
     {
+        let alloc = *rows.allocator();
         for id in auctions {
-            rows.push(self.row(*id)?)?;
+            rows.push(self.row(alloc, *id)?)?;
         }
         Ok(())
     }
 
     /// The row of an auction: name, city, state and the auction's id.
-    fn row(&self, id: u64) -> Result<Value, AllocError>
+    fn row(&self, alloc: Global, id: u64) -> Result<Value, AllocError>
         ensures { IfOk result (λ row. row ≡ row_of self.now id) }
     {
-        let mut fields = Fields::new();
-        fields.push(Field::Text(self.name.clone()?));
-        fields.push(Field::Text(self.city.clone()?));
-        fields.push(Field::Text(self.state.clone()?));
-        fields.push(Field::Number(id));
+        let name = Field::Text(self.name.clone()?);
+        let city = Field::Text(self.city.clone()?);
+        let state = Field::Text(self.state.clone()?);
+        let fields = Fields::of(alloc, [name, city, state, Field::Number(id)])?;
         Ok(Value::Row(fields))
     }
 }

@@ -37,7 +37,7 @@ impl Selling {
     {
         let mut rows = Vec::new(alloc);
         if group.is_woken() {
-            if let Some(row) = self.row(group.key())? {
+            if let Some(row) = self.row(alloc, group.key())? {
                 rows.push(row)?;
             }
         }
@@ -56,15 +56,13 @@ impl Selling {
     }
 
     /// The row of a person who sells: this key and the name.
-    fn row(&self, key: u64) -> Result<Option<Value>, AllocError>
+    fn row(&self, alloc: Global, key: u64) -> Result<Option<Value>, AllocError>
         ensures { IfOk result (λ row. row ≡ row_of key self.now.name self.now.sells) }
     {
         match &self.name {
             Some(name) if self.sells => {
-                let mut fields = Fields::new();
-                fields.push(Field::Number(key));
-                fields.push(Field::Text(name.clone()?));
-                Ok(Some(Value::Row(fields)))
+                let fields = [Field::Number(key), Field::Text(name.clone()?)];
+                Ok(Some(Value::Row(Fields::of(alloc, fields)?)))
             }
             _ => Ok(None),
         }

@@ -11,9 +11,9 @@ pub trait RowOf: Drop {
     /// The row of a value.
     ghost row_by: { Value → Option Value };
 
-    /// The row of a bid, if it has one. Other values have none.
-    fn row_of(&self, value: &Value) -> Option<Value>
-        ensures { result ≡ row_by value.now };
+    /// The row of a bid, if it has one. Other values have none. `AllocError`: no memory.
+    fn row_of(&self, alloc: Global, value: &Value) -> Result<Option<Value>, AllocError>
+        ensures { IfOk result (λ row. row ≡ row_by value.now) };
 }
 
 /// The query that gives the rows of bids, by this rule. It is public only as the type of `Q1` and `Q2`.
@@ -103,7 +103,11 @@ fn auction_of(value: &Value) -> Option<u64>
 fn rows_of<R: RowOf>(rule: &R, alloc: Global, recs: &[Rec]) -> Result<Vec<Value>, AllocError>
     ensures { IfOk result (λ v. v.items ≡ rows_of R.row_by recs.now) }
 {
-    recs.iter()
-        .filter_map(|rec| rule.row_of(&rec.value))
-        .collect(alloc)
+    let mut rows = Vec::new(alloc);
+    for rec in recs {
+        if let Some(row) = rule.row_of(alloc, &rec.value)? {
+            rows.push(row)?;
+        }
+    }
+    Ok(rows)
 }

@@ -1,6 +1,7 @@
 //! The query q1: each bid with its price in euros.
 use crate::{Bids, RowOf};
 use mp_model::{Field, Fields, Value};
+use std::alloc::{AllocError, Global};
 
 /// So many euros are 100 dollars, by this project's profile.
 const EUROS: u128 = 89;
@@ -24,20 +25,22 @@ impl RowOf for InEuros {
 
     ghost row_by = { row };
 
-    fn row_of(&self, value: &Value) -> Option<Value> {
+    fn row_of(&self, alloc: Global, value: &Value) -> Result<Option<Value>, AllocError> {
         match value {
             Value::Bid {
                 auction,
                 bidder,
                 price,
             } => {
-                let mut fields = Fields::new();
-                fields.push(Field::Number(*auction));
-                fields.push(Field::Number(*bidder));
-                fields.push(Field::Number((*price as u128 * EUROS / DOLLARS) as u64));
-                Some(Value::Row(fields))
+                let euros = (*price as u128 * EUROS / DOLLARS) as u64;
+                let fields = [
+                    Field::Number(*auction),
+                    Field::Number(*bidder),
+                    Field::Number(euros),
+                ];
+                Ok(Some(Value::Row(Fields::of(alloc, fields)?)))
             }
-            _ => None,
+            _ => Ok(None),
         }
     }
 }

@@ -1,6 +1,7 @@
 //! The query q2: the bids on every 123rd auction.
 use crate::{Bids, RowOf};
 use mp_model::{Field, Fields, Value};
+use std::alloc::{AllocError, Global};
 
 /// The auctions asked for are the multiples of this number, by this project's profile.
 const EVERY: u64 = 123;
@@ -23,15 +24,13 @@ impl RowOf for OnEvery123rd {
 
     ghost row_by = { row };
 
-    fn row_of(&self, value: &Value) -> Option<Value> {
+    fn row_of(&self, alloc: Global, value: &Value) -> Result<Option<Value>, AllocError> {
         match value {
             Value::Bid { auction, price, .. } if *auction % EVERY == 0 => {
-                let mut fields = Fields::new();
-                fields.push(Field::Number(*auction));
-                fields.push(Field::Number(*price));
-                Some(Value::Row(fields))
+                let fields = [Field::Number(*auction), Field::Number(*price)];
+                Ok(Some(Value::Row(Fields::of(alloc, fields)?)))
             }
-            _ => None,
+            _ => Ok(None),
         }
     }
 }

@@ -1,8 +1,9 @@
 //! The best bid of a window.
-ghost use Rattle.std.specs.Prelude.{◌≡◌, ◌↔◌, IsTrue, None, Some};
+ghost use Rattle.std.specs.Prelude.{◌≡◌, ◌↔◌, IfOk, IsTrue, None, Some};
 ghost use Rattle.mp_q_window.specs.Best.{after_group, after_value, at_start, better_of, row_of};
 
 use mp_model::{Field, Fields, Group, Value};
+use std::alloc::{AllocError, Global};
 use std::marker::Model;
 
 /// What a bid offers. Its numbers have the limits of a bid, of this project's profile. It is public only as a part of
@@ -48,19 +49,20 @@ impl Best {
         self.best.is_none()
     }
 
-    /// The row of the best offer, where this group ends a window.
-    pub fn row(&self, group: &Group) -> Option<Value>
-        ensures { result ≡ row_of self.now group.now }
+    /// The row of the best offer, where this group ends a window. `AllocError`: no memory.
+    pub fn row(&self, alloc: Global, group: &Group) -> Result<Option<Value>, AllocError>
+        ensures { IfOk result (λ row. row ≡ row_of self.now group.now) }
     {
         match self.best {
             Some(offer) if group.is_woken() => {
-                let mut fields = Fields::new();
-                fields.push(Field::Number(offer.auction));
-                fields.push(Field::Number(offer.bidder));
-                fields.push(Field::Number(offer.price));
-                Some(Value::Row(fields))
+                let fields = [
+                    Field::Number(offer.auction),
+                    Field::Number(offer.bidder),
+                    Field::Number(offer.price),
+                ];
+                Ok(Some(Value::Row(Fields::of(alloc, fields)?)))
             }
-            _ => None,
+            _ => Ok(None),
         }
     }
 

@@ -54,7 +54,7 @@ impl Query for Q7 {
         cell: &mut Best,
         group: &Group,
     ) -> Result<Vec<Value>, AllocError> {
-        let outputs = cell.row(group).into_iter().collect(alloc)?;
+        let outputs = cell.row(alloc, group)?.into_iter().collect(alloc)?;
         cell.apply(group);
         Ok(outputs)
     }

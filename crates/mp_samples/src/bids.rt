@@ -90,13 +90,11 @@ impl<const ANSWERS: bool> Query for SampleBids<ANSWERS> {
     ghost sums_fit = { λ _. sums_fit ANSWERS };
 }
 
-/// The fields of a key's row.
-pub fn fields_of(key: u64) -> Fields
-    ensures { result ≡ fields_of key }
+/// The fields of a key's row. `AllocError`: no memory.
+pub fn fields_of(alloc: Global, key: u64) -> Result<Fields, AllocError>
+    ensures { IfOk result (λ fields. fields ≡ fields_of key) }
 {
-    let mut fields = Fields::new();
-    fields.push(Field::Number(key));
-    fields
+    Fields::of(alloc, [Field::Number(key)])
 }
 
 /// The row of a key that has records.
@@ -105,7 +103,7 @@ fn row_of(alloc: Global, key: u64, recs: &[Rec]) -> Result<Vec<Value>, AllocErro
 {
     let mut rows = Vec::new(alloc);
     if !recs.is_empty() {
-        rows.push(Value::Row(fields_of(key)))?;
+        rows.push(Value::Row(fields_of(alloc, key)?))?;
     }
     Ok(rows)
 }

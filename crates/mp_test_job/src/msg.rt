@@ -69,10 +69,10 @@ fn a_record_goes_to_its_owner(rt: HostRuntime) -> Result<(), Fail> {
 }
 
 // The row's tag is the key of its group, and that it is the group's first.
-fn row_is_opened<J: Naming>(rt: &impl Abort) -> Result<(), Fail>
+fn row_is_opened<J: Naming>(rt: &impl Abort, alloc: Global) -> Result<(), Fail>
     requires { J.job ≡ one_bid }
 {
-    let message = Msg::<AnsweringBids, J>::row(5, Tag(7, 0), fields_of(7));
+    let message = Msg::<AnsweringBids, J>::row(5, Tag(7, 0), fields_of(alloc, 7)?);
     let name = Name::Row {
         time: 5,
         tag: Tag(7, 0),
@@ -89,7 +89,7 @@ fn row_is_opened<J: Naming>(rt: &impl Abort) -> Result<(), Fail>
 
 #[test]
 fn a_row_holds_its_fields(rt: HostRuntime) -> Result<(), Fail> {
-    row_is_opened::<Brand>(&rt)
+    row_is_opened::<Brand>(&rt, rt.alloc())
 }
 
 // Worker 0 sends the control record, to itself too.

@@ -1,5 +1,5 @@
 //! Of rows: those of two times, received or held in another order than that of the answer.
-ghost use Rattle.std.specs.Prelude.{◌≡◌};
+ghost use Rattle.std.specs.Prelude.{◌≡◌, IfOk};
 ghost use Rattle.mp_samples.specs.Jobs.{row_at, three_bids};
 
 use crate::seen::seen_with;
@@ -19,9 +19,9 @@ fn three_rows<J: Naming>(alloc: Global) -> Result<Rows<AnsweringBids, J>, AllocE
 {
     let mut rows = Rows::new(alloc);
     rows.make_room(3)?;
-    rows.receive(8, Tag(2, 0), fields_of(2))?;
-    rows.receive(5, Tag(7, 0), fields_of(7))?;
-    rows.receive(5, Tag(3, 0), fields_of(3))?;
+    rows.receive(8, Tag(2, 0), fields_of(alloc, 2)?)?;
+    rows.receive(5, Tag(7, 0), fields_of(alloc, 7)?)?;
+    rows.receive(5, Tag(3, 0), fields_of(alloc, 3)?)?;
     Ok(rows)
 }
 
@@ -71,14 +71,14 @@ fn a_fault_leaves_the_rows(rt: HostRuntime) -> Result<(), Fail> {
 }
 
 // The output of this key's group at a time.
-fn row_at(time: Time, key: u64) -> Output
-    ensures { result ≡ row_at time key }
+fn row_at(alloc: Global, time: Time, key: u64) -> Result<Output, AllocError>
+    ensures { IfOk result (λ row. row ≡ row_at time key) }
 {
-    Output {
+    Ok(Output {
         time,
         tag: Tag(key, 0),
-        value: Value::Row(fields_of(key)),
-    }
+        value: Value::Row(fields_of(alloc, key)?),
+    })
 }
 
 // The key of the row that is given up.
@@ -100,8 +100,8 @@ fn rows_go_in_order<J: Naming>(rt: &impl Abort, alloc: Global) -> Result<(), Fai
 {
     let mut unsent = Unsent::<AnsweringBids, J>::new(alloc);
     unsent.make_room(2)?;
-    unsent.hold(row_at(8, 2))?;
-    unsent.hold(row_at(5, 7))?;
+    unsent.hold(row_at(alloc, 8, 2)?)?;
+    unsent.hold(row_at(alloc, 5, 7)?)?;
     send_in_vain(&mut unsent)?;
     assert_eq!(rt; key_sent(&mut unsent), Some(7));
     assert_eq!(rt; key_sent(&mut unsent), Some(2));

@@ -5,9 +5,8 @@ use std::test::Fail;
 
 #[test]
 fn a_name_is_printed_as_its_bytes(rt: HostRuntime) -> Result<(), Fail> {
-    let mut fields = Fields::new();
-    fields.push(Field::Text(Text::new(rt.alloc(), b"A\xffn")?));
-    fields.push(Field::Number(70));
+    let name = Text::new(rt.alloc(), b"A\xffn")?;
+    let fields = Fields::of(rt.alloc(), [Field::Text(name), Field::Number(70)])?;
     let place = Place {
         time: 4,
         tag: Tag(1, 0),
