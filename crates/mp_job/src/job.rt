@@ -45,7 +45,7 @@ impl<Q: Query> Job<Q> {
     pub fn new(
         alloc: Global,
         query: Q,
-        events: Vec<Event>,
+        mut events: Vec<Event>,
         controls: Vec<Control>,
         shape: Shape,
     ) -> Result<Job<Q>, AllocError>
@@ -56,7 +56,7 @@ impl<Q: Query> Job<Q> {
         ensures { IfOk result (λ job. job ≡ job_of (Q.rules query) events.items controls.items shape) }
     {
         let shares = shares_of(alloc, &query, &events, shape.workers)?;
-        let times = times_of(alloc, &query, &events, &controls)?;
+        let times = times_of(alloc, &query, &mut events, &controls)?;
         Ok(Job {
             query,
             events,

@@ -43,6 +43,7 @@ impl Share {
                 indices.push(index as u32)?;
             }
         }
+        indices.shrink_to_fit();
         Ok(Share { indices })
     }
 

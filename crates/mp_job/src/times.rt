@@ -7,69 +7,81 @@ ghost use Rattle.mp_model.specs.Legal.{EventsAreLegal};
 ghost use Rattle.mp_model.specs.Stages.{input_records, record_of};
 ghost use Rattle.mp_job.specs.Times.{control_times, times_of};
 
-use crate::records::record_of;
-use mp_model::{Control, Event, Query, Rec, Time};
+use mp_model::{Control, Event, Query, Rec, Tag, Time, Value};
 use std::alloc::{AllocError, Global};
+use std::mem;
 
-/// The times of the records of stage 0, of their posts and of the control records, ascending and each once.
+/// The times of the records of stage 0, of their posts and of the control records, ascending and each once. The events stay.
 /// `AllocError`: no memory.
 pub fn times_of<Q: Query>(
     alloc: Global,
     query: &Q,
-    events: &[Event],
+    events: &mut [Event],
     controls: &[Control],
 ) -> Result<Vec<Time>, AllocError>
-    requires { EventsAreLegal events.now }
-    ensures { IfOk result (λ v. v.items ≡ times_of (Q.facts (Q.rules query.now)) events.now controls.now) }
+    requires { EventsAreLegal events.old }
+    ensures times { IfOk result (λ v. v.items ≡ times_of (Q.facts (Q.rules query.now)) events.old controls.now) }
+    ensures events { events.new ≡ events.old }
 {
     let mut times = Vec::new(alloc);
     add_event_times(query, events, &mut times)?;
     add_control_times(controls, &mut times)?;
     put_in_order(&mut times);
+    times.shrink_to_fit();
     Ok(times)
 }
 
-// Adds the times of all records and of their posts.
+// Adds the times of all records and of their posts. The events stay.
 fn add_event_times<Q: Query>(
     query: &Q,
-    events: &[Event],
+    events: &mut [Event],
     times: &mut Vec<Time>,
 ) -> Result<(), AllocError>
-    requires { EventsAreLegal events.now }
-    ensures { let q = Q.facts (Q.rules query.now) in
-        OnOk result (times.new.items ≡ times.old.items ++ times_in q 0 (input_records q events.now)) }
+    requires { EventsAreLegal events.old }
+    ensures times { let q = Q.facts (Q.rules query.now) in
+        OnOk result (times.new.items ≡ times.old.items ++ times_in q 0 (input_records q events.old)) }
+    ensures events { events.new ≡ events.old }
 {
-    for (index, event) in events.iter().enumerate() {
-        add_times_of(query, index as u32, event, times)?;
+    for index in 0..events.len() {
+        add_times_of(query, index as u32, &mut events[index], times)?;
     }
     Ok(())
 }
 
-// Adds the times of the record of an event, if it makes one.
+// Adds the time of the record of an event, if it makes one, and those of its posts. The event's value is the record's
+// meanwhile, so that it isn't copied.
 fn add_times_of<Q: Query>(
     query: &Q,
     index: u32,
-    event: &Event,
+    event: &mut Event,
     times: &mut Vec<Time>,
 ) -> Result<(), AllocError>
-    requires { event.now.time ≤ last_time }
-    ensures { let q = Q.facts (Q.rules query.now) in
-        OnOk result (times.new.items ≡ times.old.items ++ times_in q 0 (option_to_list (record_of q index event.now))) }
+    requires { event.old.time ≤ last_time }
+    ensures times { let q = Q.facts (Q.rules query.now) in
+        OnOk result (times.new.items ≡ times.old.items ++ times_in q 0 (option_to_list (record_of q index event.old))) }
+    ensures event { event.new ≡ event.old }
 {
-    match record_of(query, index, event)? {
-        Some(rec) => add_record_times(query, rec, times),
-        None => Ok(()),
-    }
+    let Some(key) = query.key(0, event.time, &event.value) else {
+        return Ok(());
+    };
+    let rec = Rec {
+        time: event.time,
+        key,
+        tag: Tag(0, u64::from(index)),
+        value: mem::replace(&mut event.value, no_value()),
+    };
+    let posts = query.posts(0, &rec);
+    event.value = rec.value;
+    times.push(event.time)?;
+    times.extend_from_slice(posts.as_slice())
 }
 
-// Adds the time of a record and those of its posts.
-fn add_record_times<Q: Query>(query: &Q, rec: Rec, times: &mut Vec<Time>) -> Result<(), AllocError>
-    requires { rec.time ≤ last_time }
-    ensures { let q = Q.facts (Q.rules query.now) in
-        OnOk result (times.new.items ≡ times.old.items ++ rec.time ∷ q.posts 0 rec) }
-{
-    times.push(rec.time)?;
-    times.extend_from_slice(query.posts(0, &rec).as_slice())
+// What stands in an event while its value is a record's.
+fn no_value() -> Value {
+    Value::Count {
+        auction: 0,
+        count: 0,
+    }
 }
 
 // Adds the times of control records.

@@ -8,4 +8,7 @@ use Rattle.mp_job.proofs.times.add_event_times.Given as goal
 abbrev pub invariant-loop-index : goal.invariant-loop-index
 invariant-loop-index g l =
     let q = g.Q.Query.facts (g.Q.Query.rules l.query) in
-    l.times.items ++ times_in q 0 (filter_map (λ p. record_of q p.0 p.1) (enumerate_from l.index (drop l.index l.events))) ≡ l.initial.times.items ++ times_in q 0 (input_records q l.events)
+    record {
+      stay : l.events ≡ l.initial.events;
+      added : l.times.items ++ times_in q 0 (filter_map (λ p. record_of q p.0 p.1) (enumerate_from l.index (drop l.index l.initial.events))) ≡ l.initial.times.items ++ times_in q 0 (input_records q l.initial.events);
+    }
