@@ -64,7 +64,8 @@ impl<Q: Query, J: Naming> Board<OutlineOf<Q, J>> {
 impl<O: Outlined> Board<O> {
     /// Posts a worker's log, which has grown from the one that it posted last, and gives what all posted logs show then:
     /// the frontier of each location, as in Naiad's progress protocol, and how often one of these logs has changed. It
-    /// takes no memory, and the time that the changes since then need.
+    /// takes no memory, and the time that the changes since then need. Frontiers are found anew only where a least time of
+    /// outstanding work has moved.
     pub fn exchange(&mut self, worker: u32, log: &mut Log<O>) -> Seen
         requires worker { worker < O.outline.workers }
         requires own { log.old.worker ≡ worker }
@@ -80,11 +81,11 @@ impl<O: Outlined> Board<O> {
         ensures frontiers { ShowsFrontiers O.outline self.new.logs result }
         ensures told { SeenIsDone O.outline worker log.old.log result }
     {
-        add_all(&mut self.counts, log.changes());
+        let moved = add_all(&mut self.counts, log.changes());
         let version = next_version(self.seen.version(), log.is_posted());
         log.post();
         self.logs[worker as usize] = Snapshot::of(log);
-        self.seen = Seen::of(self.seen.stages(), version, &self.counts);
+        self.seen.follow(version, moved, &self.counts);
         self.seen
     }
 

@@ -1,15 +1,17 @@
 //! Changes that are added to the counts.
-ghost use Rattle.std.specs.Prelude.{◌≡◌, ◌+◌, ◌∷◌, [], ℕ, ◌+ℤ◌, length};
+ghost use Rattle.std.specs.Prelude.{◌≡◌, ◌+◌, ◌∷◌, [], ℕ, ◌+ℤ◌, false, length};
 ghost use Rattle.mp_names.specs.declared.locations.Loc.{Loc};
 ghost use Rattle.mp_stamps.specs.Counts.{IsCounted, SamePlaces, count_in};
+ghost use Rattle.mp_stamps.specs.Flow.{KeepsFrontiers};
 ghost use Rattle.mp_rows.specs.Entries.{sum_at};
 ghost use Rattle.mp_board.specs.Totals.{HasRoomFor};
 
 use mp_names::Change;
 use mp_stamps::Counts;
 
-/// Adds changes to the counts; where no count is kept they are dropped. Each count has room for so many.
-pub(crate) fn add_all(counts: &mut Counts, changes: &[Change])
+/// Adds changes to the counts; where no count is kept they are dropped. Each count has room for so many. It gives whether
+/// the least time of outstanding work has moved anywhere; where it hasn't, all frontiers stay.
+pub(crate) fn add_all(counts: &mut Counts, changes: &[Change]) -> bool
     requires { HasRoomFor (length changes.now) counts.old }
     ensures counted { (loc : Loc) (t : ℕ) → IsCounted counts.old loc t →
         count_in counts.new loc t ≡ count_in counts.old loc t +ℤ sum_at changes.now loc t }
@@ -17,14 +19,17 @@ pub(crate) fn add_all(counts: &mut Counts, changes: &[Change])
         count_in counts.new loc t ≡ count_in counts.old loc t }
     ensures same { SamePlaces counts.old counts.new }
     ensures room { (k : ℕ) → HasRoomFor (length changes.now + k) counts.old → HasRoomFor k counts.new }
+    ensures still { result ≡ false → KeepsFrontiers counts.old counts.new }
 {
+    let mut moved = false;
     for change in changes {
-        add_one(counts, *change);
+        moved = add_one(counts, *change) || moved;
     }
+    moved
 }
 
 // Adds a change to the counts.
-fn add_one(counts: &mut Counts, change: Change)
+fn add_one(counts: &mut Counts, change: Change) -> bool
     requires { HasRoomFor 1 counts.old }
     ensures counted { (loc : Loc) (t : ℕ) → IsCounted counts.old loc t →
         count_in counts.new loc t ≡ count_in counts.old loc t +ℤ sum_at (change ∷ []) loc t }
@@ -32,6 +37,7 @@ fn add_one(counts: &mut Counts, change: Change)
         count_in counts.new loc t ≡ count_in counts.old loc t }
     ensures same { SamePlaces counts.old counts.new }
     ensures room { (k : ℕ) → HasRoomFor (1 + k) counts.old → HasRoomFor k counts.new }
+    ensures still { result ≡ false → KeepsFrontiers counts.old counts.new }
 {
-    counts.add(change.at.loc, change.at.time, change.by);
+    counts.add(change.at.loc, change.at.time, change.by)
 }

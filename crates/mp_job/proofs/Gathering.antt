@@ -1,6 +1,5 @@
 -- What stands among the times.
-use Rattle.std.proofs.Common.{◌≡◌, ◌⊎◌, ℕ, Option, None, Some, List, [], ◌∷◌, ◌++◌, flat_map, Any, Contains, refl, sym, inl, inr, subst, ⊎_elim, append_assoc, option_to_list}
-use Rattle.std.specs.List.{cons_option}
+use Rattle.std.proofs.Common.{◌≡◌, ◌⊎◌, ℕ, List, ◌∷◌, ◌++◌, Any, Contains, inl, inr, subst, ⊎_elim}
 use Rattle.std.proofs.lemmas.List.Elements.{Contains-append_cases, Contains-append_left, Contains-append_right}
 use Rattle.mp_names.specs.declared.controls.Control.{Control}
 use Rattle.mp_model.specs.declared.record.Event.{Event}

@@ -1,5 +1,5 @@
 -- What a job holds.
-use Rattle.std.specs.Prelude.{◌≡◌, ℕ, List, map}
+use Rattle.std.specs.Prelude.{◌≡◌, ◌++◌, ◌∷◌, [], ◌%◌, ℕ, List, length, map, slice_index_or, slice_set}
 use Rattle.std.specs.List.{range_with_len}
 use Rattle.mp_names.specs.declared.controls.Control.{Control}
 use Rattle.mp_names.specs.declared.controls.Shape.{Shape}
@@ -12,6 +12,10 @@ use Rattle.mp_job.specs.Times.{times_of}
 -- what is told of a job that is made of these
 abbrev pub job_of : List ℕ → List Event → List Control → Shape → JobFacts
 job_of rules events controls shape = record { rules = rules; events = events; controls = controls; shape = shape }
+
+-- the shares with one more index, in that of the worker whose number it is modulo the number of workers
+abbrev pub with_index : ℕ → List (List ℕ) → List (List ℕ)
+with_index i shares = slice_set shares (i % length shares) (slice_index_or shares (i % length shares) [] ++ i ∷ [])
 
 module _ {Cell : Type 0} where
   -- the shares of all workers, by their numbers

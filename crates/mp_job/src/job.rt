@@ -6,9 +6,10 @@ ghost use Rattle.mp_job.specs.Parts.{job_of};
 ghost use Rattle.mp_job.specs.Records.{record_at, share_of};
 ghost use Rattle.mp_job.specs.Times.{times_of};
 
+use crate::gather::gather;
 use crate::records::record_of;
-use crate::shares::{Share, shares_of};
-use crate::times::times_of;
+use crate::shares::{Share, empty_shares};
+use crate::times::{add_control_times, put_in_order};
 use mp_model::{Control, Event, Query, Rec, Shape, Time};
 use std::alloc::{AllocError, Global};
 use std::marker::Model;
@@ -45,7 +46,7 @@ impl<Q: Query> Job<Q> {
     pub fn new(
         alloc: Global,
         query: Q,
-        events: Vec<Event>,
+        mut events: Vec<Event>,
         controls: Vec<Control>,
         shape: Shape,
     ) -> Result<Job<Q>, AllocError>
@@ -55,8 +56,12 @@ impl<Q: Query> Job<Q> {
         requires controls { ControlsFit shape controls.items }
         ensures { IfOk result (λ job. job ≡ job_of (Q.rules query) events.items controls.items shape) }
     {
-        let shares = shares_of(alloc, &query, &events, shape.workers)?;
-        let times = times_of(alloc, &query, &events, &controls)?;
+        let mut shares = empty_shares(alloc, shape.workers)?;
+        let mut times = Vec::new(alloc);
+        gather(&query, &mut events, &mut shares, &mut times)?;
+        add_control_times(&controls, &mut times)?;
+        put_in_order(&mut times);
+        times.shrink_to_fit();
         Ok(Job {
             query,
             events,

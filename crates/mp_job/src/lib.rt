@@ -4,6 +4,7 @@
 //! times at which something happens. Nothing here applies a group.
 #![tactic(auto)]
 
+mod gather;
 mod job;
 mod laws;
 mod records;

@@ -1,5 +1,5 @@
 //! The record of an event.
-ghost use Rattle.std.specs.Prelude.{◌≡◌, ◌≤◌, ℕ, IfOk, is_some};
+ghost use Rattle.std.specs.Prelude.{◌≡◌, ◌≤◌, IfOk};
 ghost use Rattle.mp_names.specs.Limits.{last_time};
 ghost use Rattle.mp_model.specs.Stages.{record_of};
 
@@ -20,12 +20,4 @@ pub fn record_of<Q: Query>(query: &Q, index: u32, event: &Event) -> Result<Optio
         })),
         None => Ok(None),
     }
-}
-
-/// Whether the event has a record, whatever its index.
-pub fn makes_record<Q: Query>(query: &Q, event: &Event) -> bool
-    requires { event.now.time ≤ last_time }
-    ensures { (index : ℕ) → result ≡ is_some (record_of (Q.facts (Q.rules query.now)) index event.now) }
-{
-    query.key(0, event.time, &event.value).is_some()
 }

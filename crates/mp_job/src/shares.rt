@@ -1,11 +1,7 @@
 //! Which records each worker takes in.
-ghost use Rattle.std.specs.Prelude.{◌≡◌, ◌<◌, IfOk, length};
-ghost use Rattle.mp_model.specs.Legal.{EventsAreLegal};
-ghost use Rattle.mp_job.specs.Parts.{shares_of};
-ghost use Rattle.mp_job.specs.Records.{is_taken_by, share_of};
+ghost use Rattle.std.specs.Prelude.{◌≡◌, ◌++◌, ◌∷◌, [], IfOk, OnOk, map};
+ghost use Rattle.std.specs.List.{range_with_len};
 
-use crate::records::makes_record;
-use mp_model::{Event, Query};
 use std::alloc::{AllocError, Global};
 use std::marker::Model;
 
@@ -24,26 +20,21 @@ impl Model for Share {
 }
 
 impl Share {
-    /// The share of a worker: the events that make a record and whose index modulo the number of workers is the
-    /// worker's. `AllocError`: no memory.
-    pub fn new<Q: Query>(
-        alloc: Global,
-        query: &Q,
-        events: &[Event],
-        workers: u32,
-        worker: u32,
-    ) -> Result<Share, AllocError>
-        requires legal { EventsAreLegal events.now }
-        requires some_worker { 0 < workers }
-        ensures { IfOk result (λ s. s ≡ share_of (Q.facts (Q.rules query.now)) events.now workers worker) }
+    /// A share of no events.
+    pub fn new(alloc: Global) -> Share
+        ensures { result ≡ [] }
     {
-        let mut indices = Vec::new(alloc);
-        for index in 0..events.len() {
-            if is_taken_by(query, events, workers, worker, index) {
-                indices.push(index as u32)?;
-            }
+        Share {
+            indices: Vec::new(alloc),
         }
-        Ok(Share { indices })
+    }
+
+    /// Adds an index at the end. `AllocError`: no memory.
+    pub fn push(&mut self, index: u32) -> Result<(), AllocError>
+        ensures { OnOk result (self.new ≡ self.old ++ index ∷ []) }
+    {
+        self.indices.push(index)?;
+        Ok(())
     }
 
     /// The indices, ascending.
@@ -54,36 +45,13 @@ impl Share {
     }
 }
 
-// Whether the event of this index makes a record that the worker takes in.
-fn is_taken_by<Q: Query>(
-    query: &Q,
-    events: &[Event],
-    workers: u32,
-    worker: u32,
-    index: usize,
-) -> bool
-    requires legal { EventsAreLegal events.now }
-    requires some_worker { 0 < workers }
-    requires inside { index < length events.now }
-    ensures { result ≡ is_taken_by (Q.facts (Q.rules query.now)) events.now workers worker index }
-{
-    index as u32 % workers == worker && makes_record(query, &events[index])
-}
-
-/// The shares of all workers, by their numbers. `AllocError`: no memory.
-pub fn shares_of<Q: Query>(
-    alloc: Global,
-    query: &Q,
-    events: &[Event],
-    workers: u32,
-) -> Result<Vec<Share>, AllocError>
-    requires { EventsAreLegal events.now }
-    ensures { IfOk result (λ v. v.items ≡ shares_of (Q.facts (Q.rules query.now)) events.now workers) }
+/// A share of no events for each worker. `AllocError`: no memory.
+pub fn empty_shares(alloc: Global, workers: u32) -> Result<Vec<Share>, AllocError>
+    ensures { IfOk result (λ v. v.items ≡ map (λ _. []) (range_with_len 0 workers)) }
 {
     let mut shares = Vec::new(alloc);
-    for worker in 0..workers {
-        let share = Share::new(alloc, query, events, workers, worker)?;
-        shares.push(share)?;
+    for _ in 0..workers {
+        shares.push(Share::new(alloc))?;
     }
     Ok(shares)
 }

@@ -1,5 +1,5 @@
 -- The frontier of a location from those of what comes right before it.
-use Rattle.std.proofs.Common.{◌≡◌, ◌⊎◌, ℕ, zero, suc, ◌<◌, ◌≤◌, min, length, get_or, ℤ, pos, refl, sym, subst, ◌∙◌, inl, inr, ⊎_elim, arith}
+use Rattle.std.proofs.Common.{◌≡◌, ◌⊎◌, ℕ, zero, suc, ◌<◌, ◌≤◌, min, ℤ, pos, refl, sym, subst, inl, inr, ⊎_elim, arith}
 use Rattle.std.proofs.lemmas.Bool.{cases_lt, false≢true, le-leb}
 use Rattle.mp_names.specs.declared.locations.Frontier.{Frontier}
 use Rattle.mp_names.specs.declared.locations.Frontier.TheVariants.{At, Done}
@@ -8,11 +8,10 @@ use Rattle.mp_names.specs.declared.locations.Loc.TheVariants.{Ctl, CtlMail, Sour
 use Rattle.mp_names.specs.Frontiers.{IsFrontierOf, IsQuiet}
 use Rattle.mp_names.specs.Locations.{Feeds, IsLocation, Reaches, goes, stays}
 use Rattle.mp_names.proofs.Reach.{path_from_table, reach_on, table_from_path}
-use Rattle.mp_stamps.specs.Counts.{CountTable, IsTable, count_in, row_of}
+use Rattle.mp_stamps.specs.Counts.{CountTable, count_in}
 use Rattle.mp_stamps.specs.Flow.{IsFirstTime, earlier_of, origin_of}
 use Rattle.mp_stamps.specs.Places.{place_of, places_of}
-use Rattle.mp_stamps.specs.Rows.{IsFirstOpen}
-use Rattle.mp_stamps.proofs.Tables.{HasNot, count_in_there, find_time, location_placed, never_falls, no_time, place_inside, rises, row_length}
+use Rattle.mp_stamps.proofs.Tables.{location_placed, place_inside}
 
 -- Least times
 
@@ -232,23 +231,3 @@ at_out_route table kept n ctl_mail origin own both f few none =
     (near_out n a r (location_placed n a l)))
     (λ (l : places_of n ≤ place_of a). none a t (λ i. let p = place_inside kept a i in absurd (omega arith)))
     (cases_lt (place_of a) (places_of n)))
-
--- The first time of a row
-
-module _ (table : CountTable) (loc : Loc) (first : ℕ) (h : IsTable table) (inside : place_of loc < length table.rows) (is : IsFirstOpen (row_of table loc) first) where
-  zero_before : (t : ℕ) → ((k : ℕ) → k < length table.times → get_or table.times k 0 ≡ t → k < first) → count_in table loc t ≡ pos 0
-  zero_before t below =
-      ⊎_elim
-      (λ (f : (k : ℕ) × (k < length table.times) × (get_or table.times k 0 ≡ t)).
-      subst (λ (u : ℕ). count_in table loc u ≡ pos 0) f.2 (count_in_there table loc f.0 h inside f.1 ∙ is.quiet f.0 (below f.0 f.1 f.2)))
-      (λ (n : HasNot table.times t). no_time table loc t n)
-      (find_time table.times t)
-
-  pub first_time_at : first < length table.times → IsFirstTime (count_in table loc) (At (get_or table.times first 0))
-  first_time_at l = (
-    (λ q. is.open_there (omega (arith, l, row_length table loc h inside)) (sym (count_in_there table loc first h inside l) ∙ q)),
-    (λ u m. zero_before u (λ k b e. ⊎_elim (λ (p : k < first). p) (λ (p : first ≤ k). let r = never_falls table.times (rises table.times h.rising) first k p b in absurd (omega arith)) (cases_lt k first))),
-  )
-
-  pub no_first_time : length table.times ≤ first → IsFirstTime (count_in table loc) Done
-  no_first_time l = λ u. zero_before u (λ k b e. omega arith)

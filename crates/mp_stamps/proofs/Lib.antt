@@ -6,3 +6,4 @@ pub mod Parts
 pub mod Tables
 pub mod Edges
 pub mod Seeing
+pub mod LeastTimes

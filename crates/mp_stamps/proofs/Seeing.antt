@@ -57,12 +57,13 @@ module _ (cs : CountTable) (fs : List Frontier) (n i j : ℕ) (out_route out_mai
       inside : (p : ℕ) → p ≢ 3 → p ≢ 4 → (p < 3) ⊎ (4 < p)
       inside p m n = grind arith
 
--- no frontier is put at a place from this one on
-abbrev pub NoneFrom : List Frontier → ℕ → Type 0
-NoneFrom fs n = (p : ℕ) → n ≤ p → get_or fs p Done ≡ Done
+-- what is put nowhere
+pub at_first_none : (n p : ℕ) → get_or (replicate n Done) p Done ≡ Done
+at_first_none n p = ⊎_elim (λ (k : p < n). get_or-replicate n p Done Done k) (λ (k : n ≤ p). get_or_past (replicate n Done) p Done (omega (arith, length-replicate n Done))) (cases_lt p n)
 
-pub none_at_first : (n : ℕ) → NoneFrom (replicate n Done) 0
-none_at_first n p l = ⊎_elim (λ (k : p < n). get_or-replicate n p Done Done k) (λ (k : n ≤ p). get_or_past (replicate n Done) p Done (omega (arith, length-replicate n Done))) (cases_lt p n)
+-- no other frontier is put at a place from this one on
+abbrev pub StandsFrom : List Frontier → List Frontier → ℕ → Type 0
+StandsFrom old fs n = (p : ℕ) → n ≤ p → get_or fs p Done ≡ get_or old p Done
 
-pub none_past : (fs : List Frontier) (i n m : ℕ) (f : Frontier) → i < m → n ≤ m → NoneFrom fs n → NoneFrom (set fs i f) m
-none_past fs i n m f l k h p q = get_or-set_other fs i p f Done (λ e. absurd (omega arith)) ∙ h p (omega arith)
+pub stands_past : (old fs : List Frontier) (i n m : ℕ) (f : Frontier) → i < m → n ≤ m → StandsFrom old fs n → StandsFrom old (set fs i f) m
+stands_past old fs i n m f l k h p q = get_or-set_other fs i p f Done (λ e. absurd (omega arith)) ∙ h p (omega arith)

@@ -6,7 +6,7 @@ use Rattle.std.specs.List.Sorted.{IsBinarySearchResult, IsStrictlyIncreasing}
 use Rattle.std.specs.Ordering.{nat_cmp}
 use Rattle.std.proofs.lemmas.Bool.{cases_eq, cases_lt, eqb-true, eq-eqb, false_from_ne_true}
 use Rattle.std.proofs.lemmas.Grind.{get_or_default_zero}
-use Rattle.std.proofs.lemmas.List.{get_or_default, get_or_past, get_or-set_same, get_or-set_other, length-set}
+use Rattle.std.proofs.lemmas.List.{get_or_default, get_or_past, get_or-set_same, get_or-set_other, length-replicate, length-set}
 use Rattle.std.proofs.lemmas.List.Elements.{All-get_or, All-set}
 use Rattle.std.proofs.lemmas.List.Kept.{AllPairs-from_increasing}
 use Rattle.std.proofs.lemmas.List.Sorted.{searched}
@@ -14,6 +14,7 @@ use Rattle.mp_names.specs.declared.locations.Frontier.TheVariants.{At, Done}
 use Rattle.mp_names.specs.declared.locations.Loc.{Loc}
 use Rattle.mp_names.specs.declared.locations.Loc.TheVariants.{Ctl, CtlMail, Source, Route, Mail, Move, State, Host, OutRoute, OutMail}
 use Rattle.mp_names.specs.Frontiers.{IsFrontierOf, IsQuiet}
+use Rattle.mp_names.specs.Limits.{most_stages_seen}
 use Rattle.mp_names.specs.Locations.{IsLocation, Reaches}
 use Rattle.mp_stamps.specs.Counts.{CountTable, IsCounted, IsFirstFor, IsTable, count_in, count_of, row_of}
 use Rattle.mp_stamps.specs.Places.{place_of, places_of}
@@ -280,6 +281,14 @@ no_counts table n h a t =
     (λ (l : place_of a < length table.rows). ap (λ (row : List ℤ). count_of table.times row t) (All-get_or (λ (row : List ℤ). row ≡ replicate n (pos 0)) table.rows (place_of a) [] l h) ∙ count_of_zeros table.times n t)
     (λ (l : length table.rows ≤ place_of a). no_row table a t l)
     (cases_lt (place_of a) (length table.rows))
+
+pub zero_table : (stages : ℕ) (times own : List ℕ) (rows : List (List ℤ)) → stages ≤ most_stages_seen → IsStrictlyIncreasing times → times ≡ own → length rows ≡ places_of stages → All (λ (row : List ℤ). row ≡ replicate (length times) (pos 0)) rows → IsTable (record { stages = stages; times = own; rows = rows })
+zero_table stages times own rows few rising same places zeros = record {
+  few_stages = few;
+  rising = subst IsStrictlyIncreasing same rising;
+  each_place = places;
+  each_time = λ i row l. let z = zeros i row l in ap length z ∙ length-replicate (length times) (pos 0) ∙ ap length same;
+}
 
 -- What a search among the times finds
 

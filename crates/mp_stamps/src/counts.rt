@@ -1,17 +1,19 @@
 //! Counts by location and time.
-ghost use Rattle.std.specs.Prelude.{◌≡◌, ◌<◌, ◌≤◌, ℕ, pos, ◌+ℤ◌, Contains, IfOk, OnOk, FitsSigned, List, length};
+ghost use Rattle.std.specs.Prelude.{◌≡◌, ◌<◌, ◌≤◌, ℕ, pos, ◌+ℤ◌, Contains, IfOk, OnOk, FitsSigned, List, length, true, false};
 ghost use Rattle.std.specs.Int.{w128};
 ghost use Rattle.std.specs.List.Sorted.{IsStrictlyIncreasing};
 ghost use Rattle.mp_names.specs.Frontiers.{IsFrontierOf};
 ghost use Rattle.mp_names.specs.Limits.{most_stages_seen};
 ghost use Rattle.mp_names.specs.Locations.{IsLocation};
+ghost use Rattle.mp_names.specs.declared.locations.Frontier.{Frontier};
 ghost use Rattle.mp_names.specs.declared.locations.Loc.{Loc};
 ghost use Rattle.mp_stamps.specs.Counts.{AreZeroRows, IsCounted, IsFirstFor, SamePlaces, count_in};
-ghost use Rattle.mp_stamps.specs.Flow.{IsFirstTime};
+ghost use Rattle.mp_stamps.specs.Flow.{IsFirstTime, KeepsFrontiers};
 ghost use Rattle.mp_stamps.specs.Places.{places_of};
 
+use crate::least::{first_in, has_moved};
 use crate::near::index_of;
-use crate::place::{loc_at, place_of};
+use crate::place::{PLACES, loc_at, place_of};
 use crate::reaching::reaches;
 use crate::row::Row;
 use mp_names::{Frontier, Loc, Time};
@@ -28,6 +30,8 @@ pub struct Counts {
     times: Vec<Time>,
     // By the places of locations, and in each by time.
     rows: Vec<Row>,
+    // By the places of locations: the least time with a count other than 0.
+    firsts: [Frontier; PLACES],
 }
 
 impl Model for Counts {
@@ -36,10 +40,13 @@ impl Model for Counts {
     ghost Value = { CountTable };
 
     ghost use Rattle.mp_stamps.specs.Counts.{IsTable};
+    ghost use Rattle.mp_stamps.specs.Flow.{AreFirstTimes};
 
     ghost view = { λ c. record { stages = c.stages; times = c.times.items; rows = c.rows.items } };
 
-    ghost invariant = { λ c. IsTable (record { stages = c.stages; times = c.times.items; rows = c.rows.items }) };
+    ghost invariant = { λ c.
+        IsTable (record { stages = c.stages; times = c.times.items; rows = c.rows.items })
+        × AreFirstTimes (record { stages = c.stages; times = c.times.items; rows = c.rows.items }) c.firsts };
 }
 
 impl Counts {
@@ -59,27 +66,36 @@ impl Counts {
             stages,
             times: own,
             rows,
+            firsts: [Frontier::Done; PLACES],
         })
     }
 
-    /// Adds to the count of a location at a time. What is added where no count is kept is dropped: at a location that the
+    /// Adds to the count of a location at a time, and gives whether another time is now the least there with a count other
+    /// than 0; where it isn't, all frontiers stay. What is added where no count is kept is dropped: at a location that the
     /// job hasn't, or a time that isn't in the list. The sum fits an `i128`.
-    pub fn add(&mut self, loc: Loc, time: Time, by: i64)
+    pub fn add(&mut self, loc: Loc, time: Time, by: i64) -> bool
         requires { IsCounted self.old loc time → FitsSigned w128 (count_in self.old loc time +ℤ by) }
         ensures counted { IsCounted self.old loc time → count_in self.new loc time ≡ count_in self.old loc time +ℤ by }
         ensures dropped { ¬ IsCounted self.old loc time → count_in self.new loc time ≡ count_in self.old loc time }
         ensures others { (at : Loc) (t : ℕ) → ¬ ((at ≡ loc) × (t ≡ time)) → count_in self.new at t ≡ count_in self.old at t }
         ensures same { SamePlaces self.old self.new }
+        ensures still { result ≡ false → KeepsFrontiers self.old self.new }
+        ensures moved { result ≡ true → (f : Frontier) →
+            IsFirstTime (count_in self.old loc) f → ¬ IsFirstTime (count_in self.new loc) f }
     {
         let place = place_of(loc);
         if place >= self.rows.len() {
-            return;
+            return false;
         }
         let near = self.rows[place].near();
         let Ok(index) = index_of(&self.times, near, time) else {
-            return;
+            return false;
         };
         self.rows[place].add(index, by);
+        let before = self.firsts[place];
+        let after = first_in(&self.times, &self.rows[place]);
+        self.firsts[place] = after;
+        has_moved(before, after)
     }
 
     /// The count of a location at a time, 0 where none is kept.
@@ -111,12 +127,8 @@ impl Counts {
     pub(crate) fn first_time(&self, loc: Loc) -> Frontier
         ensures { IsFirstTime (count_in self.now loc) result }
     {
-        let place = place_of(loc);
-        if place >= self.rows.len() {
-            return Frontier::Done;
-        }
-        match self.times.get(self.rows[place].first()) {
-            Some(time) => Frontier::At(*time),
+        match self.firsts.get(place_of(loc)) {
+            Some(first) => *first,
             None => Frontier::Done,
         }
     }

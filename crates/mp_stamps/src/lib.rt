@@ -7,6 +7,7 @@
 mod counts;
 mod flow;
 mod frontiers;
+mod least;
 mod near;
 mod place;
 mod reaching;

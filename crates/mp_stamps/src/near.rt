@@ -11,6 +11,9 @@ pub(crate) fn index_of(times: &[Time], near: usize, time: Time) -> Result<usize,
     ensures { IsBinarySearchResult (λ t. nat_cmp t time) times.now result }
 {
     let middle = near.min(times.len());
+    if middle < times.len() && times[middle] == time {
+        return Ok(middle);
+    }
     let from = back_to(times, middle, time);
     let to = on_to(times, middle, time);
     match times[from..to].binary_search(&time) {

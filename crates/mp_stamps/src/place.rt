@@ -5,6 +5,9 @@ ghost use Rattle.mp_stamps.specs.Places.{place_of};
 
 use mp_names::Loc;
 
+/// How many places there may be: five of locations without a stage, and five of each stage.
+pub(crate) const PLACES: usize = 25;
+
 /// The place of a location.
 pub(crate) fn place_of(loc: Loc) -> usize
     ensures { result ≡ place_of loc }

@@ -1,5 +1,5 @@
 //! What a worker saw at its last exchange.
-ghost use Rattle.std.specs.Prelude.{◌≡◌, ◌≤◌, ℕ, get_or};
+ghost use Rattle.std.specs.Prelude.{◌≡◌, ◌≤◌, ℕ, false, get_or};
 ghost use Rattle.mp_names.specs.Frontiers.{IsFrontierOf};
 ghost use Rattle.mp_names.specs.Limits.{most_stages_seen};
 ghost use Rattle.mp_names.specs.declared.locations.Frontier.TheVariants.{Done};
@@ -12,11 +12,8 @@ ghost use Rattle.mp_stamps.specs.Seen.{seen_at};
 
 use crate::counts::Counts;
 use crate::flow::{earlier, of_stage};
-use crate::place::place_of;
+use crate::place::{PLACES, place_of};
 use mp_names::{Frontier, Loc};
-
-// Five locations have no stage, and five are of each stage.
-const PLACES: usize = 25;
 
 /// The frontier of each location as it was seen at an exchange, and how many changes of the posted logs
 /// came before. It has a fixed size, and takes no memory.
@@ -36,10 +33,30 @@ impl Seen {
         ensures frontiers { (at : Loc) → IsLocation stages at → IsFrontierOf (count_in counts.now) at (seen_at result at) }
         ensures others { (at : Loc) → ¬ IsLocation stages at → seen_at result at ≡ Done }
     {
+        let mut frontiers = [Frontier::Done; PLACES];
+        put_frontiers(stages, counts, &mut frontiers);
         Seen {
             version,
             stages,
-            frontiers: frontiers_of(stages, counts),
+            frontiers,
+        }
+    }
+
+    /// Sees this version, and the frontiers that the counts show: they are found anew only where a least time has moved
+    /// since those that were seen were shown.
+    pub fn follow(&mut self, version: u64, moved: bool, counts: &Counts)
+        requires stages { self.old.stages ≤ most_stages_seen }
+        requires shown { moved ≡ false → (at : Loc) → IsLocation self.old.stages at →
+            IsFrontierOf (count_in counts.now) at (seen_at self.old at) }
+        ensures version { self.new.version ≡ version }
+        ensures stages { self.new.stages ≡ self.old.stages }
+        ensures frontiers { (at : Loc) → IsLocation self.old.stages at →
+            IsFrontierOf (count_in counts.now) at (seen_at self.new at) }
+        ensures others { (at : Loc) → ¬ IsLocation self.old.stages at → seen_at self.new at ≡ seen_at self.old at }
+    {
+        self.version = version;
+        if moved {
+            put_frontiers(self.stages, counts, &mut self.frontiers);
         }
     }
 
@@ -68,13 +85,14 @@ impl Seen {
     }
 }
 
-// The frontiers of the locations of so many stages, by their places, in one pass along the dataflow.
-fn frontiers_of(stages: u32, counts: &Counts) -> [Frontier; PLACES]
+// Puts the frontiers of the locations of so many stages at their places, in one pass along the dataflow.
+fn put_frontiers(stages: u32, counts: &Counts, frontiers: &mut [Frontier; PLACES])
     requires { stages ≤ most_stages_seen }
-    ensures frontiers { (at : Loc) → IsLocation stages at → IsFrontierOf (count_in counts.now) at (get_or result (place_of at) Done) }
-    ensures others { (at : Loc) → ¬ IsLocation stages at → get_or result (place_of at) Done ≡ Done }
+    ensures frontiers { (at : Loc) → IsLocation stages at →
+        IsFrontierOf (count_in counts.now) at (get_or frontiers.new (place_of at) Done) }
+    ensures others { (at : Loc) → ¬ IsLocation stages at →
+        get_or frontiers.new (place_of at) Done ≡ get_or frontiers.old (place_of at) Done }
 {
-    let mut frontiers = [Frontier::Done; PLACES];
     let own_ctl_mail = counts.first_time(Loc::CtlMail);
     let ctl = counts.first_time(Loc::Ctl);
     let ctl_mail = earlier(ctl, own_ctl_mail);
@@ -99,7 +117,6 @@ fn frontiers_of(stages: u32, counts: &Counts) -> [Frontier; PLACES]
     let out_mail = earlier(out_route, own_out_mail);
     frontiers[place_of(Loc::OutRoute)] = out_route;
     frontiers[place_of(Loc::OutMail)] = out_mail;
-    frontiers
 }
 
 // The frontier of what the answer's rows come from, from that of what the records of a stage come from, where the counts may

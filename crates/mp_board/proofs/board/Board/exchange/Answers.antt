@@ -1,18 +1,20 @@
 use Rattle.std.proofs.Common.{◌≡◌, ◌==◌, ◌<◌, ◌∙◌, ℕ, arith, length, suc, cond, List, ap, map, set, subst, sym}
 use Rattle.std.proofs.lemmas.List.{map-set}
-use Rattle.mp_names.specs.declared.locations.Loc.{Loc}
-use Rattle.mp_names.specs.Frontiers.{log_at}
+use Rattle.mp_names.specs.Frontiers.{count_at, log_at}
 use Rattle.mp_names.specs.Laws.{log_size}
 use Rattle.mp_names.specs.Locations.{IsLocation}
 use Rattle.mp_names.specs.Logs.{Log}
+use Rattle.mp_stamps.specs.Counts.{count_in}
+use Rattle.mp_stamps.specs.Seen.{seen_at}
 use Rattle.mp_rows.specs.WorkerLog.{IsUnposted, WorkerLog}
 use Rattle.mp_board.specs.Boards.{Posted}
 use Rattle.mp_board.specs.Soundness.{BoardIsSound}
 use Rattle.mp_board.proofs.Posting.{log_posted, posted_here, room_for_changes, told, version_by_log, version_fits, version_is}
+use Rattle.mp_board.proofs.Recounted.{frontier_of_equal}
 use Rattle.mp_board.proofs.board.Board.exchange.Goals as goal
 
-pub add_all-requires : goal.add_all-requires
-add_all-requires g c =
+pub add_all-moved-requires : goal.add_all-moved-requires
+add_all-moved-requires g c =
     let o = g.O.Outlined.outline in
     let s = c.self.inside in
     let w = c.args.worker in
@@ -33,6 +35,19 @@ next_version-version-requires g c =
     let un : IsUnposted o w before.posted before.log c.changes.result.now = subst (λ (n : ℕ). IsUnposted o n before.posted before.log c.changes.result.now) c.requires.own c.changes.ensures in
     rw c.version.ensures (version_fits o logs s.counts s.seen w before.posted before.log c.changes.result.now c.self.invariant c.requires.worker here un)
 
+pub follow-requires-clause-shown : goal.follow-requires-clause-shown
+follow-requires-clause-shown g c =
+    let o = g.O.Outlined.outline in
+    let s = c.self.inside in
+    let logs : List Log = map (λ l. l.value.log) s.logs.items in
+    λ still at has.
+    let stood = c.self.invariant.frontiers at (subst (λ (n : ℕ). IsLocation n at) c.self.invariant.seen_stages has) in
+    c.add_all-moved.ensures.still still at (seen_at s.seen at)
+    (frontier_of_equal (count_at o (log_at logs)) (count_in s.counts) (λ loc t. sym (c.self.invariant.counted loc t)) at (seen_at s.seen at) stood)
+
+pub follow-requires-clause-stages : goal.follow-requires-clause-stages
+follow-requires-clause-stages g c = omega (arith, c.self.invariant.seen_stages, c.self.invariant.few_stages)
+
 pub invariant_of-self : goal.invariant_of-self
 invariant_of-self g c =
     let o = g.O.Outlined.outline in
@@ -43,11 +58,10 @@ invariant_of-self g c =
     let here : log_at logs w ≡ before.posted = ap (λ (b : Posted). log_at b.logs w) c.self.view_is ∙ c.requires.posted in
     let un : IsUnposted o w before.posted before.log c.changes.result.now = subst (λ (n : ℕ). IsUnposted o n before.posted before.log c.changes.result.now) c.requires.own c.changes.ensures in
     let is : map (λ l. l.value.log) (set s.logs.items w c.of.result) ≡ set logs w before.log = map-set (λ l. l.value.log) s.logs.items w c.of.result ∙ ap (λ (l : WorkerLog). set logs w l.log) (c.of.ensures ∙ c.post.ensures) in
-    let version : c.of-self-inside.result.version ≡ cond (log_size before.log == log_size before.posted) s.seen.version (suc s.seen.version) = version_is _ _ _ _ _ _ c.of-self-inside.ensures.version c.next_version-version.ensures c.version.ensures c.is_posted.ensures in
+    let version : c.follow.new.self.version ≡ cond (log_size before.log == log_size before.posted) s.seen.version (suc s.seen.version) = version_is _ _ _ _ _ _ c.follow.ensures.version c.next_version-version.ensures c.version.ensures c.is_posted.ensures in
     let legal = c.requires.legal in
-    let frontiers = λ (at : Loc) (has : IsLocation s.seen.stages at). c.of-self-inside.ensures.frontiers at (subst (λ (n : ℕ). IsLocation n at) (sym c.stages.ensures) has) in
-    subst (λ (ls : List Log). BoardIsSound o ls c.add_all.new.counts c.of-self-inside.result) (sym is)
-    (log_posted o logs s.counts s.seen w before.posted before.log c.changes.result.now c.self.invariant c.requires.worker here un legal c.add_all.new.counts c.add_all.ensures.counted c.add_all.ensures.dropped c.add_all.ensures.same c.add_all.ensures.room c.of-self-inside.result version (c.of-self-inside.ensures.stages ∙ c.stages.ensures) frontiers)
+    subst (λ (ls : List Log). BoardIsSound o ls c.add_all-moved.new.counts c.follow.new.self) (sym is)
+    (log_posted o logs s.counts s.seen w before.posted before.log c.changes.result.now c.self.invariant c.requires.worker here un legal c.add_all-moved.new.counts c.add_all-moved.ensures.counted c.add_all-moved.ensures.dropped c.add_all-moved.ensures.same c.add_all-moved.ensures.room c.follow.new.self version c.follow.ensures.stages c.follow.ensures.frontiers)
 
 pub returns-clause-posted : goal.returns-clause-posted
 returns-clause-posted g c =
@@ -75,7 +89,7 @@ pub returns-clause-told : goal.returns-clause-told
 returns-clause-told g c =
     let s = c.self.inside in
     let sound = invariant_of-self g c in
-    told g.O.Outlined.outline (map (λ l. l.value.log) (set s.logs.items c.args.worker c.of.result)) c.args.worker c.args.log.now.log c.of-self-inside.result sound.outline sound.legal_logs c.requires.worker (returns-clause-own_log g c) sound.frontiers
+    told g.O.Outlined.outline (map (λ l. l.value.log) (set s.logs.items c.args.worker c.of.result)) c.args.worker c.args.log.now.log c.follow.new.self sound.outline sound.legal_logs c.requires.worker (returns-clause-own_log g c) sound.frontiers
 
 pub returns-clause-version : goal.returns-clause-version
 returns-clause-version g c =
@@ -86,6 +100,6 @@ returns-clause-version g c =
     let logs : List Log = map (λ l. l.value.log) s.logs.items in
     let here : log_at logs w ≡ before.posted = ap (λ (b : Posted). log_at b.logs w) c.self.view_is ∙ c.requires.posted in
     let un : IsUnposted o w before.posted before.log c.changes.result.now = subst (λ (n : ℕ). IsUnposted o n before.posted before.log c.changes.result.now) c.requires.own c.changes.ensures in
-    let version : c.of-self-inside.result.version ≡ cond (log_size before.log == log_size before.posted) s.seen.version (suc s.seen.version) = version_is _ _ _ _ _ _ c.of-self-inside.ensures.version c.next_version-version.ensures c.version.ensures c.is_posted.ensures in
+    let version : c.follow.new.self.version ≡ cond (log_size before.log == log_size before.posted) s.seen.version (suc s.seen.version) = version_is _ _ _ _ _ _ c.follow.ensures.version c.next_version-version.ensures c.version.ensures c.is_posted.ensures in
     let stood = sym (ap (λ (b : Posted). log_at b.logs w) c.self.view_is) ∙ here in
-    rw (ap (λ (b : Posted). b.version) c.self.view_is) at (version_by_log c.of-self-inside.result.version s.seen.version before.posted before.log (log_at c.args.self.now.logs w) un.grows stood version)
+    rw (ap (λ (b : Posted). b.version) c.self.view_is) at (version_by_log c.follow.new.self.version s.seen.version before.posted before.log (log_at c.args.self.now.logs w) un.grows stood version)

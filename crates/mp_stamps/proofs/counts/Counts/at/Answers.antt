@@ -15,7 +15,7 @@ returns-then-place-len c =
 pub returns-in-Ok : goal.returns-in-Ok
 returns-in-Ok c =
     let table = c.args.self.now in
-    let h : IsTable table = subst IsTable c.self.view_is c.self.invariant in
+    let h : IsTable table = subst IsTable c.self.view_is c.self.invariant.0 in
     let place : place_of c.args.loc < length table.rows = search rules in
     let fits : SFits w128 c.at.result = search rules in
     let there : Searched table c.args.time h c.binary_search.result = searched_in c.deref.result.now table.times c.args.time c.binary_search.result (c.deref.ensures.value ∙ ap (λ (n : CountTable). n.times) c.self.view_is) c.binary_search.ensures.position in
@@ -25,6 +25,6 @@ returns-in-Ok c =
 pub returns-in-Err : goal.returns-in-Err
 returns-in-Err c =
     let table = c.args.self.now in
-    let h : IsTable table = subst IsTable c.self.view_is c.self.invariant in
+    let h : IsTable table = subst IsTable c.self.view_is c.self.invariant.0 in
     let there : Searched table c.args.time h c.binary_search.result = searched_in c.deref.result.now table.times c.args.time c.binary_search.result (c.deref.ensures.value ∙ ap (λ (n : CountTable). n.times) c.self.view_is) c.binary_search.ensures.position in
     sym (no_time table c.args.loc c.args.time (missed_time table c.args.time h c.binary_search.result c.in-Err.field-0 there c.in-Err.is))

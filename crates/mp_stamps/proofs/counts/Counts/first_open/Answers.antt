@@ -15,7 +15,7 @@ loop-place-preserved c =
     let n = c.loop-place.place in
     let first = c.loop-place.first in
     let here = c.loc_at.result in
-    let h : IsTable table = subst IsTable c.self.view_is c.self.invariant in
+    let h : IsTable table = subst IsTable c.self.view_is c.self.invariant.0 in
     let inside : n < places_of table.stages = search rules in
     elim c.if-reaches.branch [
       | then-reaches w ↦

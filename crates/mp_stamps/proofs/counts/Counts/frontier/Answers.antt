@@ -9,7 +9,7 @@ pub returns-in-Some : goal.returns-in-Some
 returns-in-Some c =
     let table = c.args.self.now in
     let first = c.first_open.result in
-    let h : IsTable table = subst IsTable c.self.view_is c.self.invariant in
+    let h : IsTable table = subst IsTable c.self.view_is c.self.invariant.0 in
     let inside : first < length table.times = search rules in
     let e : c.in-Some.time.now ≡ get_or table.times first 0 = search rules in
     subst (λ (u : ℕ). IsFrontierOf (count_in table) c.args.loc (At u)) (sym e) (frontier_at table c.args.loc first h c.first_open.ensures inside)
@@ -18,6 +18,6 @@ pub returns-in-None : goal.returns-in-None
 returns-in-None c =
     let table = c.args.self.now in
     let first = c.first_open.result in
-    let h : IsTable table = subst IsTable c.self.view_is c.self.invariant in
+    let h : IsTable table = subst IsTable c.self.view_is c.self.invariant.0 in
     let past : length table.times ≤ first = search rules in
     frontier_done table c.args.loc first h c.first_open.ensures past

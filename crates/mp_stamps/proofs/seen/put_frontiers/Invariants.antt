@@ -4,8 +4,8 @@ use Rattle.mp_names.specs.Frontiers.{IsFrontierOf}
 use Rattle.mp_stamps.specs.Counts.{count_in}
 use Rattle.mp_stamps.specs.Flow.{origin_of}
 use Rattle.mp_stamps.specs.Places.{places_of}
-use Rattle.mp_stamps.proofs.Seeing.{AreFound, NoneFrom}
-use Rattle.mp_stamps.proofs.seen.frontiers_of.Given as goal
+use Rattle.mp_stamps.proofs.Seeing.{AreFound, StandsFrom}
+use Rattle.mp_stamps.proofs.seen.put_frontiers.Given as goal
 
 abbrev pub invariant-loop-stage : goal.invariant-loop-stage
-invariant-loop-stage l = AreFound l.counts l.frontiers (places_of l.stage) × IsFrontierOf (count_in l.counts) (origin_of l.stage) l.origin × (length l.frontiers ≡ 25) × NoneFrom l.frontiers (places_of l.stage)
+invariant-loop-stage l = AreFound l.counts l.frontiers (places_of l.stage) × IsFrontierOf (count_in l.counts) (origin_of l.stage) l.origin × (length l.frontiers ≡ 25) × StandsFrom l.fn.frontiers l.frontiers (places_of l.stage)

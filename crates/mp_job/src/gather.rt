@@ -1,0 +1,85 @@
+//! What the events of a job are looked through for, once: the workers' shares, and the times of records.
+ghost use Rattle.std.specs.Prelude.{◌≡◌, ◌<◌, ◌≤◌, ◌++◌, [], OnOk, if◌then◌else◌, is_some, length, map, option_to_list};
+ghost use Rattle.std.specs.List.{range_with_len};
+ghost use Rattle.mp_names.specs.Limits.{last_time};
+ghost use Rattle.mp_model.specs.Folds.{times_in};
+ghost use Rattle.mp_model.specs.Legal.{EventsAreLegal};
+ghost use Rattle.mp_model.specs.Stages.{input_records, record_of};
+ghost use Rattle.mp_job.specs.Parts.{shares_of, with_index};
+
+use crate::shares::Share;
+use mp_model::{Event, Query, Rec, Tag, Time, Value};
+use std::alloc::AllocError;
+use std::mem;
+
+/// Puts the indices of the events that make a record into the shares of the workers, which are empty, and adds the times of
+/// these records and of their posts. The events stay. `AllocError`: no memory.
+pub fn gather<Q: Query>(
+    query: &Q,
+    events: &mut [Event],
+    shares: &mut [Share],
+    times: &mut Vec<Time>,
+) -> Result<(), AllocError>
+    requires legal { EventsAreLegal events.old }
+    requires some_worker { 0 < length shares.old }
+    requires empty { shares.old ≡ map (λ _. []) (range_with_len 0 (length shares.old)) }
+    ensures shares { OnOk result (shares.new ≡ shares_of (Q.facts (Q.rules query.now)) events.old (length shares.old)) }
+    ensures times { let q = Q.facts (Q.rules query.now) in
+        OnOk result (times.new.items ≡ times.old.items ++ times_in q 0 (input_records q events.old)) }
+    ensures events { events.new ≡ events.old }
+{
+    for index in 0..events.len() {
+        take_in(query, index as u32, &mut events[index], shares, times)?;
+    }
+    Ok(())
+}
+
+// Puts the index of an event, if it makes a record, into the share of its worker, and adds the times of the record. The
+// event's value is the record's meanwhile, so that it isn't copied.
+fn take_in<Q: Query>(
+    query: &Q,
+    index: u32,
+    event: &mut Event,
+    shares: &mut [Share],
+    times: &mut Vec<Time>,
+) -> Result<(), AllocError>
+    requires in_time { event.old.time ≤ last_time }
+    requires some_worker { 0 < length shares.old }
+    ensures shares { OnOk result (shares.new ≡
+        (if is_some (record_of (Q.facts (Q.rules query.now)) index event.old) then with_index index shares.old else shares.old)) }
+    ensures times { let q = Q.facts (Q.rules query.now) in
+        OnOk result (times.new.items ≡ times.old.items ++ times_in q 0 (option_to_list (record_of q index event.old))) }
+    ensures event { event.new ≡ event.old }
+{
+    let Some(key) = query.key(0, event.time, &event.value) else {
+        return Ok(());
+    };
+    let rec = Rec {
+        time: event.time,
+        key,
+        tag: Tag(0, u64::from(index)),
+        value: mem::replace(&mut event.value, no_value()),
+    };
+    let posts = query.posts(0, &rec);
+    event.value = rec.value;
+    add_index(shares, index)?;
+    times.push(event.time)?;
+    times.extend_from_slice(posts.as_slice())
+}
+
+// Puts an index into the share of its worker.
+fn add_index(shares: &mut [Share], index: u32) -> Result<(), AllocError>
+    requires { 0 < length shares.old }
+    ensures { OnOk result (shares.new ≡ with_index index shares.old) }
+{
+    let worker = index as usize % shares.len();
+    shares[worker].push(index)
+}
+
+// What stands in an event while its value is a record's.
+fn no_value() -> Value {
+    Value::Count {
+        auction: 0,
+        count: 0,
+    }
+}
