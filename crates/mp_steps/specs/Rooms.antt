@@ -1,5 +1,5 @@
 -- Hosts and movers but for the room that they have, and the room that a message needs.
-use Rattle.std.specs.Prelude.{◌≡◌, ◌≤◌, ◌<◌, ◌+◌, ℕ, All, List, [], Some, get_or, map, slice_get}
+use Rattle.std.specs.Prelude.{◌≡◌, ◌≤◌, ◌+◌, ℕ, All, List, [], Some, map, slice_get}
 use Rattle.std.specs.Vec.{vec_capacity}
 use Rattle.mp_model.specs.Facts.{JobFacts, QueryFacts}
 use Rattle.mp_route.specs.Routed.{Routed}
@@ -34,12 +34,6 @@ pub record HasRoomToTake {Cell : Type 0} (q : QueryFacts Cell) (job : JobFacts) 
   pub movers : All (λ (m : MoversState). 1 ≤ m.room) p.movers
   pub empty : (p.lists.numbers.items ≡ []) × (p.lists.changes.items ≡ [])
   pub lists : (number_of_times q job ≤ vec_capacity p.lists.numbers) × (number_of_times q job + 1 ≤ vec_capacity p.lists.changes)
-
--- There is room for a packet of the stage that is sent with so many changes: in the log, and in the movers of the stage
-pub record HasRoomToExtract {Cell : Type 0} (j listed : ℕ) (p : Contents Cell) : Type 0 where
-  pub names : 1 ≤ p.names
-  pub changes : listed ≤ p.changes
-  pub movers : (d : MoversState) → 0 < (get_or p.movers j d).room_for_sent
 
 -- There is room for a record that is ingested: in the log, and in the router of stage 0
 pub record HasRoomToIngest {Cell : Type 0} (p : Contents Cell) : Type 0 where

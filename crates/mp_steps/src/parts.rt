@@ -19,24 +19,31 @@ use std::snapshot::Snapshot;
 /// The parts of a worker of the job J of the query Q, with its log and what it saw: what a step may change. Contracts see
 /// `Contents`: the worker as its own contracts have it, and what the parts hold and have room for. By its invariant they
 /// hold what the log says, so a step's contract says what becomes of the log. The query's last stage gives rows alone.
+/// Fields are public for the steps of `mp_sends`: whoever changes one has to prove the invariant again.
 #[derive(Drop)]
 pub struct Parts<'a, Q: Query, J: Naming> {
-    pub(crate) alloc: Global,
-    pub(crate) job: &'a Job<Q>,
-    pub(crate) log: Log<OutlineOf<Q, J>>,
+    /// Where its memory comes from.
+    pub alloc: Global,
+    /// The job J.
+    pub job: &'a Job<Q>,
+    /// The worker's log.
+    pub log: Log<OutlineOf<Q, J>>,
     // The log that it posted last; no more than proofs see.
     pub(crate) posted: Snapshot<Log<OutlineOf<Q, J>>>,
-    pub(crate) seen: Seen,
-    // The control records that it took.
-    pub(crate) owners: Owners,
-    // On worker 0 the first control record that isn't sent.
-    pub(crate) next: ControlCursor,
-    // By the stages' numbers.
-    pub(crate) routers: Vec<Router<Q, J>>,
-    pub(crate) hosts: Vec<Host<'a, Q, J>>,
-    pub(crate) movers: Vec<Movers<Q, J>>,
-    // The answer rows of its own groups.
-    pub(crate) unsent: Unsent<Q, J>,
+    /// What it saw at its last exchange.
+    pub seen: Seen,
+    /// The control records that it took.
+    pub owners: Owners,
+    /// On worker 0 the first control record that isn't sent.
+    pub next: ControlCursor,
+    /// The records that it has to send, by stage.
+    pub routers: Vec<Router<Q, J>>,
+    /// What it hosts, by stage.
+    pub hosts: Vec<Host<'a, Q, J>>,
+    /// What it has to hand off, by stage.
+    pub movers: Vec<Movers<Q, J>>,
+    /// The answer rows of its own groups.
+    pub unsent: Unsent<Q, J>,
     // The answer rows that it took, on worker 0.
     pub(crate) rows: Rows<Q, J>,
     // For the next packet that it takes.

@@ -19,6 +19,7 @@ use mp_model::{Naming, Query};
 use mp_msg::Msg;
 use mp_names::{Kind, Name, Shape};
 use mp_outside::Sink;
+use mp_sends::{extract, route, send_control, send_row};
 use std::alloc::AllocError;
 
 impl<'a, Q: Query, J: Naming> Worker<'a, Q, J> {
@@ -106,13 +107,13 @@ impl<'a, Q: Query, J: Naming> Worker<'a, Q, J> {
     {
         match kind {
             Kind::Ingest => self.parts.ingest(),
-            Kind::SendControl => self.parts.send_control(post),
-            Kind::Route(stage) => self.parts.route(stage, post),
+            Kind::SendControl => send_control(&mut self.parts, post),
+            Kind::Route(stage) => route(&mut self.parts, stage, post),
             Kind::Receive(from) => self.parts.receive(from, post),
-            Kind::Extract(stage) => self.parts.extract(stage, post),
+            Kind::Extract(stage) => extract(&mut self.parts, stage, post),
             Kind::Settle(stage) => self.parts.settle(stage),
             Kind::Apply(stage) => self.parts.apply(stage),
-            Kind::SendRow => self.parts.send_row(post),
+            Kind::SendRow => send_row(&mut self.parts, post),
             Kind::Write | Kind::Exchange => unreachable!(),
         }
     }

@@ -12,19 +12,19 @@ use Rattle.mp_worker_invariant.proofs.Standing.{router_at, steps, told}
 use Rattle.mp_refinement.proofs.Pushed.{held_may}
 use Rattle.mp_steps.specs.Contents.{worker_of}
 use Rattle.mp_steps.proofs.Keeping.{can_do, kept_by, makes}
-use Rattle.mp_steps.proofs.parts.Parts.route.Goals as goal
+use Rattle.mp_sends.proofs.records.route.Goals as goal
 
 pub returns-in_default-clause-steps : goal.returns-in_default-clause-steps
 returns-in_default-clause-steps g c =
-    let kept = c.self.invariant in
+    let kept = c.parts.invariant in
     let here = router_at kept.parts c.args.stage c.requires.stage c.index_mut-router.result.now c.index_mut-router.ensures.value in
-    let none = (told kept.sound kept.parts).no_route c.args.stage (none_goes here c.self.inside.seen c.in_default.ensures.none_may) in
-    (rw (← c.self.view_is) (λ x can. absurd (none x (can_do kept (Route c.args.stage) x can))), rw c.in_ok-make_room.ensures.made (ap worker_of c.self.view_is))
+    let none = (told kept.sound kept.parts).no_route c.args.stage (none_goes here c.parts.inside.seen c.in_default.ensures.none_may) in
+    (rw (← c.parts.view_is) (λ x can. absurd (none x (can_do kept (Route c.args.stage) x can))), rw c.in_ok-make_room.ensures.made (ap worker_of c.parts.view_is))
 
 pub send-requires-clause-may : goal.send-requires-clause-may
 send-requires-clause-may g c κs within =
-    let kept = c.self.invariant in
-    let i = c.self.inside in
+    let kept = c.parts.invariant in
+    let i = c.parts.inside in
     let j = c.args.stage in
     let rec = c.in-Some.rec in
     let here = router_at kept.parts j c.requires.stage c.index_mut-router.result.now c.index_mut-router.ensures.value in
@@ -34,8 +34,8 @@ send-requires-clause-may g c κs within =
 
 pub send-requires-clause-to : goal.send-requires-clause-to
 send-requires-clause-to g c κs within =
-    let kept = c.self.invariant in
-    let i = c.self.inside in
+    let kept = c.parts.invariant in
+    let i = c.parts.inside in
     let j = c.args.stage in
     let rec = c.in-Some.rec in
     let here = router_at kept.parts j c.requires.stage c.index_mut-router.result.now c.index_mut-router.ensures.value in
@@ -46,8 +46,8 @@ send-requires-clause-to g c κs within =
 
 pub send-requires-clause-changes : goal.send-requires-clause-changes
 send-requires-clause-changes g c κs within =
-    let kept = c.self.invariant in
-    let i = c.self.inside in
+    let kept = c.parts.invariant in
+    let i = c.parts.inside in
     let j = c.args.stage in
     let rec = c.in-Some.rec in
     let here = router_at kept.parts j c.requires.stage c.index_mut-router.result.now c.index_mut-router.ensures.value in
@@ -57,12 +57,12 @@ send-requires-clause-changes g c κs within =
 
 pub send-requires-clause-at_post : goal.send-requires-clause-at_post
 send-requires-clause-at_post g c κs within =
-    rw c.in_ok-make_room.ensures.made (rw (← c.self.view_is) at c.requires.at_post)
+    rw c.in_ok-make_room.ensures.made (rw (← c.parts.view_is) at c.requires.at_post)
 
-pub invariant_of-self-in-Ok : goal.invariant_of-self-in-Ok
-invariant_of-self-in-Ok g c =
-    let kept = c.self.invariant in
-    let i = c.self.inside in
+pub invariant_of-parts-in-Ok : goal.invariant_of-parts-in-Ok
+invariant_of-parts-in-Ok g c =
+    let kept = c.parts.invariant in
+    let i = c.parts.inside in
     let j = c.args.stage in
     let rec = c.in-Some.rec in
     let here = router_at kept.parts j c.requires.stage c.index_mut-router.result.now c.index_mut-router.ensures.value in
@@ -73,8 +73,8 @@ invariant_of-self-in-Ok g c =
 
 pub returns-in-Ok-clause-steps : goal.returns-in-Ok-clause-steps
 returns-in-Ok-clause-steps g c =
-    let kept = c.self.invariant in
-    let i = c.self.inside in
+    let kept = c.parts.invariant in
+    let i = c.parts.inside in
     let j = c.args.stage in
     let rec = c.in-Some.rec in
     let here = router_at kept.parts j c.requires.stage c.index_mut-router.result.now c.index_mut-router.ensures.value in
@@ -84,17 +84,17 @@ returns-in-Ok-clause-steps g c =
     let worker = rw c.in_ok-make_room.ensures.made at c.in-Ok.ensures.worker in
     let sent = rw (c.in_ok-make_room.ensures.made, c.rec.ensures) at c.in-Ok.ensures.sent in
     let room = rw c.in_ok-make_room.ensures.made at c.in-Ok.ensures.room in (
-      rw (← c.self.view_is, c.in-Ok.ensures.name, c.rec.ensures, worker) (makes kept (Route j) (name_of_record j rec) c.requires.stage ((told kept.sound kept.parts).route j (name_of_record j rec) may) c.send.new.log.log sent),
-      rw (← c.self.view_is, c.in-Ok.ensures.name, c.rec.ensures) (subst (g.P.Post.had_room c.args.post.now i.log.worker) owner room),
+      rw (← c.parts.view_is, c.in-Ok.ensures.name, c.rec.ensures, worker) (makes kept (Route j) (name_of_record j rec) c.requires.stage ((told kept.sound kept.parts).route j (name_of_record j rec) may) c.send.new.log.log sent),
+      rw (← c.parts.view_is, c.in-Ok.ensures.name, c.rec.ensures) (subst (g.P.Post.had_room c.args.post.now i.log.worker) owner room),
     )
 
 pub returns-in-Ok-clause-mail : goal.returns-in-Ok-clause-mail
 returns-in-Ok-clause-mail g c =
-    rw (← c.self.view_is) (rw c.in_ok-make_room.ensures.made at c.in-Ok.ensures.mail)
+    rw (← c.parts.view_is) (rw c.in_ok-make_room.ensures.made at c.in-Ok.ensures.mail)
 
-pub invariant_of-self-2 : goal.invariant_of-self-2
-invariant_of-self-2 g c =
-    let kept = c.self.invariant in
+pub invariant_of-parts-2 : goal.invariant_of-parts-2
+invariant_of-parts-2 g c =
+    let kept = c.parts.invariant in
     let j = c.args.stage in
     let here = router_at kept.parts j c.requires.stage c.index_mut-router.result.now c.index_mut-router.ensures.value in
     let worker = rw c.in_ok-make_room.ensures.made at c.in-Err.ensures.worker in
@@ -105,8 +105,8 @@ invariant_of-self-2 g c =
 
 pub returns-clause-steps : goal.returns-clause-steps
 returns-clause-steps g c =
-    let kept = c.self.invariant in
-    let i = c.self.inside in
+    let kept = c.parts.invariant in
+    let i = c.parts.inside in
     let j = c.args.stage in
     let rec = c.in-Some.rec in
     let here = router_at kept.parts j c.requires.stage c.index_mut-router.result.now c.index_mut-router.ensures.value in
@@ -117,10 +117,10 @@ returns-clause-steps g c =
     let worker = rw c.in_ok-make_room.ensures.made at c.in-Err.ensures.worker in
     let unsent = rw c.in_ok-make_room.ensures.made at c.in-Err.ensures.unchanged in
     let full = rw c.in_ok-make_room.ensures.made at c.in-Err.ensures.full in (
-      rw (← c.self.view_is) (λ x can. rw (← least_unique (IsHeld o i.log.worker i.log.log (is_rec j)) (name_of_record j rec) x may.0 can.next) (subst (g.P.Post.was_full c.args.post.now i.log.worker) owner full)),
-      rw (← c.self.view_is, worker, unsent) refl,
+      rw (← c.parts.view_is) (λ x can. rw (← least_unique (IsHeld o i.log.worker i.log.log (is_rec j)) (name_of_record j rec) x may.0 can.next) (subst (g.P.Post.was_full c.args.post.now i.log.worker) owner full)),
+      rw (← c.parts.view_is, worker, unsent) refl,
     )
 
 pub returns-clause-mail : goal.returns-clause-mail
 returns-clause-mail g c =
-    rw (← c.self.view_is) (rw c.in_ok-make_room.ensures.made at c.in-Err.ensures.mail)
+    rw (← c.parts.view_is) (rw c.in_ok-make_room.ensures.made at c.in-Err.ensures.mail)

@@ -1,6 +1,6 @@
 use Rattle.mp_outline.proofs.Soundness.{outline_is_sound}
 use Rattle.mp_refinement.proofs.Pushed.{edge_fits, edge_is, follows_push, may_push}
-use Rattle.mp_steps.proofs.send.send.Goals as goal
+use Rattle.mp_sends.proofs.push.send.Goals as goal
 
 pub push-requires-clause-workers : goal.push-requires-clause-workers
 push-requires-clause-workers g c =

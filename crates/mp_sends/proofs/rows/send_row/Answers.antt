@@ -7,17 +7,17 @@ use Rattle.mp_worker_invariant.proofs.RowsGone.{holds_row, least_row, rows_back,
 use Rattle.mp_worker_invariant.proofs.Standing.{steps, told}
 use Rattle.mp_refinement.proofs.Pushed.{held_may}
 use Rattle.mp_steps.proofs.Keeping.{kept_by, makes}
-use Rattle.mp_steps.proofs.parts.Parts.send_row.Goals as goal
+use Rattle.mp_sends.proofs.rows.send_row.Goals as goal
 
 pub unreachable-requires : goal.unreachable-requires
 unreachable-requires g c =
     let job = g.J.Naming.job in
-    holds_row (g.Q.Query.facts job.rules) job c.in-Some.field-0 c.in-Some.ensures.content c.self.invariant.rows c.in_default-value.not-Row
+    holds_row (g.Q.Query.facts job.rules) job c.in-Some.field-0 c.in-Some.ensures.content c.parts.invariant.rows c.in_default-value.not-Row
 
 pub send-requires-clause-may : goal.send-requires-clause-may
 send-requires-clause-may g c κs within =
-    let kept = c.self.invariant in
-    let i = c.self.inside in
+    let kept = c.parts.invariant in
+    let i = c.parts.inside in
     let row = c.in-Some.field-0 in
     let least = least_row kept.parts.unsent c.in-Some.ensures.some c.in-Some.ensures.in_order in
     let o = outline_of (g.Q.Query.facts g.J.Naming.job.rules) g.J.Naming.job in
@@ -25,8 +25,8 @@ send-requires-clause-may g c κs within =
 
 pub send-requires-clause-changes : goal.send-requires-clause-changes
 send-requires-clause-changes g c κs within =
-    let kept = c.self.invariant in
-    let i = c.self.inside in
+    let kept = c.parts.invariant in
+    let i = c.parts.inside in
     let row = c.in-Some.field-0 in
     let least = least_row kept.parts.unsent c.in-Some.ensures.some c.in-Some.ensures.in_order in
     let o = outline_of (g.Q.Query.facts g.J.Naming.job.rules) g.J.Naming.job in
@@ -34,12 +34,12 @@ send-requires-clause-changes g c κs within =
 
 pub send-requires-clause-at_post : goal.send-requires-clause-at_post
 send-requires-clause-at_post g c κs within =
-    rw c.in_ok-make_room.ensures.made (rw (← c.self.view_is) at c.requires.at_post)
+    rw c.in_ok-make_room.ensures.made (rw (← c.parts.view_is) at c.requires.at_post)
 
-pub invariant_of-self-in-Ok : goal.invariant_of-self-in-Ok
-invariant_of-self-in-Ok g c =
-    let kept = c.self.invariant in
-    let i = c.self.inside in
+pub invariant_of-parts-in-Ok : goal.invariant_of-parts-in-Ok
+invariant_of-parts-in-Ok g c =
+    let kept = c.parts.invariant in
+    let i = c.parts.inside in
     let row = c.in-Some.field-0 in
     let least = least_row kept.parts.unsent c.in-Some.ensures.some c.in-Some.ensures.in_order in
     let worker = rw c.in_ok-make_room.ensures.made at c.in-Ok.ensures.worker in
@@ -48,26 +48,26 @@ invariant_of-self-in-Ok g c =
 
 pub returns-in-Ok-clause-steps : goal.returns-in-Ok-clause-steps
 returns-in-Ok-clause-steps g c =
-    let kept = c.self.invariant in
-    let i = c.self.inside in
+    let kept = c.parts.invariant in
+    let i = c.parts.inside in
     let row = c.in-Some.field-0 in
     let least = least_row kept.parts.unsent c.in-Some.ensures.some c.in-Some.ensures.in_order in
     let worker = rw c.in_ok-make_room.ensures.made at c.in-Ok.ensures.worker in
     let sent = rw (c.in_ok-make_room.ensures.made, c.row-row.ensures) at c.in-Ok.ensures.sent in
     let room = rw c.in_ok-make_room.ensures.made at c.in-Ok.ensures.room in (
-      rw (← c.self.view_is, c.in-Ok.ensures.name, c.row-row.ensures, worker) (makes kept SendRow (name_of_row row) tt ((told kept.sound kept.parts).send_row (name_of_row row) least) c.send.new.log.log sent),
-      rw (← c.self.view_is, c.in-Ok.ensures.name, c.row-row.ensures) room,
+      rw (← c.parts.view_is, c.in-Ok.ensures.name, c.row-row.ensures, worker) (makes kept SendRow (name_of_row row) tt ((told kept.sound kept.parts).send_row (name_of_row row) least) c.send.new.log.log sent),
+      rw (← c.parts.view_is, c.in-Ok.ensures.name, c.row-row.ensures) room,
     )
 
 pub returns-in-Ok-clause-mail : goal.returns-in-Ok-clause-mail
 returns-in-Ok-clause-mail g c =
-    rw (← c.self.view_is) (rw c.in_ok-make_room.ensures.made at c.in-Ok.ensures.mail)
+    rw (← c.parts.view_is) (rw c.in_ok-make_room.ensures.made at c.in-Ok.ensures.mail)
 
-pub invariant_of-self-2 : goal.invariant_of-self-2
-invariant_of-self-2 g c =
+pub invariant_of-parts-2 : goal.invariant_of-parts-2
+invariant_of-parts-2 g c =
     let job = g.J.Naming.job in
     let q = g.Q.Query.facts job.rules in
-    let kept = c.self.invariant in
+    let kept = c.parts.invariant in
     let worker = rw c.in_ok-make_room.ensures.made at c.in-Err.ensures.worker in
     let unsent = rw c.in_ok-make_room.ensures.made at c.in-Err.ensures.unchanged in
     let named = c.in-Row-into_body.ensures.name ∙ c.in-Err.ensures.back ∙ c.row-row.ensures in
@@ -77,4 +77,4 @@ invariant_of-self-2 g c =
 
 pub returns-clause-mail : goal.returns-clause-mail
 returns-clause-mail g c =
-    rw (← c.self.view_is) (rw c.in_ok-make_room.ensures.made at c.in-Err.ensures.mail)
+    rw (← c.parts.view_is) (rw c.in_ok-make_room.ensures.made at c.in-Err.ensures.mail)

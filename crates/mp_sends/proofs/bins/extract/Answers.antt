@@ -1,5 +1,5 @@
 use Rattle.std.proofs.Common.{refl}
-use Rattle.mp_steps.proofs.parts.Parts.extract.Goals as goal
+use Rattle.mp_sends.proofs.bins.extract.Goals as goal
 
 pub returns-in_default-clause-steps : goal.returns-in_default-clause-steps
 returns-in_default-clause-steps g c = ((λ x can. absurd (c.in_default.ensures.none x can)), refl)

@@ -11,14 +11,14 @@ use Rattle.mp_parts.specs.Leaving.{AreChangesOfLeaving}
 use Rattle.mp_parts.proofs.Applied.{same_host_there}
 use Rattle.mp_parts.proofs.Extracting.{changes_of_packet, with_room}
 use Rattle.mp_steps.proofs.Keeping.{kept_as}
-use Rattle.mp_steps.proofs.parts.Parts.make_room_to_extract.Goals as goal
+use Rattle.mp_sends.proofs.bins.make_room_to_extract.Goals as goal
 
-pub invariant_of-self-2 : goal.invariant_of-self-2
-invariant_of-self-2 g c =
+pub invariant_of-parts-2 : goal.invariant_of-parts-2
+invariant_of-parts-2 g c =
     let job = g.J.Naming.job in
     let q = g.Q.Query.facts job.rules in
-    let kept = c.self.invariant in
-    let i = c.self.inside in
+    let kept = c.parts.invariant in
+    let i = c.parts.inside in
     let j = c.args.stage in
     let m = c.index_mut.result.now in
     let made = c.make_room_for_sent in
@@ -27,11 +27,11 @@ invariant_of-self-2 g c =
 
 pub returns-clause-room : goal.returns-clause-room
 returns-clause-room g c =
-    let i = c.self.inside in
+    let i = c.parts.inside in
     let j = c.args.stage in
     let made = c.make_room_for_sent in
     let below = c.requires.stage in
-    let all = c.self.invariant.parts.all_movers in
+    let all = c.parts.invariant.parts.all_movers in
     let listed = ap length c.in_ok-changes.ensures in
     rw c.in_ok-make_room.ensures.made
     (record {
@@ -44,13 +44,13 @@ pub returns-clause-changes : goal.returns-clause-changes
 returns-clause-changes g c =
     let job = g.J.Naming.job in
     let q = g.Q.Query.facts job.rules in
-    let kept = c.self.invariant in
-    let i = c.self.inside in
+    let kept = c.parts.invariant in
+    let i = c.parts.inside in
     let j = c.args.stage in
     let below = c.requires.stage in
     let all = kept.parts.all_hosts in
     let h = c.index-host.result.now in
-    let due = rw (← c.self.view_is) at c.requires.due in
+    let due = rw (← c.parts.view_is) at c.requires.due in
     let told = changes_of_packet kept.sound kept.parts j below c.args.moved due h (host_at kept.parts j below h c.index-host.ensures) c.in_ok-numbers.ensures.denotes c.in_ok-changes.changes.items
     (λ one out taken. (c.in_ok-numbers.numbers.items, c.in_ok-numbers.ensures.told one out taken, c.in_ok-changes.ensures ∙ ap (packet_sent_at j c.args.moved.time) c.as_slice.ensures.value)) in
     rw c.in_ok-make_room.ensures.made
