@@ -18,6 +18,7 @@ use Rattle.mp_output.specs.declared.refused.OutRefused.TheVariants.{WriteFault, 
 use Rattle.mp_refinement.specs.Served.{IsAtHub}
 use Rattle.mp_refinement.specs.State.{CanMake, WorkerState}
 use Rattle.mp_refinement.specs.Steps.{StepsByMail}
+use Rattle.mp_steps.specs.Writing.{Writes}
 use Rattle.mp_worker.specs.declared.turn.Stop.{Stop}
 use Rattle.mp_worker.specs.declared.turn.Stop.TheVariants as stop
 use Rattle.mp_worker.specs.declared.turn.Turn.{Turn}
@@ -25,7 +26,7 @@ use Rattle.mp_worker.specs.declared.turn.Turn.TheVariants as turn
 use Rattle.mp_worker.specs.Exchanging.{Exchanges}
 use Rattle.mp_worker.specs.Stops.{stop_of_write}
 use Rattle.mp_worker.specs.Turns.{Answers}
-use Rattle.mp_worker.specs.Writing.{Writes, WritesInTurn}
+use Rattle.mp_worker.specs.Writing.{WritesInTurn}
 
 module _ (had_room was_full was_empty : ℕ → ℕ → Type 0) (o : Outline) (made : Kind) (old new : WorkerState) where
   -- the answer of a step that put a name into the log, or none

@@ -6,24 +6,17 @@ use Rattle.mp_stamps.specs.declared.seen.Seen.{Seen}
 use Rattle.mp_board.specs.declared.causes.Cause.{Cause}
 use Rattle.mp_refinement.specs.State.{WorkerState}
 use Rattle.mp_refinement.specs.Steps.{Sees}
+pub use Rattle.mp_steps.specs.Exchanging.{IsPosted, ShowsNothingNew}
 use Rattle.mp_worker.specs.declared.turn.Turn.{Turn}
 use Rattle.mp_worker.specs.declared.turn.Turn.TheVariants as turn
 use Rattle.mp_worker.specs.declared.turn.Stop.{Stop}
 use Rattle.mp_worker.specs.declared.turn.Stop.TheVariants as stop
 
 module _ {H : Type 0} (after : H → ℕ → Log → H → Type 0) (kept : H → H → Type 0) (shows : H → Seen → Type 0) (goes_on : H → Type 0) (was_stopped : H → Cause → Type 0) (was_busy : H → Type 0) (s now : WorkerState) (old new : H) where
-  -- no worker had stopped, and the log is posted
-  abbrev pub IsPosted : Type 0
-  IsPosted = goes_on old × after old s.number s.log new
-
-  -- the version that the worker had seen is shown again
-  abbrev pub ShowsNothingNew : Type 0
-  ShowsNothingNew = (seen : Seen) × shows new seen × (seen.version ≡ s.seen.version)
-
   -- the log was posted, and a new version was seen; or nothing had changed since the last exchange; or the worker and the hub are as they were: the hub was held, or a worker had stopped. An exchange takes no memory
   abbrev pub Exchanges : Result Turn Stop → Type 0
-  Exchanges (Ok (turn.Seen version)) = Sees s version now × IsPosted × shows new now.seen
-  Exchanges (Ok turn.NotNow) = (now ≡ s) × (s.posted ≡ s.log) × IsPosted × ShowsNothingNew
+  Exchanges (Ok (turn.Seen version)) = Sees s version now × IsPosted after goes_on s old new × shows new now.seen
+  Exchanges (Ok turn.NotNow) = (now ≡ s) × (s.posted ≡ s.log) × IsPosted after goes_on s old new × ShowsNothingNew shows s new
   Exchanges (Ok turn.Busy) = (now ≡ s) × was_busy old × kept old new
   Exchanges (Err (stop.Other cause)) = (now ≡ s) × was_stopped old cause × kept old new
   Exchanges _ = ⊥

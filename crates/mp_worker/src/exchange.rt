@@ -3,34 +3,26 @@ ghost use Rattle.std.specs.Prelude.{ℕ};
 ghost use Rattle.mp_refinement.specs.Served.{IsAtHub};
 ghost use Rattle.mp_worker.specs.Exchanging.{Exchanges};
 
-use crate::parts::Parts;
-use crate::{Stop, Turn};
-use mp_board::{Answer, Hub, OutlineOf};
+use crate::{Stop, Turn, Worker};
+use mp_board::{Hub, OutlineOf};
 use mp_model::{Naming, Query};
-use std::snapshot::Snapshot;
+use mp_steps::Exchanged;
 
-impl<'a, Q: Query, J: Naming> Parts<'a, Q, J> {
+impl<'a, Q: Query, J: Naming> Worker<'a, Q, J> {
     /// Posts the worker's log, and sees what all posted logs show then. `Seen`: the version of the board, which is not the
     /// one that the worker had seen. `NotNow`: it is, so nothing had changed, and the log that was posted is what it posted
     /// last. `Busy`: only where the hub says so. `Other`: another worker stopped before. Only `Seen` changes the worker and
     /// what the hub has of it. It takes no memory, and has no other refusal.
     pub(crate) fn exchange<H: Hub<OutlineOf<Q, J>>>(&mut self, hub: &mut H) -> Result<Turn, Stop>
-        requires at_hub { IsAtHub H.serves H.posted H.version self.old.worker hub.old }
-        ensures exchanges { Exchanges H.after H.kept H.shows H.goes_on H.was_stopped H.was_busy self.old.worker self.new.worker hub.old hub.new result }
-        ensures at_hub { IsAtHub H.serves H.posted H.version self.new.worker hub.new }
+        requires at_hub { IsAtHub H.serves H.posted H.version self.old hub.old }
+        ensures exchanges { Exchanges H.after H.kept H.shows H.goes_on H.was_stopped H.was_busy self.old self.new hub.old hub.new result }
+        ensures at_hub { IsAtHub H.serves H.posted H.version self.new hub.new }
         ensures still_serves { (w : ℕ) → H.serves hub.old w → H.serves hub.new w }
     {
-        let number = self.log.worker();
-        let seen = match hub.exchange(number, &mut self.log)? {
-            Answer::Got(seen) => seen,
-            Answer::Busy => return Ok(Turn::Busy),
-        };
-        let version = seen.version();
-        if version == self.seen.version() {
-            return Ok(Turn::NotNow);
+        match self.parts.exchange(hub)? {
+            Exchanged::Seen(version) => Ok(Turn::Seen(version)),
+            Exchanged::NothingNew => Ok(Turn::NotNow),
+            Exchanged::Busy => Ok(Turn::Busy),
         }
-        self.seen = seen;
-        self.posted = Snapshot::of(&self.log);
-        Ok(Turn::Seen(version))
     }
 }

@@ -18,8 +18,8 @@ impl<'a, Q: Query, J: Naming> Worker<'a, Q, J> {
         ensures { IsTrue result ↔ KnowsTheEnd (outline_of (Q.facts J.job.rules) J.job) self.now }
     {
         let parts = &self.parts;
-        let stages = parts.job.shape().stages;
-        all_are_done(&parts.seen, stages) && (parts.number() != 0 || parts.rows.is_empty())
+        let stages = parts.shape().stages;
+        all_are_done(parts.seen(), stages) && (parts.number() != 0 || parts.all_are_written())
     }
 }
 

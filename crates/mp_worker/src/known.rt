@@ -25,8 +25,7 @@ impl<'a, Q: Query, J: Naming> Worker<'a, Q, J> {
     pub fn shape(&self) -> Shape
         ensures { result ≡ J.job.shape }
     {
-        let parts = &self.parts;
-        parts.job.shape()
+        self.parts.shape()
     }
 
     /// Does nothing. What is known of each worker's log, whatever other workers have done: it is legal, it stays so where
@@ -39,7 +38,6 @@ impl<'a, Q: Query, J: Naming> Worker<'a, Q, J> {
         ensures full { let o = outline_of (Q.facts J.job.rules) J.job in
             KnowsTheEnd o self.now → LogIsFull o self.now.number self.now.log }
     {
-        let parts = &self.parts;
-        let _ = &parts.log;
+        self.parts.log_is_known();
     }
 }

@@ -12,7 +12,6 @@ ghost use Rattle.mp_worker.specs.Exchanging.{Exchanges};
 ghost use Rattle.mp_worker.specs.Turns.{Answers};
 ghost use Rattle.mp_worker.specs.Writing.{WritesInTurn};
 
-use crate::parts::Parts;
 use crate::{Stop, Turn, Worker};
 use mp_board::{Hub, OutlineOf};
 use mp_mailbox::Post;
@@ -20,6 +19,7 @@ use mp_model::{Naming, Query};
 use mp_msg::Msg;
 use mp_names::{Kind, Name, Shape};
 use mp_outside::Sink;
+use mp_sends::{extract, route, send_control, send_row};
 use std::alloc::AllocError;
 
 impl<'a, Q: Query, J: Naming> Worker<'a, Q, J> {
@@ -63,14 +63,12 @@ impl<'a, Q: Query, J: Naming> Worker<'a, Q, J> {
         ensures appends_only { OnlyAppends S.frame S.faults sink.old sink.new }
     {
         match kind {
-            Kind::Exchange => self.parts.exchange(hub),
+            Kind::Exchange => self.exchange(hub),
             Kind::Write => Ok(turn_of(self.parts.write(sink)?)),
-            _ => Ok(turn_of(self.parts.step_by_mail(kind, post)?)),
+            _ => Ok(turn_of(self.step_by_mail(kind, post)?)),
         }
     }
-}
 
-impl<'a, Q: Query, J: Naming> Parts<'a, Q, J> {
     // A step of a kind that neither writes nor exchanges.
     fn step_by_mail<P: Post<Msg<Q, J>>>(
         &mut self,
@@ -79,14 +77,14 @@ impl<'a, Q: Query, J: Naming> Parts<'a, Q, J> {
     ) -> Result<Option<Name>, AllocError>
         requires kind { (kind ≢ Write) × (kind ≢ Exchange) }
         requires at_post { let o = outline_of (Q.facts J.job.rules) J.job in
-            IsAtPost P.workers P.depth P.serves P.denotes o self.old.worker.number self.old.worker.log post.old }
+            IsAtPost P.workers P.depth P.serves P.denotes o self.old.number self.old.log post.old }
         ensures steps { let o = outline_of (Q.facts J.job.rules) J.job in
-            StepsByMail (P.had_room post.old) (P.was_full post.old) (P.was_empty post.old) o kind self.old.worker self.new.worker result }
+            StepsByMail (P.had_room post.old) (P.was_full post.old) (P.was_empty post.old) o kind self.old self.new result }
         ensures fits { (KindFits (outline_of (Q.facts J.job.rules) J.job) kind → ⊥) → result ≡ Ok None }
         ensures mail { let o = outline_of (Q.facts J.job.rules) J.job in
-            PostFollows P.workers P.depth P.serves P.denotes o self.old.worker.number self.old.worker.log self.new.worker.log post.old post.new }
+            PostFollows P.workers P.depth P.serves P.denotes o self.old.number self.old.log self.new.log post.old post.new }
     {
-        if !fits(kind, self.job.shape()) {
+        if !fits(kind, self.parts.shape()) {
             return Ok(None);
         }
         self.step_that_fits(kind, post)
@@ -101,21 +99,21 @@ impl<'a, Q: Query, J: Naming> Parts<'a, Q, J> {
         requires kind { (kind ≢ Write) × (kind ≢ Exchange) }
         requires fits { KindFits (outline_of (Q.facts J.job.rules) J.job) kind }
         requires at_post { let o = outline_of (Q.facts J.job.rules) J.job in
-            IsAtPost P.workers P.depth P.serves P.denotes o self.old.worker.number self.old.worker.log post.old }
+            IsAtPost P.workers P.depth P.serves P.denotes o self.old.number self.old.log post.old }
         ensures steps { let o = outline_of (Q.facts J.job.rules) J.job in
-            StepsByMail (P.had_room post.old) (P.was_full post.old) (P.was_empty post.old) o kind self.old.worker self.new.worker result }
+            StepsByMail (P.had_room post.old) (P.was_full post.old) (P.was_empty post.old) o kind self.old self.new result }
         ensures mail { let o = outline_of (Q.facts J.job.rules) J.job in
-            PostFollows P.workers P.depth P.serves P.denotes o self.old.worker.number self.old.worker.log self.new.worker.log post.old post.new }
+            PostFollows P.workers P.depth P.serves P.denotes o self.old.number self.old.log self.new.log post.old post.new }
     {
         match kind {
-            Kind::Ingest => self.ingest(),
-            Kind::SendControl => self.send_control(post),
-            Kind::Route(stage) => self.route(stage, post),
-            Kind::Receive(from) => self.receive(from, post),
-            Kind::Extract(stage) => self.extract(stage, post),
-            Kind::Settle(stage) => self.settle(stage),
-            Kind::Apply(stage) => self.apply(stage),
-            Kind::SendRow => self.send_row(post),
+            Kind::Ingest => self.parts.ingest(),
+            Kind::SendControl => send_control(&mut self.parts, post),
+            Kind::Route(stage) => route(&mut self.parts, stage, post),
+            Kind::Receive(from) => self.parts.receive(from, post),
+            Kind::Extract(stage) => extract(&mut self.parts, stage, post),
+            Kind::Settle(stage) => self.parts.settle(stage),
+            Kind::Apply(stage) => self.parts.apply(stage),
+            Kind::SendRow => send_row(&mut self.parts, post),
             Kind::Write | Kind::Exchange => unreachable!(),
         }
     }

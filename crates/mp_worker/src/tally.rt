@@ -4,7 +4,7 @@ ghost use Rattle.mp_parts.specs.Tallies.{MovedHasKeys, name_of_moved, sent_packe
 
 use crate::Worker;
 use mp_model::{Naming, Query};
-use mp_parts::{Tally, moved_so_far};
+use mp_parts::Tally;
 use std::alloc::{AllocError, Global};
 
 impl<'a, Q: Query, J: Naming> Worker<'a, Q, J> {
@@ -14,9 +14,6 @@ impl<'a, Q: Query, J: Naming> Worker<'a, Q, J> {
         ensures moved { IfOk result (λ t. map name_of_moved t.moved.items ≡ sent_packets J.job.shape.stages self.now.log) }
         ensures keys { IfOk result (λ t. All (MovedHasKeys (Q.facts J.job.rules) J.job) t.moved.items) }
     {
-        let parts = &self.parts;
-        let groups = parts.log.applied();
-        let moved = moved_so_far(alloc, parts.movers.as_slice())?;
-        Ok(Tally { groups, moved })
+        self.parts.tally(alloc)
     }
 }

@@ -1,6 +1,6 @@
 //! A worker.
-use crate::parts::Parts;
 use mp_model::{Naming, Query};
+use mp_steps::Parts;
 use std::marker::Model;
 
 /// One worker of the job J of the query Q. Contracts see a `WorkerState`: its number, its log, the log that it posted last,

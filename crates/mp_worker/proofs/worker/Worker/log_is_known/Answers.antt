@@ -3,22 +3,16 @@ use Rattle.mp_worker.proofs.OwnLog.{full_if_over, legal_with_time}
 use Rattle.mp_worker.proofs.worker.Worker.log_is_known.Goals as goal
 
 pub returns-clause-legal : goal.returns-clause-legal
-returns-clause-legal g c =
-    let kept = c.parts.invariant in
-    rw (← c.self.view_is, ← c.parts.view_is) kept.parts.legal
+returns-clause-legal g c = rw (← c.self.view_is) c.log_is_known.ensures.legal
 
 pub returns-clause-writing : goal.returns-clause-writing
 returns-clause-writing g c =
     let o = outline_of (g.Q.Query.facts g.J.Naming.job.rules) g.J.Naming.job in
-    let kept = c.parts.invariant in
-    let i = c.parts.inside in
-    rw (← c.self.view_is, ← c.parts.view_is)
-    (legal_with_time o kept.sound (record { number = i.log.worker; log = i.log.log; posted = i.posted.value.log; seen = i.seen }) kept.parts.worker kept.parts.legal kept.parts.done)
+    let known = c.log_is_known.ensures in
+    rw (← c.self.view_is) (legal_with_time o known.sound _ known.inside known.legal known.done)
 
 pub returns-clause-full : goal.returns-clause-full
 returns-clause-full g c =
     let o = outline_of (g.Q.Query.facts g.J.Naming.job.rules) g.J.Naming.job in
-    let kept = c.parts.invariant in
-    let i = c.parts.inside in
-    rw (← c.self.view_is, ← c.parts.view_is)
-    (full_if_over o kept.sound (record { number = i.log.worker; log = i.log.log; posted = i.posted.value.log; seen = i.seen }) kept.parts.worker kept.parts.legal kept.parts.done)
+    let known = c.log_is_known.ensures in
+    rw (← c.self.view_is) (full_if_over o known.sound _ known.inside known.legal known.done)

@@ -11,12 +11,12 @@ use Rattle.mp_worker.proofs.Turned.{answers, answers_exchange, answers_no_memory
 use Rattle.mp_worker.proofs.worker.Worker.step.Goals as goal
 
 pub returns-in-Exchange-clause-answers : goal.returns-in-Exchange-clause-answers
-returns-in-Exchange-clause-answers g c = rw (← c.self.view_is) (answers_exchange (g.P.Post.had_room c.args.post.now) (g.P.Post.was_full c.args.post.now) (g.P.Post.was_empty c.args.post.now) _ _ _ _ g.H.Hub.after g.H.Hub.kept g.H.Hub.shows g.H.Hub.goes_on g.H.Hub.was_stopped g.H.Hub.was_busy c.args.hub.now c.exchange.new.hub c.in-Exchange.is c.exchange.result c.exchange.ensures.exchanges)
+returns-in-Exchange-clause-answers g c = (answers_exchange (g.P.Post.had_room c.args.post.now) (g.P.Post.was_full c.args.post.now) (g.P.Post.was_empty c.args.post.now) _ _ _ _ g.H.Hub.after g.H.Hub.kept g.H.Hub.shows g.H.Hub.goes_on g.H.Hub.was_stopped g.H.Hub.was_busy c.args.hub.now c.exchange.new.hub c.in-Exchange.is c.exchange.result c.exchange.ensures.exchanges)
 
 pub returns-in-Exchange-clause-mail : goal.returns-in-Exchange-clause-mail
 returns-in-Exchange-clause-mail g c =
     let same = same_log_after (g.P.Post.had_room c.args.post.now) (g.P.Post.was_full c.args.post.now) (g.P.Post.was_empty c.args.post.now) (outline_of (g.Q.Query.facts g.J.Naming.job.rules) g.J.Naming.job) c.args.kind _ _ g.H.Hub.after g.H.Hub.kept g.H.Hub.shows g.H.Hub.goes_on g.H.Hub.was_stopped g.H.Hub.was_busy c.args.hub.now c.exchange.new.hub c.exchange.result c.exchange.ensures.exchanges in
-    rw (← c.self.view_is) (post_same g.P.Post.workers g.P.Post.depth g.P.Post.serves g.P.Post.denotes (outline_of (g.Q.Query.facts g.J.Naming.job.rules) g.J.Naming.job) _ _ _ _ (ap (λ (l : Log). l.sent) same) (ap (λ (l : Log). l.took) same))
+    (post_same g.P.Post.workers g.P.Post.depth g.P.Post.serves g.P.Post.denotes (outline_of (g.Q.Query.facts g.J.Naming.job.rules) g.J.Naming.job) _ _ _ _ (ap (λ (l : Log). l.sent) same) (ap (λ (l : Log). l.took) same))
 
 pub returns-in_ok-write-in-Write-clause-answers : goal.returns-in_ok-write-in-Write-clause-answers
 returns-in_ok-write-in-Write-clause-answers g c =
@@ -39,22 +39,13 @@ pub returns-in_err-write-in-Write-clause-writes : goal.returns-in_err-write-in-W
 returns-in_err-write-in-Write-clause-writes g c = λ kind. rw (← c.self.view_is) (refused_in_turn (g.Q.Query.facts g.J.Naming.job.rules) g.J.Naming.job g.S.Sink.written g.S.Sink.faults c.self.inside.parts.worker c.args.sink.now c.write.new.sink c.in_err-write-in-Write.field-0.0 c.from_residual.result c.from_residual.ensures.1 c.in_err-write-in-Write.ensures.writes)
 
 pub returns-in_ok-step_by_mail-in_default-clause-answers : goal.returns-in_ok-step_by_mail-in_default-clause-answers
-returns-in_ok-step_by_mail-in_default-clause-answers g c = subst (λ (s : WorkerState). Answers (g.P.Post.had_room c.args.post.now) (g.P.Post.was_full c.args.post.now) (g.P.Post.was_empty c.args.post.now) (outline_of (g.Q.Query.facts g.J.Naming.job.rules) g.J.Naming.job) c.args.kind s c.step_by_mail.new.self.worker (Ok c.turn_of-in_default.result)) c.self.view_is (answers (g.P.Post.had_room c.args.post.now) (g.P.Post.was_full c.args.post.now) (g.P.Post.was_empty c.args.post.now) (outline_of (g.Q.Query.facts g.J.Naming.job.rules) g.J.Naming.job) _ _ _ (Unit {0}) c.in_ok-step_by_mail-in_default.field-0 c.turn_of-in_default.result c.turn_of-in_default.ensures.did c.turn_of-in_default.ensures.not_now c.in_ok-step_by_mail-in_default.ensures.steps)
+returns-in_ok-step_by_mail-in_default-clause-answers g c = answers (g.P.Post.had_room c.args.post.now) (g.P.Post.was_full c.args.post.now) (g.P.Post.was_empty c.args.post.now) (outline_of (g.Q.Query.facts g.J.Naming.job.rules) g.J.Naming.job) _ _ _ (Unit {0}) c.in_ok-step_by_mail-in_default.field-0 c.turn_of-in_default.result c.turn_of-in_default.ensures.did c.turn_of-in_default.ensures.not_now c.in_ok-step_by_mail-in_default.ensures.steps
 
 pub returns-in_ok-step_by_mail-in_default-clause-at_hub : goal.returns-in_ok-step_by_mail-in_default-clause-at_hub
-returns-in_ok-step_by_mail-in_default-clause-at_hub g c = stays_at_hub (g.P.Post.had_room c.args.post.now) (g.P.Post.was_full c.args.post.now) (g.P.Post.was_empty c.args.post.now) (outline_of (g.Q.Query.facts g.J.Naming.job.rules) g.J.Naming.job) c.args.kind _ _ g.H.Hub.serves g.H.Hub.posted g.H.Hub.version c.args.hub.now (rw (← c.self.view_is) at c.requires.at_hub) {E = Unit {0}} (Ok c.in_ok-step_by_mail-in_default.field-0) c.in_ok-step_by_mail-in_default.ensures.steps
-
-pub step_by_mail-requires-clause-at_post : goal.step_by_mail-requires-clause-at_post
-step_by_mail-requires-clause-at_post g c κs within = rw c.self.view_is c.requires.at_post
-
-pub returns-in_ok-step_by_mail-in_default-clause-mail : goal.returns-in_ok-step_by_mail-in_default-clause-mail
-returns-in_ok-step_by_mail-in_default-clause-mail g c = rw (← c.self.view_is) c.in_ok-step_by_mail-in_default.ensures.mail
+returns-in_ok-step_by_mail-in_default-clause-at_hub g c = stays_at_hub (g.P.Post.had_room c.args.post.now) (g.P.Post.was_full c.args.post.now) (g.P.Post.was_empty c.args.post.now) (outline_of (g.Q.Query.facts g.J.Naming.job.rules) g.J.Naming.job) c.args.kind _ _ g.H.Hub.serves g.H.Hub.posted g.H.Hub.version c.args.hub.now c.requires.at_hub {E = Unit {0}} (Ok c.in_ok-step_by_mail-in_default.field-0) c.in_ok-step_by_mail-in_default.ensures.steps
 
 pub returns-in_err-step_by_mail-in_default-clause-answers : goal.returns-in_err-step_by_mail-in_default-clause-answers
-returns-in_err-step_by_mail-in_default-clause-answers g c = rw (← c.self.view_is) (answers_no_memory (g.P.Post.had_room c.args.post.now) (g.P.Post.was_full c.args.post.now) (g.P.Post.was_empty c.args.post.now) (outline_of (g.Q.Query.facts g.J.Naming.job.rules) g.J.Naming.job) c.args.kind _ _ c.from_residual-in_err-step_by_mail-in_default.result c.from_residual-in_err-step_by_mail-in_default.ensures.1 c.in_err-step_by_mail-in_default.ensures.steps)
-
-pub returns-in_err-step_by_mail-in_default-clause-mail : goal.returns-in_err-step_by_mail-in_default-clause-mail
-returns-in_err-step_by_mail-in_default-clause-mail g c = rw (← c.self.view_is) c.in_err-step_by_mail-in_default.ensures.mail
+returns-in_err-step_by_mail-in_default-clause-answers g c = answers_no_memory (g.P.Post.had_room c.args.post.now) (g.P.Post.was_full c.args.post.now) (g.P.Post.was_empty c.args.post.now) (outline_of (g.Q.Query.facts g.J.Naming.job.rules) g.J.Naming.job) c.args.kind _ _ c.from_residual-in_err-step_by_mail-in_default.result c.from_residual-in_err-step_by_mail-in_default.ensures.1 c.in_err-step_by_mail-in_default.ensures.steps
 
 pub returns-in_err-step_by_mail-in_default-clause-at_hub : goal.returns-in_err-step_by_mail-in_default-clause-at_hub
-returns-in_err-step_by_mail-in_default-clause-at_hub g c = rw (c.in_err-step_by_mail-in_default.ensures.steps, c.self.view_is) c.requires.at_hub
+returns-in_err-step_by_mail-in_default-clause-at_hub g c = rw c.in_err-step_by_mail-in_default.ensures.steps c.requires.at_hub

@@ -1,0 +1,163 @@
+//! How the parts of a worker take control records, records, bins that come to it, and answer rows.
+ghost use Rattle.std.specs.Prelude.{◌≡◌, ◌<◌, ◌≤◌, ◌+◌, ◌^◌, false, [], All, IsOk, length};
+ghost use Rattle.std.specs.Vec.{vec_capacity};
+ghost use Rattle.mp_names.specs.declared.names.Name.TheVariants.{Ctrl, Packet, Row};
+ghost use Rattle.mp_names.specs.Names.{has};
+ghost use Rattle.mp_names.specs.Outlines.{IsOwedTo, receiver};
+ghost use Rattle.mp_count_laws.specs.Changes.{packet_taken_at};
+ghost use Rattle.mp_outline.specs.JobOutline.{name_of_record, outline_of};
+ghost use Rattle.mp_msg.specs.Contents.{IsControlOf, IsPacketOf, IsRecordOf, IsRowOf};
+ghost use Rattle.mp_steps.specs.Contents.{with_taken};
+ghost use Rattle.mp_steps.specs.Rooms.{HasRoomToTake};
+
+use crate::parts::Parts;
+use mp_model::{Fields, Naming, Query, Rec, Time};
+use mp_msg::{BinState, Body, Msg};
+use mp_names::{Control, Loc, Name, Tag};
+use mp_parts::{one_less, one_more};
+use mp_rows::{Change, LogList, Pointstamp};
+use std::alloc::AllocError;
+
+impl<'a, Q: Query, J: Naming> Parts<'a, Q, J> {
+    /// Takes a message that came to this worker to the part that it is for. There is room for it.
+    pub(crate) fn take(&mut self, message: Msg<Q, J>)
+        requires to { receiver (outline_of (Q.facts J.job.rules) J.job) message ≡ self.old.worker.number }
+        requires fresh { has self.old.worker.log.took message ≡ false }
+        requires room { HasRoomToTake (Q.facts J.job.rules) J.job self.old }
+        ensures { self.new.worker ≡ with_taken message self.old.worker }
+    {
+        let name = message.name();
+        match message.into_body() {
+            Body::Ctrl { index, control, .. } => self.take_control(index, control),
+            Body::Rec { stage, rec } => self.take_record(name, stage, rec),
+            Body::Packet {
+                stage,
+                bin,
+                time,
+                state,
+            } => self.take_packet(stage, bin, time, state),
+            Body::Row { time, tag, fields } => self.take_row(name, time, tag, fields),
+        }
+    }
+
+    // A control record is noted, and its time is to be settled from now on.
+    fn take_control(&mut self, index: u32, control: Control)
+        requires content { IsControlOf J.job index self.old.worker.number control }
+        requires fresh { has self.old.worker.log.took (Ctrl index self.old.worker.number) ≡ false }
+        requires room { HasRoomToTake (Q.facts J.job.rules) J.job self.old }
+        ensures { self.new.worker ≡ with_taken (Ctrl index self.old.worker.number) self.old.worker }
+    {
+        let time = control.time;
+        let name = Name::Ctrl {
+            index,
+            to: self.log.worker(),
+        };
+        let changes = [
+            one_less(Loc::CtlMail, time),
+            one_more(Loc::Move(control.stage), time),
+        ];
+        let movers = &mut self.movers[control.stage as usize];
+        // A time that is noted already is counted as one to be settled.
+        let count = if movers.unsettled(time) { 1 } else { 2 };
+        let Ok(()) = self.log.push(LogList::Took, name, &changes[..count]) else {
+            unreachable!()
+        };
+        let Ok(()) = self.owners.note(index, control) else {
+            unreachable!()
+        };
+        let Ok(()) = movers.note(time) else {
+            unreachable!()
+        };
+    }
+
+    // A record goes to the host of its stage.
+    fn take_record(&mut self, name: Name, stage: u32, rec: Rec)
+        requires record { IsRecordOf (Q.facts J.job.rules) J.job stage rec }
+        requires name { name ≡ name_of_record stage rec }
+        requires owed { IsOwedTo (outline_of (Q.facts J.job.rules) J.job) self.old.worker.number name }
+        requires fresh { has self.old.worker.log.took name ≡ false }
+        requires room { HasRoomToTake (Q.facts J.job.rules) J.job self.old }
+        ensures { self.new.worker ≡ with_taken name self.old.worker }
+    {
+        let time = rec.time;
+        let changes = [
+            one_less(Loc::Mail(stage), time),
+            one_more(Loc::Host(stage), time),
+        ];
+        let host = &mut self.hosts[stage as usize];
+        // A group that waits already is counted at the host.
+        let count = if host.waits(time, rec.key) { 1 } else { 2 };
+        let Ok(()) = self.log.push(LogList::Took, name, &changes[..count]) else {
+            unreachable!()
+        };
+        let Ok(()) = host.receive(rec) else {
+            unreachable!()
+        };
+    }
+
+    // The state of a bin is in hand from now on.
+    fn take_packet(&mut self, stage: u32, bin: u32, time: Time, state: BinState<Q::Cell>)
+        requires state { IsPacketOf (Q.facts J.job.rules) J.job stage bin time state }
+        requires owed { IsOwedTo (outline_of (Q.facts J.job.rules) J.job) self.old.worker.number (Packet stage bin time) }
+        requires fresh { has self.old.worker.log.took (Packet stage bin time) ≡ false }
+        requires room { HasRoomToTake (Q.facts J.job.rules) J.job self.old }
+        ensures { self.new.worker ≡ with_taken (Packet stage bin time) self.old.worker }
+    {
+        let host = &mut self.hosts[stage as usize];
+        let lists = &mut self.lists;
+        host.coming(&state, &mut lists.numbers);
+        let Ok(()) = list_coming(&mut lists.changes, stage, time, lists.numbers.as_slice()) else {
+            unreachable!()
+        };
+        let name = Name::Packet { stage, bin, time };
+        let Ok(()) = self.log.push(LogList::Took, name, lists.changes.as_slice()) else {
+            unreachable!()
+        };
+        host.install(bin, time, state);
+    }
+
+    // An answer row goes to those that are to be written.
+    fn take_row(&mut self, name: Name, time: Time, tag: Tag, fields: Fields)
+        requires row { IsRowOf (Q.facts J.job.rules) J.job time tag fields }
+        requires name { name ≡ Row time tag }
+        requires owed { IsOwedTo (outline_of (Q.facts J.job.rules) J.job) self.old.worker.number name }
+        requires fresh { has self.old.worker.log.took name ≡ false }
+        requires room { HasRoomToTake (Q.facts J.job.rules) J.job self.old }
+        ensures { self.new.worker ≡ with_taken name self.old.worker }
+    {
+        let changes = [one_less(Loc::OutMail, time)];
+        let Ok(()) = self.log.push(LogList::Took, name, &changes) else {
+            unreachable!()
+        };
+        let Ok(()) = self.rows.receive(time, tag, fields) else {
+            unreachable!()
+        };
+    }
+}
+
+// Lists what a packet that is taken changes at the counts: it is on its way no longer, and so many groups of each time wait.
+// The list is empty and has room for them.
+fn list_coming(
+    changes: &mut Vec<Change>,
+    stage: u32,
+    time: Time,
+    numbers: &[(Time, u64)],
+) -> Result<(), AllocError>
+    requires empty { changes.old.items ≡ [] }
+    requires room { length numbers.now + 1 ≤ vec_capacity changes.old }
+    requires few { All (λ n. n.1 < 2 ^ 63) numbers.now }
+    ensures done { IsOk result }
+    ensures changes { changes.new.items ≡ packet_taken_at stage time numbers.now }
+{
+    changes.push(one_less(Loc::State(stage), time))?;
+    for (at, number) in numbers {
+        changes.push(Change {
+            at: Pointstamp {
+                loc: Loc::Host(stage),
+                time: *at,
+            },
+            by: *number as i64,
+        })?;
+    }
+    Ok(())
+}

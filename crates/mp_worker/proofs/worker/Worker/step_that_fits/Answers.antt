@@ -1,0 +1,82 @@
+use Rattle.std.proofs.Common.{refl}
+use Rattle.mp_names.specs.declared.kinds.Kind.TheVariants.{Apply, Ingest, Settle}
+use Rattle.mp_refinement.proofs.Alone.{alone_by_mail, post_kept}
+use Rattle.mp_worker.proofs.worker.Worker.step_that_fits.Goals as goal
+
+pub route-requires-clause-stage : goal.route-requires-clause-stage
+route-requires-clause-stage g c κs within = rw c.in-Route.is at c.requires.fits
+
+pub receive-requires-clause-from : goal.receive-requires-clause-from
+receive-requires-clause-from g c κs within = rw c.in-Receive.is at c.requires.fits
+
+pub extract-requires-clause-stage : goal.extract-requires-clause-stage
+extract-requires-clause-stage g c κs within = rw c.in-Extract.is at c.requires.fits
+
+pub settle-requires-clause-stage : goal.settle-requires-clause-stage
+settle-requires-clause-stage g c κs within = rw c.in-Settle.is at c.requires.fits
+
+pub apply-requires-clause-stage : goal.apply-requires-clause-stage
+apply-requires-clause-stage g c κs within = rw c.in-Apply.is at c.requires.fits
+
+pub returns-in-Ingest-clause-steps : goal.returns-in-Ingest-clause-steps
+returns-in-Ingest-clause-steps g c = rw (← c.self.view_is, c.in-Ingest.is) (alone_by_mail (g.P.Post.had_room c.args.post.now) (g.P.Post.was_full c.args.post.now) (g.P.Post.was_empty c.args.post.now) _ Ingest (λ w x. tt) _ _ _ c.ingest.ensures)
+
+pub returns-in-Ingest-clause-mail : goal.returns-in-Ingest-clause-mail
+returns-in-Ingest-clause-mail g c = rw (← c.self.view_is) (post_kept g.P.Post.workers g.P.Post.depth g.P.Post.serves g.P.Post.denotes _ Ingest (λ log x. (refl, refl)) _ _ _ _ c.ingest.ensures)
+
+pub returns-in-Settle-clause-steps : goal.returns-in-Settle-clause-steps
+returns-in-Settle-clause-steps g c = rw (← c.self.view_is, c.in-Settle.is) (alone_by_mail (g.P.Post.had_room c.args.post.now) (g.P.Post.was_full c.args.post.now) (g.P.Post.was_empty c.args.post.now) _ (Settle c.in-Settle.stage) (λ w x. tt) _ _ _ c.settle.ensures)
+
+pub returns-in-Settle-clause-mail : goal.returns-in-Settle-clause-mail
+returns-in-Settle-clause-mail g c = rw (← c.self.view_is) (post_kept g.P.Post.workers g.P.Post.depth g.P.Post.serves g.P.Post.denotes _ (Settle c.in-Settle.stage) (λ log x. (refl, refl)) _ _ _ _ c.settle.ensures)
+
+pub returns-in-Apply-clause-steps : goal.returns-in-Apply-clause-steps
+returns-in-Apply-clause-steps g c = rw (← c.self.view_is, c.in-Apply.is) (alone_by_mail (g.P.Post.had_room c.args.post.now) (g.P.Post.was_full c.args.post.now) (g.P.Post.was_empty c.args.post.now) _ (Apply c.in-Apply.stage) (λ w x. tt) _ _ _ c.apply.ensures)
+
+pub returns-in-Apply-clause-mail : goal.returns-in-Apply-clause-mail
+returns-in-Apply-clause-mail g c = rw (← c.self.view_is) (post_kept g.P.Post.workers g.P.Post.depth g.P.Post.serves g.P.Post.denotes _ (Apply c.in-Apply.stage) (λ log x. (refl, refl)) _ _ _ _ c.apply.ensures)
+
+pub returns-in-SendControl-clause-steps : goal.returns-in-SendControl-clause-steps
+returns-in-SendControl-clause-steps g c = rw (← c.self.view_is, c.in-SendControl.is) c.send_control.ensures.steps
+
+pub returns-in-Route-clause-steps : goal.returns-in-Route-clause-steps
+returns-in-Route-clause-steps g c = rw (← c.self.view_is, c.in-Route.is) c.route.ensures.steps
+
+pub returns-in-Receive-clause-steps : goal.returns-in-Receive-clause-steps
+returns-in-Receive-clause-steps g c = rw (← c.self.view_is, c.in-Receive.is) c.receive.ensures.steps
+
+pub returns-in-Extract-clause-steps : goal.returns-in-Extract-clause-steps
+returns-in-Extract-clause-steps g c = rw (← c.self.view_is, c.in-Extract.is) c.extract.ensures.steps
+
+pub returns-in-SendRow-clause-steps : goal.returns-in-SendRow-clause-steps
+returns-in-SendRow-clause-steps g c = rw (← c.self.view_is, c.in-SendRow.is) c.send_row.ensures.steps
+
+pub send_control-requires-clause-at_post : goal.send_control-requires-clause-at_post
+send_control-requires-clause-at_post g c κs within = rw c.self.view_is c.requires.at_post
+
+pub returns-in-SendControl-clause-mail : goal.returns-in-SendControl-clause-mail
+returns-in-SendControl-clause-mail g c = rw (← c.self.view_is) c.send_control.ensures.mail
+
+pub route-requires-clause-at_post : goal.route-requires-clause-at_post
+route-requires-clause-at_post g c κs within = rw c.self.view_is c.requires.at_post
+
+pub returns-in-Route-clause-mail : goal.returns-in-Route-clause-mail
+returns-in-Route-clause-mail g c = rw (← c.self.view_is) c.route.ensures.mail
+
+pub receive-requires-clause-at_post : goal.receive-requires-clause-at_post
+receive-requires-clause-at_post g c κs within = rw c.self.view_is c.requires.at_post
+
+pub returns-in-Receive-clause-mail : goal.returns-in-Receive-clause-mail
+returns-in-Receive-clause-mail g c = rw (← c.self.view_is) c.receive.ensures.mail
+
+pub extract-requires-clause-at_post : goal.extract-requires-clause-at_post
+extract-requires-clause-at_post g c κs within = rw c.self.view_is c.requires.at_post
+
+pub returns-in-Extract-clause-mail : goal.returns-in-Extract-clause-mail
+returns-in-Extract-clause-mail g c = rw (← c.self.view_is) c.extract.ensures.mail
+
+pub send_row-requires-clause-at_post : goal.send_row-requires-clause-at_post
+send_row-requires-clause-at_post g c κs within = rw c.self.view_is c.requires.at_post
+
+pub returns-in-SendRow-clause-mail : goal.returns-in-SendRow-clause-mail
+returns-in-SendRow-clause-mail g c = rw (← c.self.view_is) c.send_row.ensures.mail
