@@ -227,6 +227,67 @@ fn places_that_the_job_lacks(rt: HostRuntime) -> Result<(), Fail> {
     outside_is_not_now::<_, Brand>(&rt, &job)
 }
 
+// The kinds of step of three workers and one stage, in the order in which they are tried.
+const KINDS: [Kind; 12] = [
+    Kind::Ingest,
+    Kind::SendControl,
+    Kind::Route(0),
+    Kind::Receive(0),
+    Kind::Receive(1),
+    Kind::Receive(2),
+    Kind::Extract(0),
+    Kind::Settle(0),
+    Kind::Apply(0),
+    Kind::SendRow,
+    Kind::Write,
+    Kind::Exchange,
+];
+
+// All places of workers 0 and 1 in turn, a hundred times, and none of worker 2.
+fn places_of_two(alloc: Global) -> Result<Vec<(u32, Kind)>, AllocError> {
+    let mut places = Vec::new(alloc);
+    for _ in 0..100 {
+        for worker in 0..2 {
+            for kind in KINDS {
+                places.push((worker, kind))?;
+            }
+        }
+    }
+    Ok(places)
+}
+
+fn is_group(turn: &Turn) -> bool {
+    matches!(turn, Turn::Did(Name::Group { .. }))
+}
+
+// While worker 2 makes no step the message to it isn't taken, so no group is applied. From there on the schedule
+// of a seed ends the run.
+fn starves_and_ends<R: AllocGlobal + Abort, J: Naming>(rt: &R, job: &Job<Q1>) -> Result<(), Fail>
+    requires { job.now ≡ J.job }
+{
+    let mut sink = MemSink::new(rt.alloc());
+    let mut plain = Plain::<Q1, J>::open(rt.alloc(), job, 64)?;
+    let places = places_of_two(rt.alloc())?;
+    let Ok(turns) = plain.drive_list(rt.alloc(), places.as_slice(), &mut sink) else {
+        return Err("the list stopped".into());
+    };
+    assert!(rt; !turns.iter().any(is_group));
+    let listed = turns.iter().filter(|turn| **turn != Turn::NotNow).count() as u64;
+    assert_eq!(rt; plain.steps(), listed);
+    let Ok(made) = plain.drive_seed(0, &OpenGate, &mut sink) else {
+        return Err("the run stopped".into());
+    };
+    assert_eq!(rt; plain.steps(), listed.saturating_add(made));
+    assert_eq!(rt; sink.bytes(), b"5|1|1|178\n5|4|1|89\n".as_slice());
+    Ok(())
+}
+
+#[test]
+fn starved_worker(rt: HostRuntime) -> Result<(), Fail> {
+    let job = two_bids(rt.alloc())?;
+    starves_and_ends::<_, Brand>(&rt, &job)
+}
+
 // What a whole run with this seed writes, and whether it makes no more than so many steps.
 fn replays<J: Naming>(
     alloc: Global,

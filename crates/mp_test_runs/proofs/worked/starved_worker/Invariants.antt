@@ -1,0 +1,5 @@
+-- The name that is picked is that of the job.
+use Rattle.mp_test_runs.proofs.worked.starved_worker.Given as goal
+
+abbrev pub ghosts-starves_and_ends : goal.ghosts-starves_and_ends
+ghosts-starves_and_ends g a = record { job = a.job.now }
