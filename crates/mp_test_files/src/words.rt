@@ -1,6 +1,7 @@
 //! What words ask for. Words that are refused stand in examples/cases.toml.
 use mp_words::{
-    CheckOptions, Command, DemoOptions, MakeOptions, QueryName, RunOptions, WordsRefused, parse,
+    CheckOptions, Command, DemoOptions, MakeOptions, QueryName, RunOptions, Schedule, WordsRefused,
+    parse,
 };
 use std::alloc::{AllocError, Global};
 use std::process::Abort;
@@ -15,12 +16,20 @@ const ASKED: RunOptions<'static> = RunOptions {
     workers: 1,
     bins: 16,
     depth: 64,
-    seed: 0,
+    schedule: Schedule::Threads,
 };
 
 const RUN: &str = "m run --query q1 --events e --config c --out o";
 
 const REPLAY: &str = "m replay --query q1 --events e --config c --out o";
+
+/// The same, by the schedule of a seed.
+fn by_seed(seed: u64) -> RunOptions<'static> {
+    RunOptions {
+        schedule: Schedule::Seeded(seed),
+        ..ASKED
+    }
+}
 
 /// The words of a line, cut at blanks: two blanks side by side make an empty word.
 fn cut(alloc: Global, line: &str) -> Result<Vec<String>, AllocError> {
@@ -66,7 +75,11 @@ fn options_come_in_any_order(rt: HostRuntime) -> Result<(), Fail> {
         depth: 5,
         ..ASKED
     };
-    let seeded = RunOptions { seed: 9, ..full };
+    let seeded = RunOptions {
+        schedule: Schedule::Seeded(9),
+        ..full
+    };
+    let replayed = by_seed(0);
     let rows = [
         ("m run --query q1 --events e --config c --out o", ASKED),
         (
@@ -82,7 +95,10 @@ fn options_come_in_any_order(rt: HostRuntime) -> Result<(), Fail> {
             "m run --depth 5 --out o --bins 32 --config c --workers 3 --events e --query q2",
             full,
         ),
-        ("m replay --query q1 --events e --config c --out o", ASKED),
+        (
+            "m replay --query q1 --events e --config c --out o",
+            replayed,
+        ),
         (
             "m replay --query q2 --events e --config c --out o --workers 3 --bins 32 --depth 5 --seed 9",
             seeded,
@@ -98,7 +114,7 @@ fn options_come_in_any_order(rt: HostRuntime) -> Result<(), Fail> {
             "m replay --query q1 --events e --config c --out o --report=e2",
             RunOptions {
                 report: Some("e2"),
-                ..ASKED
+                ..replayed
             },
         ),
         (
@@ -152,7 +168,7 @@ fn clap_decides_the_words(rt: HostRuntime) -> Result<(), Fail> {
             RunOptions {
                 events: "replay",
                 out: "--seed",
-                ..ASKED
+                ..by_seed(0)
             },
         ),
     ];
@@ -224,7 +240,7 @@ fn replay_takes_a_seed(rt: HostRuntime) -> Result<(), Fail> {
         (" --seed 281474976710656", 1 << 48),
     ];
     for (more, seed) in rows {
-        goes_on_as(&rt, REPLAY, more, RunOptions { seed, ..ASKED })?;
+        goes_on_as(&rt, REPLAY, more, by_seed(seed))?;
     }
     Ok(())
 }

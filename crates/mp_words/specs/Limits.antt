@@ -7,6 +7,8 @@ use Rattle.mp_words.specs.declared.options.Command.TheVariants.{Run, Check, Make
 use Rattle.mp_words.specs.declared.options.DemoOptions.{DemoOptions}
 use Rattle.mp_words.specs.declared.options.MakeOptions.{MakeOptions}
 use Rattle.mp_words.specs.declared.options.RunOptions.{RunOptions}
+use Rattle.mp_words.specs.declared.options.Schedule.{Schedule}
+use Rattle.mp_words.specs.declared.options.Schedule.TheVariants.{Threads, Seeded}
 
 -- a number is at least 1 and at most `most`
 abbrev pub IsPositiveUpTo : ℕ → ℕ → Type 0
@@ -15,6 +17,11 @@ IsPositiveUpTo most n = (1 ≤ n) × (n ≤ most)
 -- a power of two from 1 to 256
 abbrev pub IsBinCount : ℕ → Type 0
 IsBinCount bins = (k : ℕ) × (k ≤ 8) × (bins ≡ 2 ^ k)
+
+-- the seed, where there is one, is within its limit
+abbrev pub SeedIsWithinLimit : Schedule → Type 0
+SeedIsWithinLimit Threads = Unit {0}
+SeedIsWithinLimit (Seeded seed) = seed ≤ greatest_seed
 
 -- the name is neither of those that are read, nor that of the answer
 pub record IsApart (options : RunOptions) (name : List ℕ) : Type 0 where
@@ -27,7 +34,7 @@ pub record AreWithinLimits (options : RunOptions) : Type 0 where
   pub workers : IsPositiveUpTo most_workers options.workers
   pub bins : IsBinCount options.bins
   pub depth : IsPositiveUpTo deepest_mailbox options.depth
-  pub seed : options.seed ≤ greatest_seed
+  pub seed : SeedIsWithinLimit options.schedule
   pub events : options.out.now ≢ options.events.now
   pub config : options.out.now ≢ options.config.now
   pub report : IfSome options.report (λ report. IsApart options report.now)

@@ -13,6 +13,8 @@ use Rattle.mp_words.specs.declared.options.MakeOptions.{MakeOptions}
 use Rattle.mp_words.specs.declared.options.QueryName.{QueryName}
 use Rattle.mp_words.specs.declared.options.QueryName.TheVariants.{Q1, Q2, Q3, Q4, Q5, Q6, Q7, Q8}
 use Rattle.mp_words.specs.declared.options.RunOptions.{RunOptions}
+use Rattle.mp_words.specs.declared.options.Schedule.{Schedule}
+use Rattle.mp_words.specs.declared.options.Schedule.TheVariants.{Seeded}
 
 -- what `run` and `replay` ask for
 pub record Options : Type 0 where
@@ -24,7 +26,7 @@ pub record Options : Type 0 where
   pub workers : ℕ
   pub bins : ℕ
   pub depth : ℕ
-  pub seed : ℕ
+  pub schedule : Schedule
 
 -- what `check` asks for
 pub record CheckAsked : Type 0 where
@@ -51,7 +53,7 @@ options_in o = record {
   workers = o.workers;
   bins = o.bins;
   depth = o.depth;
-  seed = o.seed;
+  schedule = o.schedule;
 }
 
 -- what those of `check` ask for
@@ -99,7 +101,7 @@ power_up_to most text = option_and_then only_power (positive_up_to most text)
 abbrev pub count_of : List ℕ → Option ℕ
 count_of text = number_up_to most_events text
 
--- the seed that a text says, and 0 where there is no text, as `run` has none
+-- the seed that a text says, and 0 where there is no text
 abbrev pub seed_of : Option (List ℕ) → Option ℕ
 seed_of (Some text) = number_up_to greatest_seed text
 seed_of None = Some 0
@@ -109,16 +111,16 @@ abbrev pub is_one_of : List ℕ → List ℕ → List ℕ → List ℕ → Bool
 is_one_of events config out name = bytes_eq name events || (bytes_eq name config || bytes_eq name out)
 
 -- all of them, where the answer's name is neither of those that are read, and the report's is none of these three
-abbrev pub together : Option QueryName → Option (List ℕ) → Option (List ℕ) → Option (List ℕ) → Option (List ℕ) → Option ℕ → Option ℕ → Option ℕ → Option ℕ → Option Options
-together (Some query) (Some events) (Some config) (Some out) report (Some workers) (Some bins) (Some depth) (Some seed) =
+abbrev pub together : Schedule → Option QueryName → Option (List ℕ) → Option (List ℕ) → Option (List ℕ) → Option (List ℕ) → Option ℕ → Option ℕ → Option ℕ → Option Options
+together schedule (Some query) (Some events) (Some config) (Some out) report (Some workers) (Some bins) (Some depth) =
     if bytes_eq out events || bytes_eq out config then None
     else if option_map_or (is_one_of events config out) report false then None
-    else Some (record { query = query; events = events; config = config; out = out; report = report; workers = workers; bins = bins; depth = depth; seed = seed })
+    else Some (record { query = query; events = events; config = config; out = out; report = report; workers = workers; bins = bins; depth = depth; schedule = schedule })
 together _ _ _ _ _ _ _ _ _ = None
 
--- what the values that clap found for the options of `run` or `replay` ask for, if each is allowed
-abbrev pub options_of : List Row → Option Options
-options_of rows = together
+-- what the values that clap found for the options of `run` or `replay` ask for, if each is allowed, with this schedule
+abbrev pub options_of : Schedule → List Row → Option Options
+options_of schedule rows = together schedule
     (option_and_then query_of (first_of (codes "query") rows))
     (first_of (codes "events") rows)
     (first_of (codes "config") rows)
@@ -127,7 +129,10 @@ options_of rows = together
     (option_and_then (positive_up_to most_workers) (first_of (codes "workers") rows))
     (option_and_then (power_up_to most_bins) (first_of (codes "bins") rows))
     (option_and_then (positive_up_to deepest_mailbox) (first_of (codes "depth") rows))
-    (seed_of (first_of (codes "seed") rows))
+
+-- what those of `replay` ask for: the schedule is that of its seed
+abbrev pub replay_of : List Row → Option Options
+replay_of rows = option_and_then (λ seed. options_of (Seeded seed) rows) (seed_of (first_of (codes "seed") rows))
 
 -- all that `check` asks for
 abbrev pub together_to_check : Option QueryName → Option (List ℕ) → Option (List ℕ) → Option ℕ → Option ℕ → Option CheckAsked

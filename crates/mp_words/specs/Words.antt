@@ -7,7 +7,8 @@ use Rattle.mp_words.specs.Command.{command_app}
 use Rattle.mp_words.specs.declared.options.Command.{Command}
 use Rattle.mp_words.specs.declared.options.Command.TheVariants as read
 use Rattle.mp_words.specs.declared.options.DemoOptions.{DemoOptions}
-use Rattle.mp_words.specs.Values.{Options, CheckAsked, MakeAsked, check_in, check_of, demo_of, make_in, make_of, options_in, options_of}
+use Rattle.mp_words.specs.declared.options.Schedule.TheVariants.{Threads}
+use Rattle.mp_words.specs.Values.{Options, CheckAsked, MakeAsked, check_in, check_of, demo_of, make_in, make_of, options_in, options_of, replay_of}
 
 -- what a command asks for
 pub data Asked : Type 0 where
@@ -26,8 +27,8 @@ asked_in (read.Demo options) = Demo options
 -- what the subcommand of this name asks for by the values of its options, if each is allowed
 abbrev pub asked_of : List ℕ × List Row → Option Asked
 asked_of used =
-    if bytes_eq used.0 (codes "run") then option_map Run (options_of used.1)
-    else if bytes_eq used.0 (codes "replay") then option_map Run (options_of used.1)
+    if bytes_eq used.0 (codes "run") then option_map Run (options_of Threads used.1)
+    else if bytes_eq used.0 (codes "replay") then option_map Run (replay_of used.1)
     else if bytes_eq used.0 (codes "check") then option_map Check (check_of used.1)
     else if bytes_eq used.0 (codes "make") then option_map Make (make_of used.1)
     else if bytes_eq used.0 (codes "demo") then option_map Demo (demo_of used.1)

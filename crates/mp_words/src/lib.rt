@@ -13,6 +13,8 @@ mod refused;
 mod values;
 mod words;
 
-pub use options::{CheckOptions, Command, DemoOptions, MakeOptions, QueryName, RunOptions};
+pub use options::{
+    CheckOptions, Command, DemoOptions, MakeOptions, QueryName, RunOptions, Schedule,
+};
 pub use refused::WordsRefused;
 pub use words::parse;

@@ -34,6 +34,15 @@ pub enum Command<'a> {
     Demo(DemoOptions),
 }
 
+/// How the workers of a run take turns.
+#[derive(Clone, Copy, PartialEq, Eq, Debug)]
+pub enum Schedule {
+    /// On threads, as these go: what `run` asks for.
+    Threads,
+    /// On one thread, by the schedule of this seed, from 0 to [`MAX_SEED`](mp_names::limits::MAX_SEED): what `replay` asks for.
+    Seeded(u64),
+}
+
 /// What `run` and `replay` are to do. Names are as the words say them, the empty name among them.
 #[derive(Clone, Copy, PartialEq, Eq, Debug)]
 pub struct RunOptions<'a> {
@@ -53,8 +62,8 @@ pub struct RunOptions<'a> {
     pub bins: u32,
     /// How many messages a mailbox holds at most, from 1 to [`MAX_DEPTH`](mp_names::limits::MAX_DEPTH).
     pub depth: u32,
-    /// The seed of the schedule, from 0 to [`MAX_SEED`](mp_names::limits::MAX_SEED): what `replay` says, and 0 for `run`.
-    pub seed: u64,
+    /// How the workers take turns.
+    pub schedule: Schedule,
 }
 
 /// What `check` is to read.

@@ -2,19 +2,20 @@
 ghost use Rattle.std.specs.Prelude.{◌≡◌, ◌≤◌, IfSome, option_map, option_and_then};
 ghost use Rattle.clap.specs.Words.{first_of, found_of, rows_of};
 ghost use Rattle.mp_words.specs.Limits.{AreWithinLimits, CheckIsWithinLimits, DemoIsWithinLimits};
-ghost use Rattle.mp_words.specs.Limits.{IsBinCount, IsPositiveUpTo, MakeIsWithinLimits};
+ghost use Rattle.mp_words.specs.Limits.{IsBinCount, IsPositiveUpTo, MakeIsWithinLimits, SeedIsWithinLimit};
 ghost use Rattle.mp_names.specs.Limits.{greatest_seed, most_bins, most_events};
 ghost use Rattle.mp_words.specs.Values.{check_in, check_of, count_of, demo_of, make_in, make_of, number_up_to, options_in};
-ghost use Rattle.mp_words.specs.Values.{is_one_of, options_of, positive_up_to, power_up_to, query_of, seed_of};
+ghost use Rattle.mp_words.specs.Values.{is_one_of, options_of, positive_up_to, power_up_to, query_of, replay_of, seed_of};
 
-use crate::options::{CheckOptions, DemoOptions, MakeOptions, QueryName, RunOptions};
+use crate::options::{CheckOptions, DemoOptions, MakeOptions, QueryName, RunOptions, Schedule};
 use clap::ArgMatches;
 use mp_names::limits::{MAX_BINS, MAX_DEPTH, MAX_EVENTS, MAX_SEED, MAX_WORKERS};
 use mp_text::number;
 
-/// What the options of `run` or `replay` ask for, or `None` where a value isn't allowed.
-pub fn run_options<'a>(matches: &ArgMatches<'a>) -> Option<RunOptions<'a>>
-    ensures asked { option_map options_in result ≡ options_of (rows_of (found_of matches.now)) }
+/// What the options of `run` or `replay` ask for, with this schedule, or `None` where a value isn't allowed.
+pub fn run_options<'a>(matches: &ArgMatches<'a>, schedule: Schedule) -> Option<RunOptions<'a>>
+    requires { SeedIsWithinLimit schedule }
+    ensures asked { option_map options_in result ≡ options_of schedule (rows_of (found_of matches.now)) }
     ensures within { IfSome result AreWithinLimits }
 {
     let options = RunOptions {
@@ -26,7 +27,7 @@ pub fn run_options<'a>(matches: &ArgMatches<'a>) -> Option<RunOptions<'a>>
         workers: positive_number(text(matches, "workers")?, MAX_WORKERS)?,
         bins: bins_named(text(matches, "bins")?)?,
         depth: positive_number(text(matches, "depth")?, MAX_DEPTH)?,
-        seed: seed_named(text(matches, "seed"))?,
+        schedule,
     };
     if options.out == options.events || options.out == options.config {
         return None;
@@ -35,6 +36,15 @@ pub fn run_options<'a>(matches: &ArgMatches<'a>) -> Option<RunOptions<'a>>
         Some(report) if is_named_before(&options, report) => None,
         _ => Some(options),
     }
+}
+
+/// What the options of `replay` ask for, or `None` where a value isn't allowed.
+pub fn replay_options<'a>(matches: &ArgMatches<'a>) -> Option<RunOptions<'a>>
+    ensures asked { option_map options_in result ≡ replay_of (rows_of (found_of matches.now)) }
+    ensures within { IfSome result AreWithinLimits }
+{
+    let seed = seed_named(text(matches, "seed"))?;
+    run_options(matches, Schedule::Seeded(seed))
 }
 
 /// Whether a name is that of the events, of the configuration or of the answer.

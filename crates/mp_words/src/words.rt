@@ -5,9 +5,9 @@ ghost use Rattle.mp_words.specs.Limits.{IsWithinLimits};
 ghost use Rattle.mp_words.specs.Words.{asked_in, asked_of, command_in};
 
 use crate::command::command;
-use crate::options::Command;
+use crate::options::{Command, Schedule};
 use crate::refused::WordsRefused;
-use crate::values::{check_options, demo_options, make_options, run_options};
+use crate::values::{check_options, demo_options, make_options, replay_options, run_options};
 use clap::ArgMatches;
 use std::alloc::Global;
 
@@ -31,7 +31,8 @@ fn command_found<'a>(matches: &ArgMatches<'a>) -> Option<Command<'a>>
 {
     let (name, options) = matches.subcommand()?;
     match name {
-        "run" | "replay" => Some(Command::Run(run_options(options)?)),
+        "run" => Some(Command::Run(run_options(options, Schedule::Threads)?)),
+        "replay" => Some(Command::Run(replay_options(options)?)),
         "check" => Some(Command::Check(check_options(options)?)),
         "make" => Some(Command::Make(make_options(options)?)),
         "demo" => Some(Command::Demo(demo_options(options)?)),
