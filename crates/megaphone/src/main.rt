@@ -1,6 +1,7 @@
 //! Layer: the command.
 //!
-//! The program: the words of the command line, the files of the system and standard output.
+//! The program: the words of the command line, the files of the system and standard output. Its workers run on threads,
+//! but for `replay`.
 #![tactic(auto)]
 
 ghost use Rattle.std.specs.Prelude.{◌≡◌, ◌⊎◌, None};
@@ -19,6 +20,8 @@ use std::env;
 use std::io::{self, ErrorKind};
 use std::process::ExitCode;
 use std::rt::Env;
+use std::sync::Wait;
+use std::thread::Threads;
 
 fn main(rt: HostRuntime) -> ExitCode {
     let mut depot = HostDepot::new(&rt);
@@ -37,7 +40,7 @@ fn words(rt: &(impl Env + AllocGlobal)) -> io::Result<Vec<String>> {
 }
 
 /// Does what the words ask for, and ends with its status.
-fn answer<D: Depot, S: Sink, R: AllocGlobal>(
+fn answer<D: Depot, S: Sink, R: Threads + Wait + Sync + AllocGlobal>(
     rt: &R,
     words: &[String],
     depot: &mut D,

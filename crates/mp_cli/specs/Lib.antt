@@ -6,4 +6,5 @@ pub mod Outcome
 pub mod Queries
 pub mod Reading
 pub mod Refused
+pub mod Running
 pub mod Writing

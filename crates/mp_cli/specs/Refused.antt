@@ -1,5 +1,7 @@
 -- What a refusal says, as plain data.
 use Rattle.std.specs.Prelude.{ℕ, ◌≡◌, List}
+use Rattle.mp_board.specs.declared.causes.Cause.{Cause}
+use Rattle.mp_board.specs.declared.causes.Cause.TheVariants as cause
 use Rattle.mp_drive.specs.declared.stop.DriveStop.{DriveStop}
 use Rattle.mp_drive.specs.declared.stop.DriveStop.TheVariants as stop
 use Rattle.mp_output.specs.declared.refused.OutRefused.{OutRefused}
@@ -35,10 +37,15 @@ abbrev pub refused_for : Fault → Refusal
 refused_for fault.Failed = refusal.WriteFault
 refused_for fault.NoMemory = refusal.NoMemory
 
--- the refusal where the workers are driven no further
+-- the refusal where workers on one thread are driven no further
 abbrev pub refused_at : DriveStop → Refusal
 refused_at stop.Write = refusal.WriteFault
 refused_at stop.Memory = refusal.NoMemory
+
+-- the refusal where workers on threads have stopped
+abbrev pub refused_after : Cause → Refusal
+refused_after cause.Write = refusal.WriteFault
+refused_after cause.Memory = refusal.NoMemory
 
 -- the refusal where a report isn't written
 abbrev pub refused_by : OutRefused → Refusal

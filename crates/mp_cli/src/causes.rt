@@ -1,9 +1,10 @@
 //! What stopped the writing of an answer or a report, as the refusal of the command.
 ghost use Rattle.std.specs.Prelude.{◌≡◌};
 ghost use Rattle.mp_cli.specs.declared.refusal.Refusal.TheVariants.{NoMemory};
-ghost use Rattle.mp_cli.specs.Refused.{refused_at, refused_by, refused_for};
+ghost use Rattle.mp_cli.specs.Refused.{refused_after, refused_at, refused_by, refused_for};
 
 use crate::refusal::Refusal;
+use mp_board::Cause;
 use mp_drive::DriveStop;
 use mp_output::OutRefused;
 use mp_outside::Fault;
@@ -46,6 +47,17 @@ impl<'a> From<DriveStop> for Refusal<'a> {
         match stop {
             DriveStop::Write => Refusal::WriteFault,
             DriveStop::Memory => Refusal::NoMemory,
+        }
+    }
+}
+
+impl<'a> From<Cause> for Refusal<'a> {
+    ghost from_gives = { λ cause refusal. refusal ≡ refused_after cause };
+
+    fn from(cause: Cause) -> Self {
+        match cause {
+            Cause::Write => Refusal::WriteFault,
+            Cause::Memory => Refusal::NoMemory,
         }
     }
 }

@@ -14,16 +14,18 @@ use mp_gate::Gate;
 use mp_make::{make_events, summary};
 use mp_outside::NeverFails;
 use mp_plans::{Control, all_at_once, fluid};
-use mp_words::{DemoOptions, RunOptions};
+use mp_words::{DemoOptions, RunOptions, Schedule};
 use std::alloc::Global;
+use std::sync::Wait;
+use std::thread::Threads;
 
 // The name that a demo writes its answer to, in memory.
 const ANSWER: &str = "answer";
 
-/// Makes events and runs them in memory, with every bin moved twice: the line that sums up the answer.
+/// Makes events and runs them in memory, on threads, with every bin moved twice: the line that sums up the answer.
 /// `NoMemory`, and no other refusal: no memory.
-pub fn demo<'a, G: Gate>(
-    alloc: Global,
+pub fn demo<'a, G: Gate + Sync, R: Threads + Wait + Sync + AllocGlobal>(
+    rt: &R,
     options: &DemoOptions,
     gate: &G,
 ) -> Result<Vec<u8>, Refusal<'a>>
@@ -31,11 +33,12 @@ pub fn demo<'a, G: Gate>(
     ensures line { IfOk result (λ line. line.items ≡ demo_line options.now) }
     ensures refused { IfErr result (λ r. outcome_of r ≡ NoMemory) }
 {
+    let alloc = rt.alloc();
     let events = make_events(alloc, options.count, options.seed)?;
     let asked = run_in_memory(options);
     let controls = two_moves(alloc, shape_of(&asked))?;
     let mut memory = NeverFails::new(alloc);
-    write_answer(alloc, &mut memory, &asked, events, controls, gate)?;
+    write_answer(rt, &mut memory, &asked, events, controls, gate)?;
     match memory.get(ANSWER) {
         Some(answer) => Ok(summary(alloc, u64::from(options.count), answer)?),
         None => unreachable!(),
@@ -59,7 +62,7 @@ fn run_in_memory(options: &DemoOptions) -> RunOptions<'static>
         workers: options.workers,
         bins: options.bins,
         depth: options.depth,
-        seed: 0,
+        schedule: Schedule::Threads,
     }
 }
 

@@ -10,6 +10,7 @@ mod making;
 mod reading;
 mod refusal;
 mod reporting;
+mod running;
 mod serve;
 mod shape;
 mod status;

@@ -20,12 +20,13 @@ use crate::writing::write_answer;
 use mp_gate::Gate;
 use mp_outside::Depot;
 use mp_words::{Command, RunOptions, WordsRefused, parse};
-use std::alloc::Global;
+use std::sync::Wait;
+use std::thread::Threads;
 
 /// Carries out the command that the words ask for: the line that it says when all is done. `Refusal`: why it
 /// isn't; which one comes first, the statuses of the command say.
-pub fn serve<'a, D: Depot, G: Gate>(
-    alloc: Global,
+pub fn serve<'a, D: Depot, G: Gate + Sync, R: Threads + Wait + Sync + AllocGlobal>(
+    rt: &R,
     words: &'a [String],
     depot: &mut D,
     gate: &G,
@@ -51,16 +52,16 @@ pub fn serve<'a, D: Depot, G: Gate>(
         (IsCommandAnsweredInPart (command_in words.now) (D.files depot.old) (D.files depot.new)) }
     ensures others { OthersStay (command_in words.now) (D.files depot.old) (D.files depot.new) }
 {
-    match parse(alloc, words) {
-        Ok(command) => carry_out(alloc, command, depot, gate),
+    match parse(rt.alloc(), words) {
+        Ok(command) => carry_out(rt, command, depot, gate),
         Err(WordsRefused::Usage) => Err(Refusal::Usage),
         Err(WordsRefused::NoMemory) => Err(Refusal::NoMemory),
     }
 }
 
 /// Carries out a command: the line that it says when all is done.
-fn carry_out<'a, D: Depot, G: Gate>(
-    alloc: Global,
+fn carry_out<'a, D: Depot, G: Gate + Sync, R: Threads + Wait + Sync + AllocGlobal>(
+    rt: &R,
     command: Command<'a>,
     depot: &mut D,
     gate: &G,
@@ -88,16 +89,16 @@ fn carry_out<'a, D: Depot, G: Gate>(
     ensures others { OthersStay (Some (asked_in command.entry)) (D.files depot.old) (D.files depot.new) }
 {
     match command {
-        Command::Run(options) => answer(alloc, depot, &options, gate),
-        Command::Check(options) => check(alloc, depot, &options),
-        Command::Make(options) => make(alloc, depot, &options),
-        Command::Demo(options) => demo(alloc, &options, gate),
+        Command::Run(options) => answer(rt, depot, &options, gate),
+        Command::Check(options) => check(rt.alloc(), depot, &options),
+        Command::Make(options) => make(rt.alloc(), depot, &options),
+        Command::Demo(options) => demo(rt, &options, gate),
     }
 }
 
 /// Carries out a run: reads its events and its configuration, and writes the answer. It says nothing.
-fn answer<'a, D: Depot, G: Gate>(
-    alloc: Global,
+fn answer<'a, D: Depot, G: Gate + Sync, R: Threads + Wait + Sync + AllocGlobal>(
+    rt: &R,
     depot: &mut D,
     options: &RunOptions<'a>,
     gate: &G,
@@ -122,9 +123,9 @@ fn answer<'a, D: Depot, G: Gate>(
     ensures part { OnErr result
         (WritesPart (D.files depot.old) (D.files depot.new) (options_in options.now)) }
 {
-    let events = events_in(alloc, depot, options.events)?;
+    let events = events_in(rt.alloc(), depot, options.events)?;
     let shape = shape_of(options);
-    let controls = controls_in(alloc, depot, options.config, &shape)?;
-    write_answer(alloc, depot, options, events, controls, gate)?;
-    Ok(Vec::new(alloc))
+    let controls = controls_in(rt.alloc(), depot, options.config, &shape)?;
+    write_answer(rt, depot, options, events, controls, gate)?;
+    Ok(Vec::new(rt.alloc()))
 }

@@ -12,6 +12,8 @@ use crate::serve::serve;
 use crate::status::{Status, conclude, refuse};
 use mp_gate::Gate;
 use mp_outside::{Depot, Sink};
+use std::sync::Wait;
+use std::thread::Threads;
 
 /// Does what the words of the command line ask for, on the files of a depot. `words` begins with the
 /// program's name. A refusal says one line on `said`; `check` and `demo` say theirs there.
@@ -27,9 +29,10 @@ use mp_outside::{Depot, Sink};
 /// has more than 2^28 bytes. The refusals 3 and 4 say the number of the first bad line and the first check that
 /// it fails.
 ///
-/// The workers take turns on one thread, by the schedule of the seed; `run` has the seed 0. They pass the
-/// gate before each step.
-pub fn run<D: Depot, S: Sink, G: Gate + Sync, R: AllocGlobal>(
+/// `run` and `demo` work on threads, one for each worker: this one drives worker 0, and each worker for which no thread
+/// could be made. They wait for these threads, and for each other. `replay` works on this thread alone, where the
+/// workers take turns by the schedule of the seed. Workers pass the gate before each step.
+pub fn run<D: Depot, S: Sink, G: Gate + Sync, R: Threads + Wait + Sync + AllocGlobal>(
     rt: &R,
     words: &[String],
     depot: &mut D,
@@ -79,7 +82,7 @@ pub fn run<D: Depot, S: Sink, G: Gate + Sync, R: AllocGlobal>(
         × SaysLine S.written S.faults
         (line_said outcome) (status_of outcome) result.code said.old said.new }
 {
-    match serve(rt.alloc(), words, depot, gate) {
+    match serve(rt, words, depot, gate) {
         Ok(line) => conclude(line.as_slice(), said),
         Err(refusal) => refuse(&refusal, said),
     }

@@ -1,5 +1,5 @@
 //! The answer's way into its file, and the report's after it.
-ghost use Rattle.std.specs.Prelude.{◌≡◌, ◌≤◌, ◌⊎◌, IfErr, IfOk, OnErr, OnOk};
+ghost use Rattle.std.specs.Prelude.{◌≡◌, ◌⊎◌, IfErr, IfOk, OnErr, OnOk};
 ghost use Rattle.mp_model.specs.Answers.{one_thread_answer};
 ghost use Rattle.mp_model.specs.Legal.{EventsAreLegal};
 ghost use Rattle.mp_output.specs.Rows.{GivesRows};
@@ -10,35 +10,35 @@ ghost use Rattle.mp_words.specs.Values.{options_in};
 ghost use Rattle.mp_job.specs.Legal.{ControlsFit};
 ghost use Rattle.mp_job.specs.Parts.{job_of};
 ghost use Rattle.mp_outline.specs.JobOutline.{outline_of};
-ghost use Rattle.mp_drive.specs.Schedule.{EndsAfter};
-ghost use Rattle.mp_report.specs.Report.{AreTalliesOf, IsReport};
+ghost use Rattle.mp_report.specs.Report.{IsReport};
 ghost use Rattle.mp_cli.specs.Config.{job_asked, shape_of};
 ghost use Rattle.mp_cli.specs.Outcome.{StopsAnswer};
 ghost use Rattle.mp_cli.specs.Queries.{IsReportOf, answer_of, stages_of};
 ghost use Rattle.mp_cli.specs.Refused.{EndsAs, outcome_of};
+ghost use Rattle.mp_cli.specs.Running.{TellsSteps};
 ghost use Rattle.mp_cli.specs.Writing.{HoldsPart, WritesReport, WritesReportPart};
 
 use crate::refusal::Refusal;
 use crate::reporting::report_to;
+use crate::running::answer_to;
 use crate::shape::shape_of;
-use mp_drive::{DriveStop, Replayed, replay_with_tallies};
 use mp_gate::Gate;
 use mp_job::{Control, Job};
 use mp_model::{Event, Query};
-use mp_outside::{Depot, DepotSink, Fault};
+use mp_outside::Depot;
 use mp_q_auction::{Q4, Q6};
 use mp_q_join::{Q3, Q8};
 use mp_q_simple::{Q1, Q2};
 use mp_q_window::{Q5, Q7};
 use mp_words::{QueryName, RunOptions};
-use std::alloc::Global;
-use std::marker::Brand;
+use std::sync::Wait;
+use std::thread::Threads;
 
 /// Runs the dataflow that a command asks for on these events, with its bins moved as these control records
 /// say, and makes its file hold the answer, and then that of the report, where one is asked for, the report.
 /// `WriteFault`: a file couldn't be begun or appended to; `NoMemory`: no memory.
-pub fn write_answer<'a, D: Depot, G: Gate>(
-    alloc: Global,
+pub fn write_answer<'a, D: Depot, G: Gate + Sync, R: Threads + Wait + Sync + AllocGlobal>(
+    rt: &R,
     depot: &mut D,
     options: &RunOptions<'a>,
     events: Vec<Event>,
@@ -64,21 +64,21 @@ pub fn write_answer<'a, D: Depot, G: Gate>(
         → Rose (D.write_faults depot.old) (D.write_faults depot.new)) }
 {
     match options.query {
-        QueryName::Q1 => run_query(alloc, depot, Q1, options, events, controls, gate),
-        QueryName::Q2 => run_query(alloc, depot, Q2, options, events, controls, gate),
-        QueryName::Q3 => run_query(alloc, depot, Q3 {}, options, events, controls, gate),
-        QueryName::Q4 => run_query(alloc, depot, Q4, options, events, controls, gate),
-        QueryName::Q5 => run_query(alloc, depot, Q5 {}, options, events, controls, gate),
-        QueryName::Q6 => run_query(alloc, depot, Q6, options, events, controls, gate),
-        QueryName::Q7 => run_query(alloc, depot, Q7 {}, options, events, controls, gate),
-        QueryName::Q8 => run_query(alloc, depot, Q8 {}, options, events, controls, gate),
+        QueryName::Q1 => run_query(rt, depot, Q1, options, events, controls, gate),
+        QueryName::Q2 => run_query(rt, depot, Q2, options, events, controls, gate),
+        QueryName::Q3 => run_query(rt, depot, Q3 {}, options, events, controls, gate),
+        QueryName::Q4 => run_query(rt, depot, Q4, options, events, controls, gate),
+        QueryName::Q5 => run_query(rt, depot, Q5 {}, options, events, controls, gate),
+        QueryName::Q6 => run_query(rt, depot, Q6, options, events, controls, gate),
+        QueryName::Q7 => run_query(rt, depot, Q7 {}, options, events, controls, gate),
+        QueryName::Q8 => run_query(rt, depot, Q8 {}, options, events, controls, gate),
     }
 }
 
 /// Runs a query on these events, with bins moved by these control records, and makes the files hold its
 /// answer and its report.
-fn run_query<'a, D: Depot, Q: Query, G: Gate>(
-    alloc: Global,
+fn run_query<'a, D: Depot, Q: Query + Send, G: Gate + Sync, R: Threads + Wait + Sync + AllocGlobal>(
+    rt: &R,
     depot: &mut D,
     query: Q,
     options: &RunOptions<'a>,
@@ -108,22 +108,22 @@ fn run_query<'a, D: Depot, Q: Query, G: Gate>(
     ensures failed { IfErr result (λ r. EndsAs r 7
         → Rose (D.write_faults depot.old) (D.write_faults depot.new)) }
 {
-    run_asked(alloc, depot, query, options, events, controls, gate)?;
+    run_asked(rt, depot, query, options, events, controls, gate)?;
     Ok(())
 }
 
 /// Runs a query on these events, with bins moved by these control records, and makes the files hold its
-/// answer and its report: how many steps the workers made, which are those of the schedule of the command's seed, at its
-/// depth, for the job of its shape and these control records.
-fn run_asked<'a, D: Depot, Q: Query, G: Gate>(
-    alloc: Global,
+/// answer and its report: how many steps the workers made by the schedule of the command's seed, at its depth, for the
+/// job of its shape and these control records; `None` on threads.
+fn run_asked<'a, D: Depot, Q: Query + Send, G: Gate + Sync, R: Threads + Wait + Sync + AllocGlobal>(
+    rt: &R,
     depot: &mut D,
     query: Q,
     options: &RunOptions<'a>,
     events: Vec<Event>,
     controls: Vec<Control>,
     gate: &G,
-) -> Result<u64, Refusal<'a>>
+) -> Result<Option<u64>, Refusal<'a>>
     requires options { AreWithinLimits options.now }
     requires events { EventsAreLegal events.items }
     requires controls { ControlsFit (shape_of (options_in options.now)) controls.items }
@@ -131,7 +131,7 @@ fn run_asked<'a, D: Depot, Q: Query, G: Gate>(
     requires rows { GivesRows (Q.facts (Q.rules query)) }
     ensures made { let q = Q.facts (Q.rules query) in
         let job = job_of (Q.rules query) events.items controls.items (shape_of (options_in options.now)) in
-        IfOk result (λ n. EndsAfter (outline_of q job) options.now.depth options.now.seed n) }
+        IfOk result (λ steps. TellsSteps (outline_of q job) options.now.depth options.now.schedule steps) }
     ensures whole { let q = Q.facts (Q.rules query) in
         let asked = options_in options.now in
         let answered = with_file (D.files depot.old) asked.out (one_thread_answer q events.items) in
@@ -149,47 +149,10 @@ fn run_asked<'a, D: Depot, Q: Query, G: Gate>(
     ensures failed { IfErr result (λ r. EndsAs r 7
         → Rose (D.write_faults depot.old) (D.write_faults depot.new)) }
 {
-    let job = Job::new(alloc, query, events, controls, shape_of(options))?;
-    let run = answer_to(alloc, depot, options, &job, gate)?;
+    let job = Job::new(rt.alloc(), query, events, controls, shape_of(options))?;
+    let run = answer_to(rt, depot, options, &job, gate)?;
     if let Some(name) = options.report {
-        report_to(alloc, depot, name, &job, run.tallies.as_slice())?;
+        report_to(rt.alloc(), depot, name, &job, run.tallies.as_slice())?;
     }
     Ok(run.steps)
-}
-
-/// Runs a job by the schedule of the command's seed, at its depth, and makes the file hold the answer: how many
-/// steps the workers made, and what each has done.
-fn answer_to<'a, D: Depot, Q: Query, G: Gate>(
-    alloc: Global,
-    depot: &mut D,
-    options: &RunOptions<'a>,
-    job: &Job<Q>,
-    gate: &G,
-) -> Result<Replayed, Refusal<'a>>
-    requires options { AreWithinLimits options.now }
-    requires rows { GivesRows (Q.facts job.now.rules) }
-    ensures made { let o = outline_of (Q.facts job.now.rules) job.now in
-        IfOk result (λ run. EndsAfter o options.now.depth options.now.seed run.steps) }
-    ensures tallies { IfOk result (λ run.
-        AreTalliesOf (Q.facts job.now.rules) job.now run.tallies.items) }
-    ensures whole { let answer = one_thread_answer (Q.facts job.now.rules) job.now.events in
-        OnOk result (D.files depot.new ≡ with_file (D.files depot.old) options.now.out.now answer) }
-    ensures part { let answer = one_thread_answer (Q.facts job.now.rules) job.now.events in
-        OnErr result (HoldsPart (D.files depot.old) (D.files depot.new) options.now.out.now answer) }
-    ensures refused { IfErr result (λ r. StopsAnswer (outcome_of r)) }
-
-    ensures failed { IfErr result (λ r. EndsAs r 7
-        → Rose (D.write_faults depot.old) (D.write_faults depot.new)) }
-    ensures faults_grow { D.write_faults depot.old ≤ D.write_faults depot.new }
-{
-    depot.begin(options.out)?;
-    let mut sink = DepotSink::new(depot, options.out);
-    Ok(replay_with_tallies::<Q, Brand, _, _>(
-        alloc,
-        job,
-        options.depth,
-        options.seed,
-        gate,
-        &mut sink,
-    )?)
 }

@@ -1,0 +1,130 @@
+//! The run of a job, and the answer's way into its file.
+ghost use Rattle.std.specs.Prelude.{◌≡◌, ◌<◌, ◌≤◌, IfErr, IfOk, OnErr, OnOk};
+ghost use Rattle.mp_model.specs.Answers.{one_thread_answer};
+ghost use Rattle.mp_outline.specs.JobOutline.{outline_of};
+ghost use Rattle.mp_output.specs.Rows.{GivesRows};
+ghost use Rattle.mp_outside.specs.Fault.{Rose};
+ghost use Rattle.mp_outside.specs.Files.{with_file};
+ghost use Rattle.mp_outside.specs.Sink.{OnlyAppends, grown};
+ghost use Rattle.mp_drive.specs.Driven.{HasBegun};
+ghost use Rattle.mp_report.specs.Report.{AreTalliesOf};
+ghost use Rattle.mp_words.specs.Limits.{AreWithinLimits};
+ghost use Rattle.mp_cli.specs.Outcome.{StopsAnswer};
+ghost use Rattle.mp_cli.specs.Refused.{EndsAs, outcome_of};
+ghost use Rattle.mp_cli.specs.Running.{TellsSteps};
+ghost use Rattle.mp_cli.specs.Writing.{HoldsPart};
+
+use crate::refusal::Refusal;
+use mp_board::Cause;
+use mp_drive::{DriveStop, Replayed, replay_with_tallies};
+use mp_gate::Gate;
+use mp_job::Job;
+use mp_model::Query;
+use mp_outside::{Depot, DepotSink, Fault, Sink};
+use mp_parts::Tally;
+use mp_threads::run_with_tallies;
+use mp_words::{RunOptions, Schedule};
+use std::marker::Brand;
+use std::sync::Wait;
+use std::thread::Threads;
+
+/// What a run came to.
+#[derive(Drop)]
+pub struct Ran {
+    /// How many steps the workers made by the schedule of a seed. `None` on threads, whose steps aren't counted.
+    pub steps: Option<u64>,
+    /// What each worker has done, by the workers' numbers.
+    pub tallies: Vec<Tally>,
+}
+
+/// Runs a job as the command asks, at its depth, and makes the file hold the answer: what the run came to.
+/// `WriteFault`: the file couldn't be begun or appended to; `NoMemory`: no memory.
+pub fn answer_to<
+    'a,
+    D: Depot,
+    Q: Query + Send,
+    G: Gate + Sync,
+    R: Threads + Wait + Sync + AllocGlobal,
+>(
+    rt: &R,
+    depot: &mut D,
+    options: &RunOptions<'a>,
+    job: &Job<Q>,
+    gate: &G,
+) -> Result<Ran, Refusal<'a>>
+    requires options { AreWithinLimits options.now }
+    requires rows { GivesRows (Q.facts job.now.rules) }
+    ensures made { let o = outline_of (Q.facts job.now.rules) job.now in
+        IfOk result (λ run. TellsSteps o options.now.depth options.now.schedule run.steps) }
+    ensures tallies { IfOk result (λ run.
+        AreTalliesOf (Q.facts job.now.rules) job.now run.tallies.items) }
+    ensures whole { let answer = one_thread_answer (Q.facts job.now.rules) job.now.events in
+        OnOk result (D.files depot.new ≡ with_file (D.files depot.old) options.now.out.now answer) }
+    ensures part { let answer = one_thread_answer (Q.facts job.now.rules) job.now.events in
+        OnErr result (HoldsPart (D.files depot.old) (D.files depot.new) options.now.out.now answer) }
+    ensures refused { IfErr result (λ r. StopsAnswer (outcome_of r)) }
+
+    ensures failed { IfErr result (λ r. EndsAs r 7
+        → Rose (D.write_faults depot.old) (D.write_faults depot.new)) }
+    ensures faults_grow { D.write_faults depot.old ≤ D.write_faults depot.new }
+{
+    depot.begin(options.out)?;
+    let mut sink = DepotSink::new(depot, options.out);
+    run_into(rt, options, job, gate, &mut sink)
+}
+
+/// Runs a job as the command asks, at its depth, and writes the answer: what the run came to. `WriteFault`: a write
+/// failed; `NoMemory`: no memory. With either a beginning of the answer is written.
+fn run_into<'a, Q: Query + Send, G: Gate + Sync, S: Sink, R: Threads + Wait + Sync + AllocGlobal>(
+    rt: &R,
+    options: &RunOptions<'a>,
+    job: &Job<Q>,
+    gate: &G,
+    sink: &mut S,
+) -> Result<Ran, Refusal<'a>>
+    requires depth { 0 < options.now.depth }
+    requires rows { GivesRows (Q.facts job.now.rules) }
+    ensures made { let o = outline_of (Q.facts job.now.rules) job.now in
+        IfOk result (λ run. TellsSteps o options.now.depth options.now.schedule run.steps) }
+    ensures tallies { IfOk result (λ run.
+        AreTalliesOf (Q.facts job.now.rules) job.now run.tallies.items) }
+    ensures answer { let answer = one_thread_answer (Q.facts job.now.rules) job.now.events in
+        OnOk result (S.written sink.new ≡ grown (S.written sink.old) answer) }
+    ensures part { OnErr result
+        (HasBegun (Q.facts job.now.rules) job.now.events (S.written sink.old) (S.written sink.new)) }
+    ensures refused { IfErr result (λ r. StopsAnswer (outcome_of r)) }
+
+    ensures failed { IfErr result (λ r. EndsAs r 7 → Rose (S.faults sink.old) (S.faults sink.new)) }
+    ensures appends_only { OnlyAppends S.frame S.faults sink.old sink.new }
+{
+    match options.schedule {
+        Schedule::Threads => {
+            let tallies = run_with_tallies::<Q, Brand, _, _, _>(
+                rt,
+                rt.alloc(),
+                job,
+                options.depth,
+                gate,
+                sink,
+            )?;
+            Ok(Ran {
+                steps: None,
+                tallies,
+            })
+        }
+        Schedule::Seeded(seed) => {
+            let run = replay_with_tallies::<Q, Brand, _, _>(
+                rt.alloc(),
+                job,
+                options.depth,
+                seed,
+                gate,
+                sink,
+            )?;
+            Ok(Ran {
+                steps: Some(run.steps),
+                tallies: run.tallies,
+            })
+        }
+    }
+}
