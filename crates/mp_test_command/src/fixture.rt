@@ -1,8 +1,10 @@
 //! What the tests share: files in memory, and a call of the command.
 use mp_cli::run;
-use mp_gate::OpenGate;
+use mp_gate::{Gate, OpenGate};
 use mp_outside::{Depot, MemDepot, MemSink};
 use std::alloc::{AllocError, Global};
+use std::sync::Wait;
+use std::thread::Threads;
 
 /// The words of a run of q1.
 pub const Q1: &str = "megaphone run --query q1 --events e --config c --out o";
@@ -25,18 +27,31 @@ pub fn cut(alloc: Global, line: &str) -> Result<Vec<String>, AllocError> {
 }
 
 /// Runs q1 on the files of a depot: the status, and what was said.
-pub fn ended<R: AllocGlobal, D: Depot>(rt: &R, depot: &mut D) -> Result<(u8, MemSink), AllocError> {
+pub fn ended<R: Threads + Wait + Sync + AllocGlobal, D: Depot>(
+    rt: &R,
+    depot: &mut D,
+) -> Result<(u8, MemSink), AllocError> {
     ended_by(rt, depot, Q1)
 }
 
 /// Does what a line says on the files of a depot: the status, and what was said.
-pub fn ended_by<R: AllocGlobal, D: Depot>(
+pub fn ended_by<R: Threads + Wait + Sync + AllocGlobal, D: Depot>(
     rt: &R,
     depot: &mut D,
     line: &str,
 ) -> Result<(u8, MemSink), AllocError> {
+    ended_at(rt, depot, line, &OpenGate)
+}
+
+/// Does what a line says on the files of a depot, with this gate: the status, and what was said.
+pub fn ended_at<R: Threads + Wait + Sync + AllocGlobal, D: Depot, G: Gate + Sync>(
+    rt: &R,
+    depot: &mut D,
+    line: &str,
+    gate: &G,
+) -> Result<(u8, MemSink), AllocError> {
     let words = cut(rt.alloc(), line)?;
     let mut said = MemSink::new(rt.alloc());
-    let ended = run(rt, words.as_slice(), depot, &mut said, &OpenGate);
+    let ended = run(rt, words.as_slice(), depot, &mut said, gate);
     Ok((ended.code, said))
 }

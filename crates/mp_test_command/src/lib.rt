@@ -1,7 +1,7 @@
 //! Layer: tests, a crate for each layer.
 //!
-//! Tests of the command where a file or an output fails, and of a file that is too large. What files of the system come to
-//! stands in examples/cases.toml.
+//! Tests of the command: where a file or an output fails, of a file that is too large, and of workers on threads. What files
+//! of the system come to stands in examples/cases.toml.
 #![tactic(auto)]
 
 #[cfg(test)]
@@ -10,3 +10,7 @@ mod faults;
 mod fixture;
 #[cfg(test)]
 mod great;
+#[cfg(test)]
+mod threads;
+#[cfg(test)]
+mod workers;
