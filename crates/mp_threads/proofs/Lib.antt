@@ -1,0 +1,7 @@
+-- Lemmas.
+pub mod Begun
+pub mod Coming
+pub mod Crossing
+pub mod Ended
+pub mod Lists
+pub mod Tallied

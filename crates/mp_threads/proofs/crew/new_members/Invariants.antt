@@ -1,0 +1,15 @@
+use Rattle.std.proofs.Common.{◌≡◌, ◌≤◌, ℕ, All, Some, length, drop, vec_capacity}
+use Rattle.std.specs.Prelude.{slice_get}
+use Rattle.mp_member.specs.Members.{MemberState}
+use Rattle.mp_threads.specs.Crews.{HasDoneNothing}
+use Rattle.mp_threads.proofs.crew.new_members.Given as goal
+
+abbrev pub invariant-loop-number : goal.invariant-loop-number
+invariant-loop-number g l = record {
+  room : l.workers ≤ vec_capacity l.members;
+  many : length l.members.items ≡ l.number;
+  numbers : (k : ℕ) (m : MemberState) → slice_get l.members.items k ≡ Some m → m.worker.number ≡ k;
+  new : All HasDoneNothing l.members.items;
+  seats : l.seats.items ≡ drop l.number l.fn.seats.items;
+  posts : l.posts.items ≡ drop l.number l.fn.posts.items;
+}

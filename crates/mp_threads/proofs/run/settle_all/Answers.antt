@@ -1,0 +1,27 @@
+use Rattle.std.proofs.Common.{◌∙◌, ◌++◌, ap, arith, length, map, rules, sym}
+use Rattle.std.specs.Vec.Iter.{into_iter_items}
+use Rattle.std.proofs.lemmas.List.{append-nil, length-map, nil_from_length}
+use Rattle.mp_threads.specs.Places.{number_of}
+use Rattle.mp_threads.proofs.Lists.{passed_on, room_left}
+use Rattle.mp_threads.proofs.run.settle_all.Goals as goal
+
+pub loop-member-preserved : goal.loop-member-preserved
+loop-member-preserved g c =
+    let i = c.loop-member.invariant in
+    let s = c.in-Some.ensures.steps.0 in
+    let items = c.push_reserved.ensures.items in
+    record {
+      next = search rules;
+      numbers = passed_on number_of (λ m. m.worker.number) _ _ _ _ _ _ _ items s c.settle.ensures i.numbers;
+      room = room_left _ _ _ _ _ _ _ _ items s (let e = c.push_reserved.ensures.capacity in omega arith) i.room;
+    }
+
+pub returns-clause-numbers : goal.returns-clause-numbers
+returns-clause-numbers g c =
+    let settled = map number_of c.loop-member.places.items in
+    let over = nil_from_length (into_iter_items c.loop-member.member-iterator) (sym c.loop-member.member-iterator.rest.ok.0 ∙ c.in-None.ensures.steps.0) in
+    sym (append-nil settled) ∙ ap (λ left. settled ++ map (λ m. m.worker.number) left) (sym over) ∙ c.loop-member.invariant.numbers
+
+pub returns-clause-many : goal.returns-clause-many
+returns-clause-many g c =
+    sym (length-map c.loop-member.places.items number_of) ∙ ap length (returns-clause-numbers g c) ∙ length-map (into_iter_items c.args.members) (λ m. m.worker.number)

@@ -1,0 +1,108 @@
+//! The workers of a job, made for threads.
+ghost use Rattle.std.specs.Prelude.{◌≡◌, ◌∷◌, ◌<◌, ℕ, [], All, IfOk, length, replicate};
+ghost use Rattle.std.specs.Arc.{arc_value};
+ghost use Rattle.mp_names.specs.Logs.{empty_log};
+ghost use Rattle.mp_outline.specs.JobOutline.{outline_of};
+ghost use Rattle.mp_output.specs.Rows.{GivesRows};
+ghost use Rattle.mp_board.specs.Boards.{ShowsFrontiers};
+ghost use Rattle.mp_ruled.specs.Posts.{AreNewPosts, StandForNone};
+ghost use Rattle.mp_seat.specs.Seats.{AreNew};
+ghost use Rattle.mp_threads.specs.Crews.{AreByNumber, HasDoneNothing};
+
+use mp_board::{Board, OutlineOf};
+use mp_hub::{SeatHub, Shared};
+use mp_job::Job;
+use mp_member::Member;
+use mp_model::{Naming, Query};
+use mp_msg::Msg;
+use mp_ruled::{RuledPost, ruled_posts};
+use mp_seat::{Seat, SeatLock};
+use mp_stamps::Seen;
+use mp_worker::Worker;
+use std::alloc::{AllocError, Global};
+use std::collections::VecDeque;
+use std::marker::Model;
+use std::sync::Arc;
+
+/// The workers of the job J, each with its ends of the mailboxes and its seat at the board. Contracts see them by their
+/// numbers.
+#[derive(Drop)]
+pub struct Crew<'a, Q: Query, J: Naming, R> {
+    pub(crate) members: Vec<Member<'a, Q, J, R>>,
+}
+
+impl<'a, Q: Query, J: Naming, R> Model for Crew<'a, Q, J, R> {
+    ghost use Rattle.std.specs.Prelude.{List, ◌<◌};
+    ghost use Rattle.mp_member.specs.Members.{MemberState};
+    ghost use Rattle.mp_threads.specs.Crews.{AreByNumber};
+
+    ghost Value = { List MemberState };
+
+    ghost view = { λ c. c.members.items };
+
+    ghost invariant = { λ c. (0 < J.job.shape.workers) × AreByNumber J.job.shape.workers c.members.items };
+}
+
+impl<'a, Q: Query, J: Naming, R: Copy + Drop> Crew<'a, Q, J, R> {
+    /// Workers that have done nothing, with mailboxes that take `depth` messages each, and wait by `rt`. The query's last
+    /// stage gives rows alone. `AllocError`: no memory.
+    pub fn open(
+        rt: R,
+        alloc: Global,
+        job: &'a Job<Q>,
+        depth: u32,
+    ) -> Result<Crew<'a, Q, J, R>, AllocError>
+        requires job { job.now ≡ J.job }
+        requires rows { GivesRows (Q.facts J.job.rules) }
+        requires depth { 0 < depth }
+        ensures start { IfOk result (λ crew. All HasDoneNothing crew) }
+    {
+        let workers = job.shape().workers;
+        let board = Board::open(alloc, job)?;
+        let seen = board.seen();
+        let (lock, seats) = SeatLock::open(alloc, Shared::new(board), workers)?;
+        let lock = Arc::new(alloc, lock)?;
+        let posts = ruled_posts(rt, alloc, workers, depth)?;
+        let members = new_members(alloc, job, seen, &lock, seats, posts)?;
+        Ok(Crew { members })
+    }
+}
+
+// A worker for each number, which has done nothing, with the seat and the post of its number.
+fn new_members<'a, Q: Query, J: Naming, R: Drop>(
+    alloc: Global,
+    job: &'a Job<Q>,
+    seen: Seen,
+    lock: &Arc<SeatLock<Shared<OutlineOf<Q, J>>>, Global>,
+    seats: Vec<Seat<Shared<OutlineOf<Q, J>>>>,
+    posts: Vec<RuledPost<Msg<Q, J>, R>>,
+) -> Result<Vec<Member<'a, Q, J, R>>, AllocError>
+    requires job { job.now ≡ J.job }
+    requires rows { GivesRows (Q.facts J.job.rules) }
+    requires opening { let o = outline_of (Q.facts J.job.rules) J.job in
+        ShowsFrontiers o (replicate J.job.shape.workers empty_log) seen }
+    requires seats { let lock = arc_value lock.now in
+        (length seats.items ≡ J.job.shape.workers) × (lock.seats ≡ J.job.shape.workers)
+        × AreNew lock (replicate J.job.shape.workers empty_log) seen.version seats.items }
+    requires posts { (length posts.items ≡ J.job.shape.workers) × StandForNone (λ x. x ∷ []) posts.items }
+    requires new_posts { (depth : ℕ) × AreNewPosts J.job.shape.workers depth posts.items }
+    ensures numbers { IfOk result (λ members. AreByNumber J.job.shape.workers members.items) }
+    ensures new { IfOk result (λ members. All HasDoneNothing members.items) }
+{
+    let workers = job.shape().workers;
+    let mut members = Vec::with_capacity(alloc, workers as usize)?;
+    let mut seats = VecDeque::from_vec(seats);
+    let mut posts = VecDeque::from_vec(posts);
+    for number in 0..workers {
+        let Some(seat) = seats.pop_front() else {
+            unreachable!()
+        };
+        let Some(post) = posts.pop_front() else {
+            unreachable!()
+        };
+        let worker = Worker::new(alloc, job, number, seen)?;
+        let hub = SeatHub::new(Arc::try_clone(lock)?, seat);
+        members.push_reserved(Member::new(worker, post, hub));
+    }
+    Ok(members)
+}

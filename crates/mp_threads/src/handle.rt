@@ -1,0 +1,55 @@
+//! A thread that a worker is on.
+ghost use Rattle.std.specs.Prelude.{◌≡◌};
+ghost use Rattle.mp_outline.specs.JobOutline.{outline_of};
+ghost use Rattle.mp_threads.specs.Places.{IsBack};
+
+use crate::back::{Back, Numbered};
+use mp_member::Member;
+use mp_model::{Naming, Query};
+use mp_worker::Worker;
+use std::marker::{Model, PhantomData};
+use std::thread::{PromisedHandle, Threads};
+
+/// A thread that a worker is on. Contracts see the worker's number.
+pub(crate) struct Handle<'a, Q: Query, J: Naming, R: Drop> {
+    inner: PromisedHandle<Back<Worker<'a, Q, J>, Member<'a, Q, J, R>>, Numbered>,
+    // The thread borrows the job of this query.
+    job: PhantomData<&'a Q>,
+}
+
+impl<'a, Q: Query, J: Naming, R: Drop> Model for Handle<'a, Q, J, R> {
+    ghost use Rattle.std.specs.Prelude.{ℕ};
+
+    ghost Value = { ℕ };
+
+    ghost view = { λ h. h.inner.promise.0 };
+}
+
+impl<'a, Q: Query, J: Naming, R: Drop> Drop for Handle<'a, Q, J, R> {
+    fn drop(self) {
+        let Handle { inner, job: _ } = self;
+        drop(inner.forget_promise());
+    }
+}
+
+impl<'a, Q: Query, J: Naming, R: Drop> Handle<'a, Q, J, R> {
+    /// The handle of a thread that promised this.
+    pub(crate) fn new(
+        inner: PromisedHandle<Back<Worker<'a, Q, J>, Member<'a, Q, J, R>>, Numbered>,
+    ) -> Handle<'a, Q, J, R>
+        ensures { result ≡ inner.entry.promise.0 }
+    {
+        Handle {
+            inner,
+            job: PhantomData,
+        }
+    }
+
+    /// Waits for the thread.
+    pub(crate) fn join<T: Threads>(self, rt: &T) -> Back<Worker<'a, Q, J>, Member<'a, Q, J, R>>
+        ensures { IsBack (outline_of (Q.facts J.job.rules) J.job) self.entry result }
+    {
+        let Handle { inner, job: _ } = self;
+        inner.join(rt)
+    }
+}

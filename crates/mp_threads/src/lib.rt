@@ -1,0 +1,16 @@
+//! Layer: worker threads.
+//!
+//! The workers of a job on threads of their own: made for that, run to their end, and what each has done.
+#![tactic(auto)]
+
+mod back;
+mod crew;
+mod handle;
+mod place;
+mod run;
+mod start;
+mod tallies;
+
+pub use crew::Crew;
+pub use run::run_workers;
+pub use tallies::run_with_tallies;

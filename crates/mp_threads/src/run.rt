@@ -1,0 +1,290 @@
+//! Workers on threads of a scope.
+ghost use Rattle.std.specs.Prelude.{◌≡◌, ◌≢◌, ◌+◌, ◌≤◌, ◌++◌, [], All, Err, IfErr, IfOk, IfSome, IsTrue, OnErr, OnOk, length, map, vec_capacity};
+ghost use Rattle.std.specs.Vec.Iter.{into_iter_items};
+ghost use Rattle.mp_outside.specs.Fault.{Rose};
+ghost use Rattle.mp_outside.specs.Sink.{OnlyAppends, grown};
+ghost use Rattle.mp_model.specs.Answers.{one_thread_answer};
+ghost use Rattle.mp_outline.specs.JobOutline.{outline_of};
+ghost use Rattle.mp_board.specs.declared.causes.Cause.TheVariants.{Write};
+ghost use Rattle.mp_worker.specs.declared.turn.Stop.TheVariants as own;
+ghost use Rattle.mp_member.specs.declared.drive.Round.TheVariants.{Over};
+ghost use Rattle.mp_member.specs.Driving.{GoesOn, HasBegun, StopsBy};
+ghost use Rattle.mp_threads.specs.Crews.{AreFinished, HasDoneNothing, IsFinished};
+ghost use Rattle.mp_threads.specs.Places.{IsOver, number_of};
+
+use crate::Crew;
+use crate::place::{Place, Placed, finish, settle, turn_here};
+use crossbeam_utils::Backoff;
+use mp_board::Cause;
+use mp_gate::Gate;
+use mp_member::{Member, Round};
+use mp_model::{Naming, Query};
+use mp_outside::Sink;
+use mp_worker::{Stop, Worker};
+use std::alloc::Global;
+use std::sync::Wait;
+use std::thread;
+use std::thread::{Scope, Threads};
+use std::vec::IntoIter;
+
+/// Runs the workers: the caller drives worker 0, and beside it each that no thread could be made for; the others have
+/// threads of their own, and on every way out each of these has ended. Worker 0 alone writes. The workers come back by
+/// their numbers, finished. `Write`: a write failed; only where the sink's count of faults rose in this call or stands at
+/// its last value, 2^64 - 1, and any other answer leaves that count as it was. `Memory`: no memory. With either a beginning
+/// of the answer is written.
+pub fn run_workers<
+    'a,
+    Q: Query + Send,
+    J: Naming + Send + Sync,
+    R: Wait + Drop + Send,
+    T: Threads + Wait + Sync,
+    G: Gate + Sync,
+    S: Sink,
+>(
+    rt: &T,
+    alloc: Global,
+    crew: Crew<'a, Q, J, R>,
+    gate: &G,
+    sink: &mut S,
+) -> Result<Vec<Worker<'a, Q, J>>, Cause>
+    requires start { All HasDoneNothing crew }
+    ensures finished { let o = outline_of (Q.facts J.job.rules) J.job in
+        IfOk result (λ workers. AreFinished o workers.items) }
+    ensures answer { let q = Q.facts J.job.rules in
+        OnOk result (S.written sink.new ≡ grown (S.written sink.old) (one_thread_answer q J.job.events)) }
+    ensures part { let q = Q.facts J.job.rules in
+        OnErr result (HasBegun q J.job.events (S.written sink.old) (S.written sink.new)) }
+    ensures failed { result ≡ Err Write → Rose (S.faults sink.old) (S.faults sink.new) }
+    ensures no_fault { result ≢ Err Write → S.faults sink.new ≡ S.faults sink.old }
+    ensures appends_only { OnlyAppends S.frame S.faults sink.old sink.new }
+{
+    // What is written through a captured `&mut` is known only where it comes back with the result.
+    let (result, _sink) = thread::scope(
+        thread::scope_env(),
+        rt,
+        move |scope| -> (Result<Vec<Worker<Q, J>>, Cause>, &mut S)
+            requires start { All HasDoneNothing crew }
+            ensures same_reference { result.1.ghost_name ≡ sink.entry.ghost_name }
+            ensures finished { let o = outline_of (Q.facts J.job.rules) J.job in
+                IfOk result.0 (λ workers. AreFinished o workers.items) }
+            ensures answer { let q = Q.facts J.job.rules in
+                OnOk result.0 (S.written result.1.now ≡ grown (S.written sink.entry.now) (one_thread_answer q J.job.events)) }
+            ensures part { let q = Q.facts J.job.rules in
+                OnErr result.0 (HasBegun q J.job.events (S.written sink.entry.now) (S.written result.1.now)) }
+            ensures failed { result.0 ≡ Err Write → Rose (S.faults sink.entry.now) (S.faults result.1.now) }
+            ensures no_fault { result.0 ≢ Err Write → S.faults result.1.now ≡ S.faults sink.entry.now }
+            ensures appends_only { OnlyAppends S.frame S.faults sink.entry.now result.1.now }
+        {
+            let result = run_in(scope, rt, alloc, crew, gate, sink);
+            (result, sink)
+        },
+    );
+    result
+}
+
+// Runs the workers in a scope that outlives their threads.
+fn run_in<
+    's,
+    'a: 's,
+    E,
+    Q: Query + Send + 's,
+    J: Naming + Send + Sync + 's,
+    R: Wait + Drop + Send + 's,
+    T: Threads + Wait + Sync,
+    G: Gate + Sync,
+    S: Sink,
+>(
+    scope: &Scope<'s, E>,
+    rt: &'s T,
+    alloc: Global,
+    crew: Crew<'a, Q, J, R>,
+    gate: &'s G,
+    sink: &mut S,
+) -> Result<Vec<Worker<'a, Q, J>>, Cause>
+    requires start { All HasDoneNothing crew }
+    ensures finished { let o = outline_of (Q.facts J.job.rules) J.job in
+        IfOk result (λ workers. AreFinished o workers.items) }
+    ensures answer { let q = Q.facts J.job.rules in
+        OnOk result (S.written sink.new ≡ grown (S.written sink.old) (one_thread_answer q J.job.events)) }
+    ensures part { let q = Q.facts J.job.rules in
+        OnErr result (HasBegun q J.job.events (S.written sink.old) (S.written sink.new)) }
+    ensures failed { result ≡ Err Write → Rose (S.faults sink.old) (S.faults sink.new) }
+    ensures no_fault { result ≢ Err Write → S.faults sink.new ≡ S.faults sink.old }
+    ensures appends_only { OnlyAppends S.frame S.faults sink.old sink.new }
+{
+    let Crew { members } = crew;
+    let Ok(places) = Vec::with_capacity(alloc, members.len()) else {
+        return Err(Cause::Memory);
+    };
+    let Ok(mut done) = Vec::with_capacity(alloc, members.len()) else {
+        return Err(Cause::Memory);
+    };
+    let mut members = members.into_iter();
+    let Some(mut first) = members.next() else {
+        unreachable!()
+    };
+    let mut places = settle_all(scope, rt, alloc, gate, members, places);
+    let driven = drive_here(&mut first, places.as_mut_slice(), rt, gate, sink);
+    let first = first.into_worker();
+    first.log_is_known();
+    match driven {
+        Ok(true) => {
+            done.push_reserved(first);
+            match finish_all(places, done, rt, gate) {
+                Some(workers) => Ok(workers),
+                None => Err(Cause::Memory),
+            }
+        }
+        Ok(false) => {
+            join_all(places, rt);
+            Err(Cause::Memory)
+        }
+        Err(stop) => {
+            join_all(places, rt);
+            Err(cause_of(stop))
+        }
+    }
+}
+
+// Worker 0's own write failed; every other stop is for want of memory.
+fn cause_of(stop: Stop) -> Cause
+    ensures write { result ≡ Write → stop ≡ own.Write }
+    ensures memory { stop ≡ own.Write → result ≡ Write }
+{
+    match stop {
+        Stop::Write => Cause::Write,
+        Stop::Memory | Stop::Other(_) => Cause::Memory,
+    }
+}
+
+// Starts a thread for each worker, where one can be made.
+fn settle_all<
+    's,
+    'a: 's,
+    E,
+    Q: Query + Send + 's,
+    J: Naming + Send + Sync + 's,
+    R: Wait + Drop + Send + 's,
+    T: Wait + Sync,
+    G: Gate + Sync,
+>(
+    scope: &Scope<'s, E>,
+    rt: &'s T,
+    alloc: Global,
+    gate: &'s G,
+    members: IntoIter<Member<'a, Q, J, R>>,
+    mut places: Vec<Placed<'a, Q, J, R>>,
+) -> Vec<Placed<'a, Q, J, R>>
+    requires empty { places.items ≡ [] }
+    requires room { length (into_iter_items members) ≤ vec_capacity places }
+    ensures many { length result.items ≡ length (into_iter_items members.entry) }
+    ensures numbers { map number_of result.items ≡ map (λ m. m.worker.number) (into_iter_items members.entry) }
+{
+    for member in members {
+        places.push_reserved(settle(scope, rt, alloc, gate, member));
+    }
+    places
+}
+
+// Drives worker 0, and each other worker that is here, round after round until all of these are finished, and pauses after
+// a round in which none made a step. `false`: another worker that is here stopped. `Err`: worker 0 did.
+fn drive_here<'a, Q: Query, J: Naming, R: Wait + Drop, T: Wait, G: Gate, S: Sink>(
+    first: &mut Member<'a, Q, J, R>,
+    places: &mut [Placed<'a, Q, J, R>],
+    rt: &T,
+    gate: &G,
+    sink: &mut S,
+) -> Result<bool, Stop>
+    ensures many { length places.new ≡ length places.old }
+    ensures numbers { map number_of places.new ≡ map number_of places.old }
+    ensures first { let o = outline_of (Q.facts J.job.rules) J.job in
+        IfOk result (λ over. IsTrue over → IsFinished o first.new.worker) }
+    ensures over { let o = outline_of (Q.facts J.job.rules) J.job in
+        IfOk result (λ over. IsTrue over → All (IsOver o) places.new) }
+    ensures goes_on { let q = Q.facts J.job.rules in
+        OnOk result (GoesOn q J.job S.written S.faults S.frame first.old.worker first.new.worker sink.old sink.new) }
+    ensures stops { let q = Q.facts J.job.rules in
+        IfErr result (λ stop. StopsBy q J.job S.written S.faults S.frame stop first.old.worker first.new.worker sink.old sink.new) }
+{
+    let backoff = Backoff::new();
+    for _ in rt.forever() {
+        let own = first.turn(rt, gate, sink)?;
+        let Ok(others) = turn_all(places, rt, gate) else {
+            return Ok(false);
+        };
+        match both(own, others) {
+            Round::Over => return Ok(true),
+            Round::Made => backoff.reset(),
+            Round::Idle => backoff.snooze(),
+        }
+    }
+    unreachable!()
+}
+
+// One round of each worker that is here; what they came to. `Err`: one stopped.
+fn turn_all<'a, Q: Query, J: Naming, R: Wait + Drop, T: Wait, G: Gate>(
+    places: &mut [Placed<'a, Q, J, R>],
+    rt: &T,
+    gate: &G,
+) -> Result<Round, Stop>
+    ensures many { length places.new ≡ length places.old }
+    ensures numbers { map number_of places.new ≡ map number_of places.old }
+    ensures over { let o = outline_of (Q.facts J.job.rules) J.job in
+        IfOk result (λ round. round ≡ Over → All (IsOver o) places.new) }
+{
+    let mut all = Round::Over;
+    for i in 0..places.len() {
+        let one = turn_here(&mut places[i], rt, gate)?;
+        all = both(all, one);
+    }
+    Ok(all)
+}
+
+// What two rounds came to: a step, if one of them made one.
+fn both(one: Round, other: Round) -> Round
+    ensures { result ≡ Over → (one ≡ Over) × (other ≡ Over) }
+{
+    match (one, other) {
+        (Round::Over, Round::Over) => Round::Over,
+        (Round::Made, _) | (_, Round::Made) => Round::Made,
+        _ => Round::Idle,
+    }
+}
+
+// The workers behind those that are done, by their order: those that are here, and those that a thread gives back. Each
+// thread is waited for. `None`: one stopped.
+fn finish_all<'a, Q: Query, J: Naming, R: Wait + Drop, T: Threads + Wait, G: Gate>(
+    places: Vec<Placed<'a, Q, J, R>>,
+    mut done: Vec<Worker<'a, Q, J>>,
+    rt: &T,
+    gate: &G,
+) -> Option<Vec<Worker<'a, Q, J>>>
+    requires over { All (IsOver (outline_of (Q.facts J.job.rules) J.job)) places.items }
+    requires done { All (IsFinished (outline_of (Q.facts J.job.rules) J.job)) done.items }
+    requires room { length done.items + length places.items ≤ vec_capacity done }
+    ensures numbers { IfSome result (λ workers.
+        map (λ s. s.number) workers.items ≡ map (λ s. s.number) done.entry.items ++ map number_of places.entry.items) }
+    ensures finished { let o = outline_of (Q.facts J.job.rules) J.job in
+        IfSome result (λ workers. All (IsFinished o) workers.items) }
+{
+    let mut all = true;
+    for place in places {
+        match finish(place, rt, gate) {
+            Some(worker) => done.push_reserved(worker),
+            None => all = false,
+        }
+    }
+    if all { Some(done) } else { None }
+}
+
+// Waits for each thread.
+fn join_all<'a, Q: Query, J: Naming, R: Wait + Drop, T: Threads>(
+    places: Vec<Placed<'a, Q, J, R>>,
+    rt: &T,
+) {
+    for place in places {
+        if let Place::Away(handle) = place {
+            drop(handle.join(rt));
+        }
+    }
+}

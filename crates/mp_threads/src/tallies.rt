@@ -1,0 +1,100 @@
+//! A whole run by threads, with what each worker has done.
+ghost use Rattle.std.specs.Prelude.{◌≡◌, ◌≢◌, ◌<◌, ℕ, Err, IfOk, OnErr, OnOk, Some, length, slice_get};
+ghost use Rattle.mp_outside.specs.Fault.{Rose};
+ghost use Rattle.mp_outside.specs.Sink.{OnlyAppends, grown};
+ghost use Rattle.mp_model.specs.Answers.{one_thread_answer};
+ghost use Rattle.mp_outline.specs.JobOutline.{outline_of};
+ghost use Rattle.mp_output.specs.Rows.{GivesRows};
+ghost use Rattle.mp_parts.specs.declared.tally.Tally.{Tally as Told};
+ghost use Rattle.mp_board.specs.declared.causes.Cause.TheVariants.{Write};
+ghost use Rattle.mp_member.specs.Driving.{HasBegun};
+ghost use Rattle.mp_drive.specs.Tallies.{IsTallyOf};
+ghost use Rattle.mp_threads.specs.Crews.{AreFinished, IsFinished};
+
+use crate::{Crew, run_workers};
+use mp_board::Cause;
+use mp_gate::Gate;
+use mp_job::Job;
+use mp_model::{Naming, Query};
+use mp_outside::Sink;
+use mp_parts::Tally;
+use mp_worker::Worker;
+use std::alloc::{AllocError, Global};
+use std::sync::Wait;
+use std::thread::Threads;
+
+/// Runs a whole job by threads, as [`run_workers`] does, with mailboxes that take `depth` messages each, and tells what
+/// each worker has done, by the workers' numbers. The query's last stage gives rows alone. The refusals are those of
+/// `run_workers`; where there is no memory for the tallies, the whole answer is written.
+pub fn run_with_tallies<
+    Q: Query + Send,
+    J: Naming + Send + Sync,
+    T: Threads + Wait + Sync,
+    G: Gate + Sync,
+    S: Sink,
+>(
+    rt: &T,
+    alloc: Global,
+    job: &Job<Q>,
+    depth: u32,
+    gate: &G,
+    sink: &mut S,
+) -> Result<Vec<Tally>, Cause>
+    requires job { job.now ≡ J.job }
+    requires rows { GivesRows (Q.facts J.job.rules) }
+    requires depth { 0 < depth }
+    ensures all { IfOk result (λ tallies. length tallies.items ≡ J.job.shape.workers) }
+    ensures tallies { IfOk result (λ tallies. (w : ℕ) (t : Told) → slice_get tallies.items w ≡ Some t
+        → IsTallyOf (Q.facts J.job.rules) J.job w t) }
+    ensures answer { let q = Q.facts J.job.rules in
+        OnOk result (S.written sink.new ≡ grown (S.written sink.old) (one_thread_answer q J.job.events)) }
+    ensures part { let q = Q.facts J.job.rules in
+        OnErr result (HasBegun q J.job.events (S.written sink.old) (S.written sink.new)) }
+    ensures failed { result ≡ Err Write → Rose (S.faults sink.old) (S.faults sink.new) }
+    ensures no_fault { result ≢ Err Write → S.faults sink.new ≡ S.faults sink.old }
+    ensures appends_only { OnlyAppends S.frame S.faults sink.old sink.new }
+{
+    let Ok(crew) = Crew::<Q, J, &T>::open(rt, alloc, job, depth) else {
+        return Err(Cause::Memory);
+    };
+    let workers = run_workers(rt, alloc, crew, gate, sink)?;
+    match tallies_of(alloc, job, workers.as_slice()) {
+        Ok(tallies) => Ok(tallies),
+        Err(AllocError) => Err(Cause::Memory),
+    }
+}
+
+// What each worker has done.
+fn tallies_of<Q: Query, J: Naming>(
+    alloc: Global,
+    job: &Job<Q>,
+    workers: &[Worker<Q, J>],
+) -> Result<Vec<Tally>, AllocError>
+    requires job { job.now ≡ J.job }
+    requires finished { AreFinished (outline_of (Q.facts J.job.rules) J.job) workers.now }
+    ensures all { IfOk result (λ tallies. length tallies.items ≡ J.job.shape.workers) }
+    ensures tallies { IfOk result (λ tallies. (w : ℕ) (t : Told) → slice_get tallies.items w ≡ Some t
+        → IsTallyOf (Q.facts J.job.rules) J.job w t) }
+{
+    let mut tallies = Vec::with_capacity(alloc, workers.len())?;
+    for worker in workers {
+        tallies.push_reserved(tally_of(alloc, job, worker)?);
+    }
+    Ok(tallies)
+}
+
+// What a worker that is finished has done.
+fn tally_of<Q: Query, J: Naming>(
+    alloc: Global,
+    job: &Job<Q>,
+    worker: &Worker<Q, J>,
+) -> Result<Tally, AllocError>
+    requires job { job.now ≡ J.job }
+    requires finished { IsFinished (outline_of (Q.facts J.job.rules) J.job) worker.now }
+    ensures { IfOk result (λ t. IsTallyOf (Q.facts J.job.rules) J.job worker.now.number t) }
+{
+    // From here on the job is known to be legal, and the worker's log too.
+    let _ = job.shape();
+    worker.log_is_known();
+    worker.tally(alloc)
+}
