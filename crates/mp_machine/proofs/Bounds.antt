@@ -11,11 +11,11 @@ use Rattle.mp_names.specs.Logs.{Log, LogGrows}
 use Rattle.mp_names.specs.Laws.{log_size, names_in}
 use Rattle.mp_names.proofs.Counting.{bounded}
 use Rattle.mp_machine.specs.Worlds.{Worker, World, logs_of, posted_logs, start_of_machine, put}
-use Rattle.mp_machine.specs.Steps.{CanStep, CanExchange, logged, stepped, same_log, version_after, having_seen, exchanged}
+use Rattle.mp_machine.specs.Steps.{CanStep, CanExchange, names_of, logged, stepped, same_log, version_after, having_seen, exchanged}
 use Rattle.mp_machine.specs.Runs.{Turn, Did, Saw, NotNow, turn_of, turn_of_machine, after_turn, step_of_machine, world_after, turns_of, is_made, made_count}
 use Rattle.mp_machine.proofs.Puts.{put_here, put_other}
 use Rattle.mp_machine.proofs.Turns.{did_to, saw_to, own_log}
-use Rattle.mp_machine.proofs.Worlds.{WorldIsRight, version_cases, step_right, start_right, after_right}
+use Rattle.mp_machine.proofs.Worlds.{WorldIsRight, names_some, version_cases, step_right, start_right, after_right}
 
 -- sums of numbers below n
 
@@ -114,21 +114,18 @@ grown_cases old new g =
     (λ (a : length old.ingested < length new.ingested). inr (omega arith))
     (prefix_cases old.ingested new.ingested g.ingested)
 
-one_more : (xs : List Name) (x : Name) → length (xs ++ x ∷ []) ≡ length xs + 1
-one_more xs x = length-append xs (x ∷ [])
-
--- each step but an exchange adds a name
-logged_size : (kind : Kind) (log : Log) (x : Name) → (kind ≡ Exchange → ⊥) → log_size (logged kind log x) ≡ log_size log + 1
-logged_size Ingest log x n = let e = one_more log.ingested x in omega arith
-logged_size SendControl log x n = let e = one_more log.sent x in omega arith
-logged_size (Route j) log x n = let e = one_more log.sent x in omega arith
-logged_size (Receive v) log x n = let e = one_more log.took x in omega arith
-logged_size (Extract j) log x n = let e = one_more log.sent x in omega arith
-logged_size (Settle j) log x n = let e = one_more log.settled x in omega arith
-logged_size (Apply j) log x n = let e = one_more log.applied x in omega arith
-logged_size SendRow log x n = let e = one_more log.sent x in omega arith
-logged_size Write log x n = let e = one_more log.settled x in omega arith
-logged_size Exchange log x n = absurd (n refl)
+-- each step but an exchange adds its names
+logged_size : (kind : Kind) (log : Log) (xs : List Name) → (kind ≡ Exchange → ⊥) → log_size (logged kind log xs) ≡ log_size log + length xs
+logged_size Ingest log xs n = let e = length-append log.ingested xs in omega arith
+logged_size SendControl log xs n = let e = length-append log.sent xs in omega arith
+logged_size (Route j) log xs n = let e = length-append log.sent xs in omega arith
+logged_size (Receive v) log xs n = let e = length-append log.took xs in omega arith
+logged_size (Extract j) log xs n = let e = length-append log.sent xs in omega arith
+logged_size (Settle j) log xs n = let e = length-append log.settled xs in omega arith
+logged_size (Apply j) log xs n = let e = length-append log.applied xs in omega arith
+logged_size SendRow log xs n = let e = length-append log.sent xs in omega arith
+logged_size Write log xs n = let e = length-append log.settled xs in omega arith
+logged_size Exchange log xs n = absurd (n refl)
 
 not_exchange : (o : Outline) (depth : ℕ) (world : World) (w : ℕ) (kind : Kind) (x : Name) → CanStep o depth world w kind x → kind ≡ Exchange → ⊥
 not_exchange o depth world w Exchange x can e = can.1
@@ -172,14 +169,16 @@ sum_read : (f : Worker → ℕ) (n w : ℕ) (me : Worker) (workers : ℕ → Wor
 sum_read f n w me workers l = ap (λ (s : ℕ). s + f (workers w)) (sum_agree n (λ v. f (put w me workers v)) (put w (f me) (λ v. f (workers v))) (λ v k. read_put f w me workers v)) ∙ sum_put n w (f me) (λ v. f (workers v)) l
 
 module _ (o : Outline) (ok : OutlineIsSound o) (depth : ℕ) (world : World) (right : WorldIsRight o depth world) (counted : IsCounted o world) (w : ℕ) where
-  -- a step with a name
+  -- a step with names
 
   did_more : (kind : Kind) (x : Name) → CanStep o depth world w kind x → (measure o world + 1 ≤ measure o (stepped o world w kind x)) × IsCounted o (stepped o world w kind x)
   unfolding measure sizes versions posted_sizes IsCounted
   did_more kind x can =
       let l = can.0.0 in
-      let me : Worker = record (world.worker w) { log = logged kind (world.worker w).log x } in
-      let size = logged_size kind (world.worker w).log x (not_exchange o depth world w kind x can) in
+      let xs = names_of o world w kind x in
+      let me : Worker = record (world.worker w) { log = logged kind (world.worker w).log xs } in
+      let size = logged_size kind (world.worker w).log xs (not_exchange o depth world w kind x can) in
+      let some = names_some o ok depth world w kind x can in
       let a = sum_read (λ p. log_size p.log) o.workers w me world.worker l in
       let b = sum_read (λ p. p.version) o.workers w me world.worker l in
       let c = sum_read (λ p. log_size p.posted) o.workers w me world.worker l in
@@ -240,7 +239,7 @@ module _ (o : Outline) (ok : OutlineIsSound o) (depth : ℕ) where
       place _ h = absurd h
 
       go : (t : Turn) → turn_of o depth world w kind ≡ t → (measure o world + cond (is_made t) 1 0 ≤ measure o (after_turn o world w kind t)) × IsCounted o (after_turn o world w kind t)
-      go (Did x) e = did_more o ok depth world right counted w kind x (did_to o depth world w ok kind x e)
+      go (Did x n) e = did_more o ok depth world right counted w kind x (did_to o depth world w ok kind x n e)
       go (Saw v) e = let p = place kind (saw_to o depth world w kind v e).0 in saw_more o ok depth world right counted w p.0 p.1
       go NotNow e = (omega arith, counted)
 

@@ -16,6 +16,7 @@ use Rattle.mp_names.specs.Keeping.{IsHeld, IsUnsettled, IsWaiting, IsUnwritten}
 use Rattle.mp_names.proofs.Lists.{In_filter, filter_In, any_from, any_at}
 use Rattle.mp_names.proofs.Listed.{In_map, map_In, packet_In, packet_is, ctrl_In, ctrl_owed, record_owed, row_owed}
 use Rattle.mp_machine.specs.Worlds.{Worker, World}
+use Rattle.mp_machine.specs.Messages.{first_message}
 use Rattle.mp_machine.specs.Steps.{IsDue, IsNext, IsReady, MayLeave, MaySettle, MayApply, MailAllows}
 use Rattle.mp_machine.specs.Tests.{has_passed, has_reached, is_due, least_where, is_ctrl_in, noted_times, taken_times, next_name, first_of, is_in_hand_before, is_left_over, may_leave, may_settle, may_apply, is_ready, mail_allows}
 use Rattle.mp_machine.proofs.Searches.{some_same, found_least, least_found, next_prefix_of, prefix_next}
@@ -209,6 +210,10 @@ first_is : (xs : List Name) (x : Name) → first_of xs ≡ Some x → (rest : Li
 first_is [] x e = absurd (cc)
 first_is (y ∷ ys) x e = (ys, ap (λ (z : Name). z ∷ ys) (some_same y x e))
 
+begins_first : (messages : List (List Name)) (x : Name) → first_of (first_message messages) ≡ Some x → (rest : List Name) × (others : List (List Name)) × (messages ≡ (x ∷ rest) ∷ others)
+begins_first [] x e = absurd (cc)
+begins_first (xs ∷ messages) x e = let f = first_is xs x e in (f.0, messages, ap (λ (ys : List Name). ys ∷ messages) f.1)
+
 nothing : (x : Name) → None ≡ Some x → ⊥
 nothing x e = cc
 
@@ -217,7 +222,7 @@ module _ (o : Outline) (ok : OutlineIsSound o) (depth : ℕ) (world : World) (w 
   next Ingest x e m = (next_prefix_of (world.worker w).log.ingested (share o w) x e, tt)
   next SendControl x e m = (found_least (IsHeld o w (world.worker w).log is_ctrl) (is_held o w (world.worker w).log) (ctrl_names o) (ctrl_into o ok w (world.worker w)) (ctrl_back o ok w (world.worker w)) x e, ltb-true (length (world.mailbox w (receiver o x))) depth m)
   next (Route j) x e m = (found_least (IsHeld o w (world.worker w).log (is_rec j)) (is_held o w (world.worker w).log) (o.records j) (rec_into o ok w (world.worker w) j) (rec_back o ok w (world.worker w) j) x e, ltb-true (length (world.mailbox w (receiver o x))) depth m)
-  next (Receive v) x e m = (tt, first_is (world.mailbox v w) x e)
+  next (Receive v) x e m = (tt, begins_first (world.mailbox v w) x e)
   next (Extract j) x e m = (found_least (IsDue o w (world.worker w) j) (is_due o w (world.worker w) j) (packets_of o) (due_into o ok w (world.worker w) j) (due_back o ok w (world.worker w) j) x e, ltb-true (length (world.mailbox w (receiver o x))) depth m)
   next (Settle j) x e m = (found_least (IsUnsettled o (world.worker w).log j) (λ y. not (has (world.worker w).log.settled y)) (noted_times o j (world.worker w).log) (settle_into o ok w (world.worker w) j) (settle_back o ok w (world.worker w) j) x e, tt)
   next (Apply j) x e m = (found_least (IsWaiting o (world.worker w).log j) (is_pending o (world.worker w).log) (groups_of o j) (λ y h. h) (λ y i h. (i, h)) x e, tt)
@@ -240,7 +245,7 @@ module _ (o : Outline) (ok : OutlineIsSound o) (depth : ℕ) (world : World) (w 
   next_back Ingest x h m = (prefix_next (world.worker w).log.ingested (share o w) x h, refl)
   next_back SendControl x h m = (least_found (IsHeld o w (world.worker w).log is_ctrl) (is_held o w (world.worker w).log) (ctrl_names o) (ctrl_into o ok w (world.worker w)) (ctrl_back o ok w (world.worker w)) x h, lt-ltb (length (world.mailbox w (receiver o x))) depth m)
   next_back (Route j) x h m = (least_found (IsHeld o w (world.worker w).log (is_rec j)) (is_held o w (world.worker w).log) (o.records j) (rec_into o ok w (world.worker w) j) (rec_back o ok w (world.worker w) j) x h, lt-ltb (length (world.mailbox w (receiver o x))) depth m)
-  next_back (Receive v) x h m = (ap first_of m.1, refl)
+  next_back (Receive v) x h m = (ap (λ (messages : List (List Name)). first_of (first_message messages)) m.2, refl)
   next_back (Extract j) x h m = (least_found (IsDue o w (world.worker w) j) (is_due o w (world.worker w) j) (packets_of o) (due_into o ok w (world.worker w) j) (due_back o ok w (world.worker w) j) x h, lt-ltb (length (world.mailbox w (receiver o x))) depth m)
   next_back (Settle j) x h m = (least_found (IsUnsettled o (world.worker w).log j) (λ y. not (has (world.worker w).log.settled y)) (noted_times o j (world.worker w).log) (settle_into o ok w (world.worker w) j) (settle_back o ok w (world.worker w) j) x h, refl)
   next_back (Apply j) x h m = (least_found (IsWaiting o (world.worker w).log j) (is_pending o (world.worker w).log) (groups_of o j) (λ y k. k) (λ y i k. (i, k)) x h, refl)

@@ -2,10 +2,12 @@ pub mod Puts
 pub mod Searches
 pub mod Conditions
 pub mod Candidates
+pub mod Messages
 pub mod Turns
 pub mod Keeps
 pub mod Mailboxes
 pub mod Worlds
+pub mod Single
 pub mod Holding
 pub mod Order
 pub mod Feeders

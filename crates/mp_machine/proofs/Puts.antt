@@ -1,8 +1,7 @@
--- A function with another value at one place, and mailboxes with one name more or less.
+-- A function with another value at one place, and mailboxes with one message more or less.
 use Rattle.std.proofs.Common.{◌≡◌, ℕ, ◌==◌, List, [], ◌∷◌, ◌++◌, refl, sym, ap, ◌∙◌, subst, ⊎_elim}
 use Rattle.std.proofs.lemmas.Bool.{eq-eqb, ne_eqb, cond-true, cond-false, cases_eq}
 use Rattle.mp_names.specs.declared.names.Name.{Name}
-use Rattle.mp_names.specs.Outlines.{Outline, receiver}
 use Rattle.mp_machine.specs.Worlds.{put}
 use Rattle.mp_machine.specs.Steps.{rest_of, pushed, popped}
 
@@ -22,24 +21,23 @@ put_all {X} P w x f h k v =
 
 -- mailboxes
 
-pub pushed_at : (o : Outline) (w : ℕ) (x : Name) (mailbox : ℕ → ℕ → List Name) → pushed o w x mailbox w (receiver o x) ≡ mailbox w (receiver o x) ++ x ∷ []
-pushed_at o w x mailbox =
-    ap (λ (q : ℕ → List Name). q (receiver o x)) (put_here w w (put (receiver o x) (mailbox w (receiver o x) ++ x ∷ []) (mailbox w)) mailbox refl)
-    ∙ put_here (receiver o x) (receiver o x) (mailbox w (receiver o x) ++ x ∷ []) (mailbox w) refl
+pub pushed_at : (v w : ℕ) (xs : List Name) (mailbox : ℕ → ℕ → List (List Name)) → pushed v w xs mailbox v w ≡ mailbox v w ++ xs ∷ []
+pushed_at v w xs mailbox =
+    ap (λ (q : ℕ → List (List Name)). q w) (put_here v v (put w (mailbox v w ++ xs ∷ []) (mailbox v)) mailbox refl) ∙ put_here w w (mailbox v w ++ xs ∷ []) (mailbox v) refl
 
-pub pushed_elsewhere : (o : Outline) (w : ℕ) (x : Name) (mailbox : ℕ → ℕ → List Name) (a b : ℕ) → (a ≡ w → b ≡ receiver o x → ⊥) → pushed o w x mailbox a b ≡ mailbox a b
-pushed_elsewhere o w x mailbox a b n =
-    put_all (λ a (q : ℕ → List Name). (a ≡ w → b ≡ receiver o x → ⊥) → q b ≡ mailbox a b) w (put (receiver o x) (mailbox w (receiver o x) ++ x ∷ []) (mailbox w)) mailbox
-    (λ n. put_other (receiver o x) b (mailbox w (receiver o x) ++ x ∷ []) (mailbox w) (n refl))
-    (λ v e n. refl)
+pub pushed_elsewhere : (v w : ℕ) (xs : List Name) (mailbox : ℕ → ℕ → List (List Name)) (a b : ℕ) → (a ≡ v → b ≡ w → ⊥) → pushed v w xs mailbox a b ≡ mailbox a b
+pushed_elsewhere v w xs mailbox a b n =
+    put_all (λ a (q : ℕ → List (List Name)). (a ≡ v → b ≡ w → ⊥) → q b ≡ mailbox a b) v (put w (mailbox v w ++ xs ∷ []) (mailbox v)) mailbox
+    (λ n. put_other w b (mailbox v w ++ xs ∷ []) (mailbox v) (n refl))
+    (λ u e n. refl)
     a n
 
-pub popped_at : (v w : ℕ) (mailbox : ℕ → ℕ → List Name) → popped v w mailbox v w ≡ rest_of (mailbox v w)
-popped_at v w mailbox = ap (λ (q : ℕ → List Name). q w) (put_here v v (put w (rest_of (mailbox v w)) (mailbox v)) mailbox refl) ∙ put_here w w (rest_of (mailbox v w)) (mailbox v) refl
+pub popped_at : (v w : ℕ) (mailbox : ℕ → ℕ → List (List Name)) → popped v w mailbox v w ≡ rest_of (mailbox v w)
+popped_at v w mailbox = ap (λ (q : ℕ → List (List Name)). q w) (put_here v v (put w (rest_of (mailbox v w)) (mailbox v)) mailbox refl) ∙ put_here w w (rest_of (mailbox v w)) (mailbox v) refl
 
-pub popped_elsewhere : (v w : ℕ) (mailbox : ℕ → ℕ → List Name) (a b : ℕ) → (a ≡ v → b ≡ w → ⊥) → popped v w mailbox a b ≡ mailbox a b
+pub popped_elsewhere : (v w : ℕ) (mailbox : ℕ → ℕ → List (List Name)) (a b : ℕ) → (a ≡ v → b ≡ w → ⊥) → popped v w mailbox a b ≡ mailbox a b
 popped_elsewhere v w mailbox a b n =
-    put_all (λ a (q : ℕ → List Name). (a ≡ v → b ≡ w → ⊥) → q b ≡ mailbox a b) v (put w (rest_of (mailbox v w)) (mailbox v)) mailbox
+    put_all (λ a (q : ℕ → List (List Name)). (a ≡ v → b ≡ w → ⊥) → q b ≡ mailbox a b) v (put w (rest_of (mailbox v w)) (mailbox v)) mailbox
     (λ n. put_other w b (rest_of (mailbox v w)) (mailbox v) (n refl))
     (λ u e n. refl)
     a n

@@ -3,7 +3,7 @@ use Rattle.std.proofs.Common.{refl}
 use Rattle.mp_names.specs.Names.{ascending}
 use Rattle.mp_names.specs.Outlines.{owner_before, packets_of, groups_of, control_times, answer_times, owed_names}
 use Rattle.mp_machine.specs.Runs.{turn_of_machine, step_of_machine}
-use Rattle.mp_machine.specs.Samples.{CountsCancelInARun, HandoffIsGated}
+use Rattle.mp_machine.specs.Samples.{CountsCancelInARun, HandoffIsGated, RecordsTravelTogether}
 
 pub counts_cancel : CountsCancelInARun
 unfolding ascending owner_before packets_of groups_of control_times answer_times owed_names turn_of_machine step_of_machine
@@ -12,3 +12,7 @@ counts_cancel = record { turns = refl; on_its_way = refl; cancelled = refl; sour
 pub handoff_is_gated : HandoffIsGated
 unfolding ascending owner_before packets_of groups_of control_times answer_times owed_names turn_of_machine step_of_machine
 handoff_is_gated = record { turns = refl; control_passed = refl; host_waits = refl; mail_passed = refl; state_waits = refl; host_moved_on = refl; packet_waits = refl; state_passed = refl }
+
+pub records_travel_together : RecordsTravelTogether
+unfolding ascending owner_before packets_of groups_of control_times answer_times owed_names turn_of_machine step_of_machine
+records_travel_together = record { turns = refl; waiting = refl }

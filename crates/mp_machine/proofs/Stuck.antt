@@ -1,5 +1,6 @@
 -- Where no step has a true condition, all is done and known.
 use Rattle.std.proofs.Common.{◌≡◌, ℕ, zero, suc, ◌-◌, ◌<◌, ◌≤◌, ◌==◌, Bool, true, false, not, List, [], ◌∷◌, ◌++◌, length, refl, sym, ◌∙◌, subst, inl, inr, ⊎_elim, append_assoc, append-nil, arith}
+use Rattle.std.specs.List.{All}
 use Rattle.std.proofs.lemmas.Bool.{false≢true, eqb-true, eq-eqb, both_ways, cases_Bool, cases_lt, cases_eq}
 use Rattle.mp_names.specs.declared.names.Name.{Name}
 use Rattle.mp_names.specs.declared.names.Name.TheVariants.{Ctrl, Rec, Packet, Row, Group, Settled, Written}
@@ -27,6 +28,7 @@ use Rattle.mp_names.proofs.Whole.{in_hand_before, whole}
 use Rattle.mp_names.proofs.Exact.{passed_from_closed}
 use Rattle.mp_names.proofs.Exists.{frontier_is}
 use Rattle.mp_machine.specs.Worlds.{World, logs_of, posted_logs}
+use Rattle.mp_machine.specs.Messages.{joined, IsMessage}
 use Rattle.mp_machine.specs.Steps.{IsDue, CanStep, CanExchange, same_log}
 use Rattle.mp_machine.specs.Tests.{is_due, taken_times}
 use Rattle.mp_machine.specs.Runs.{IsFinished, WorkerIsFinished}
@@ -81,20 +83,21 @@ module _
   empty : (v w : ℕ) → v < o.workers → w < o.workers → world.mailbox v w ≡ []
   empty v w lv lw = go (world.mailbox v w) refl
     where
-      go : (xs : List Name) → world.mailbox v w ≡ xs → world.mailbox v w ≡ []
+      go : (messages : List (List Name)) → world.mailbox v w ≡ messages → world.mailbox v w ≡ []
       go [] e = e
-      go (x ∷ rest) e = absurd (still w (Receive v) x ((lw, lv), tt, tt, (rest, e)))
+      go ((x ∷ rest) ∷ others) e = absurd (still w (Receive v) x ((lw, lv), tt, tt, (rest, others, e)))
+      go ([] ∷ others) e = let m = (subst (All (IsMessage o)) e (right.mail.messages v w lv lw) 0 [] (omega arith)).some in absurd (omega arith)
 
   taken_if_sent : (x : Name) → IsOwed o x → In x (world.worker (sender o x)).log.sent → In x (world.worker (receiver o x)).log.took
   taken_if_sent x m h =
       let e = edges o ok x m in
       ⊎_elim
-      (λ (i : In x (world.mailbox (sender o x) (receiver o x))). absurd (false≢true (subst (λ (xs : List Name). In x xs) (empty (sender o x) (receiver o x) e.0 e.1) i)))
+      (λ (i : In x (joined (world.mailbox (sender o x) (receiver o x)))). absurd (false≢true (subst (λ (messages : List (List Name)). In x (joined messages)) (empty (sender o x) (receiver o x) e.0 e.1) i)))
       (λ (i : In x (world.worker (receiver o x)).log.took). i)
       (sent_arrives o ok depth world right.mail right.logs x m h)
 
   room : (w : ℕ) (x : Name) → w < o.workers → IsOwed o x → length (world.mailbox w (receiver o x)) < depth
-  room w x l m = subst (λ (xs : List Name). length xs < depth) (sym (empty w (receiver o x) l (edges o ok x m).1)) deep
+  room w x l m = subst (λ (messages : List (List Name)). length messages < depth) (sym (empty w (receiver o x) l (edges o ok x m).1)) deep
 
   Sent : (Name → Bool) → ℕ → Type 0
   Sent p u = (w : ℕ) → w < o.workers → SentAll o w (world.worker w).log p u

@@ -1,5 +1,5 @@
 -- The turn of a step says which condition is true.
-use Rattle.std.proofs.Common.{◌≡◌, ℕ, ◌==◌, nat_lt, Bool, true, false, cond, not, ◌&&◌, ◌||◌, List, [], ◌∷◌, Option, None, Some, refl, sym, ap, ◌∙◌, subst, inl, inr, ⊎_elim}
+use Rattle.std.proofs.Common.{◌≡◌, ℕ, ◌==◌, nat_lt, Bool, true, false, cond, not, ◌&&◌, ◌||◌, List, [], ◌∷◌, length, Option, None, Some, refl, sym, ap, ◌∙◌, subst, inl, inr, ⊎_elim}
 use Rattle.std.proofs.lemmas.Bool.{false≢true, eqb-false, ne_eqb, ltb-true, lt-ltb, and_parts, and_from, or_cases, or_left, or_right, both_ways, false_from_ne_true, not-true, not_from_false, cond-true}
 use Rattle.mp_names.specs.declared.names.Name.{Name}
 use Rattle.mp_names.specs.declared.kinds.Kind.{Kind}
@@ -9,7 +9,7 @@ use Rattle.mp_names.specs.Outlines.{Outline, OutlineIsSound}
 use Rattle.mp_names.specs.Logs.{Log}
 use Rattle.mp_names.proofs.Lists.{same_name-true, same_name-refl}
 use Rattle.mp_machine.specs.Worlds.{World}
-use Rattle.mp_machine.specs.Steps.{IsNext, CanStep, CanExchange, same_names, same_log, version_after}
+use Rattle.mp_machine.specs.Steps.{IsNext, CanStep, CanExchange, names_of, same_names, same_log, version_after}
 use Rattle.mp_machine.specs.Tests.{kind_fits, next_name, is_ready, mail_allows, is_allowed, can_exchange}
 use Rattle.mp_machine.specs.Runs.{Turn, Did, Saw, NotNow, turn_with, turn_of}
 use Rattle.mp_machine.proofs.Conditions.{fits, fits_back}
@@ -49,14 +49,14 @@ own_log a =
 
 -- turns
 
-did_same : (x y : Name) → Did x ≡ Did y → x ≡ y
-did_same x y e = cc
+did_same : (x y : Name) (m n : ℕ) → Did x m ≡ Did y n → (x ≡ y) × (m ≡ n)
+did_same x y m n e = (cc, cc)
 
-not_did : (x : Name) → NotNow ≡ Did x → ⊥
-not_did x e = cc
+not_did : (x : Name) (n : ℕ) → NotNow ≡ Did x n → ⊥
+not_did x n e = cc
 
-saw_did : (v : ℕ) (x : Name) → Saw v ≡ Did x → ⊥
-saw_did v x e = cc
+saw_did : (v : ℕ) (x : Name) (n : ℕ) → Saw v ≡ Did x n → ⊥
+saw_did v x n e = cc
 
 not_saw : (v : ℕ) → NotNow ≡ Saw v → ⊥
 not_saw v e = cc
@@ -70,19 +70,23 @@ chosen true turn P n h = (refl, h)
 chosen false turn P n h = absurd (n h)
 
 module _ (o : Outline) (depth : ℕ) (world : World) (w : ℕ) where
-  tried_did : (kind : Kind) (r : Option Name) (x : Name) → turn_with o depth world w kind r ≡ Did x → (r ≡ Some x) × (is_allowed o depth world w kind x ≡ true)
-  tried_did kind None x e = absurd (not_did x e)
-  tried_did kind (Some y) x e =
-      let c = chosen (is_allowed o depth world w kind y) (Did y) (λ (t : Turn). t ≡ Did x) (not_did x) e in
-      let same = did_same y x c.1 in
-      (ap Some same, subst (λ (z : Name). is_allowed o depth world w kind z ≡ true) same c.0)
+  -- how many names go into the log with the first one
+  abbrev number : Kind → Name → ℕ
+  number kind x = length (names_of o world w kind x)
+
+  tried_did : (kind : Kind) (r : Option Name) (x : Name) (n : ℕ) → turn_with o depth world w kind r ≡ Did x n → (r ≡ Some x) × (is_allowed o depth world w kind x ≡ true) × (n ≡ number kind x)
+  tried_did kind None x n e = absurd (not_did x n e)
+  tried_did kind (Some y) x n e =
+      let c = chosen (is_allowed o depth world w kind y) (Did y (number kind y)) (λ (t : Turn). t ≡ Did x n) (not_did x n) e in
+      let same = did_same y x (number kind y) n c.1 in
+      (ap Some same.0, subst (λ (z : Name). is_allowed o depth world w kind z ≡ true) same.0 c.0, sym same.1 ∙ ap (number kind) same.0)
 
   tried_saw : (kind : Kind) (r : Option Name) (v : ℕ) → turn_with o depth world w kind r ≡ Saw v → ⊥
   tried_saw kind None v e = not_saw v e
-  tried_saw kind (Some y) v e = let c = chosen (is_allowed o depth world w kind y) (Did y) (λ (t : Turn). t ≡ Saw v) (not_saw v) e in saw_did v y (sym c.1)
+  tried_saw kind (Some y) v e = let c = chosen (is_allowed o depth world w kind y) (Did y (number kind y)) (λ (t : Turn). t ≡ Saw v) (not_saw v) e in saw_did v y (number kind y) (sym c.1)
 
-  tried : (kind : Kind) (r : Option Name) (x : Name) → r ≡ Some x → is_allowed o depth world w kind x ≡ true → turn_with o depth world w kind r ≡ Did x
-  tried kind r x e a = ap (λ (r : Option Name). turn_with o depth world w kind r) e ∙ cond-true (is_allowed o depth world w kind x) (Did x) NotNow a
+  tried : (kind : Kind) (r : Option Name) (x : Name) → r ≡ Some x → is_allowed o depth world w kind x ≡ true → turn_with o depth world w kind r ≡ Did x (number kind x)
+  tried kind r x e a = ap (λ (r : Option Name). turn_with o depth world w kind r) e ∙ cond-true (is_allowed o depth world w kind x) (Did x (number kind x)) NotNow a
 
   -- the turn of a kind that isn't an exchange
   IsTried : Kind → Type 0
@@ -147,19 +151,25 @@ module _ (o : Outline) (depth : ℕ) (world : World) (w : ℕ) where
         let n = next o ok depth world w kind x e r.1 in
         ((ltb-true w o.workers p.0, fits o kind q.0), n.0, ready o ok w (world.worker w) kind x r.0, n.1)
 
-    pub did_to : (kind : Kind) (x : Name) → turn_of o depth world w kind ≡ Did x → CanStep o depth world w kind x
-    did_to Exchange x e = let c = chosen (can_exchange o world w) (Saw (version_after world w)) (λ (t : Turn). t ≡ Did x) (not_did x) e in absurd (saw_did (version_after world w) x c.1)
-    did_to Ingest x e = let r = tried_did Ingest (next_name o world w Ingest) x e in allowed Ingest x r.0 r.1
-    did_to SendControl x e = let r = tried_did SendControl (next_name o world w SendControl) x e in allowed SendControl x r.0 r.1
-    did_to (Route j) x e = let r = tried_did (Route j) (next_name o world w (Route j)) x e in allowed (Route j) x r.0 r.1
-    did_to (Receive j) x e = let r = tried_did (Receive j) (next_name o world w (Receive j)) x e in allowed (Receive j) x r.0 r.1
-    did_to (Extract j) x e = let r = tried_did (Extract j) (next_name o world w (Extract j)) x e in allowed (Extract j) x r.0 r.1
-    did_to (Settle j) x e = let r = tried_did (Settle j) (next_name o world w (Settle j)) x e in allowed (Settle j) x r.0 r.1
-    did_to (Apply j) x e = let r = tried_did (Apply j) (next_name o world w (Apply j)) x e in allowed (Apply j) x r.0 r.1
-    did_to SendRow x e = let r = tried_did SendRow (next_name o world w SendRow) x e in allowed SendRow x r.0 r.1
-    did_to Write x e = let r = tried_did Write (next_name o world w Write) x e in allowed Write x r.0 r.1
+    told : (kind : Kind) (x : Name) (n : ℕ) → turn_of o depth world w kind ≡ Did x n → CanStep o depth world w kind x × (n ≡ number kind x)
+    told Exchange x n e = let c = chosen (can_exchange o world w) (Saw (version_after world w)) (λ (t : Turn). t ≡ Did x n) (not_did x n) e in absurd (saw_did (version_after world w) x n c.1)
+    told Ingest x n e = let r = tried_did Ingest (next_name o world w Ingest) x n e in (allowed Ingest x r.0 r.1, r.2)
+    told SendControl x n e = let r = tried_did SendControl (next_name o world w SendControl) x n e in (allowed SendControl x r.0 r.1, r.2)
+    told (Route j) x n e = let r = tried_did (Route j) (next_name o world w (Route j)) x n e in (allowed (Route j) x r.0 r.1, r.2)
+    told (Receive j) x n e = let r = tried_did (Receive j) (next_name o world w (Receive j)) x n e in (allowed (Receive j) x r.0 r.1, r.2)
+    told (Extract j) x n e = let r = tried_did (Extract j) (next_name o world w (Extract j)) x n e in (allowed (Extract j) x r.0 r.1, r.2)
+    told (Settle j) x n e = let r = tried_did (Settle j) (next_name o world w (Settle j)) x n e in (allowed (Settle j) x r.0 r.1, r.2)
+    told (Apply j) x n e = let r = tried_did (Apply j) (next_name o world w (Apply j)) x n e in (allowed (Apply j) x r.0 r.1, r.2)
+    told SendRow x n e = let r = tried_did SendRow (next_name o world w SendRow) x n e in (allowed SendRow x r.0 r.1, r.2)
+    told Write x n e = let r = tried_did Write (next_name o world w Write) x n e in (allowed Write x r.0 r.1, r.2)
 
-    pub did_from : (kind : Kind) (x : Name) → CanStep o depth world w kind x → turn_of o depth world w kind ≡ Did x
+    pub did_to : (kind : Kind) (x : Name) (n : ℕ) → turn_of o depth world w kind ≡ Did x n → CanStep o depth world w kind x
+    did_to kind x n e = (told kind x n e).0
+
+    pub did_number : (kind : Kind) (x : Name) (n : ℕ) → turn_of o depth world w kind ≡ Did x n → n ≡ number kind x
+    did_number kind x n e = (told kind x n e).1
+
+    pub did_from : (kind : Kind) (x : Name) → CanStep o depth world w kind x → turn_of o depth world w kind ≡ Did x (number kind x)
     unfolding IsTried
     did_from kind x h =
         let n = next_back o ok depth world w kind x h.1 h.3 in
@@ -169,12 +179,12 @@ module _ (o : Outline) (depth : ℕ) (world : World) (w : ℕ) where
         (and_from (is_ready o w (world.worker w) kind x) (mail_allows o depth world.mailbox w kind x) (ready_back o ok w (world.worker w) kind x h.2) n.1)))
 
     pub not_now_to : (kind : Kind) → turn_of o depth world w kind ≡ NotNow → ((x : Name) → CanStep o depth world w kind x → ⊥) × (CanExchange o world w kind → ⊥)
-    not_now_to kind e = ((λ x h. not_did x (sym e ∙ did_from kind x h)), (λ h. not_saw (version_after world w) (sym e ∙ saw_from kind h)))
+    not_now_to kind e = ((λ x h. not_did x (number kind x) (sym e ∙ did_from kind x h)), (λ h. not_saw (version_after world w) (sym e ∙ saw_from kind h)))
 
     pub not_now_from : (kind : Kind) → ((x : Name) → CanStep o depth world w kind x → ⊥) → (CanExchange o world w kind → ⊥) → turn_of o depth world w kind ≡ NotNow
     not_now_from kind n m = by_turn (turn_of o depth world w kind) refl
       where
         by_turn : (t : Turn) → turn_of o depth world w kind ≡ t → turn_of o depth world w kind ≡ NotNow
-        by_turn (Did x) e = absurd (n x (did_to kind x e))
+        by_turn (Did x number) e = absurd (n x (did_to kind x number e))
         by_turn (Saw v) e = absurd (m (saw_to kind v e).0)
         by_turn NotNow e = e

@@ -1,27 +1,37 @@
 -- Every world that a run reaches is right, and nothing goes back.
-use Rattle.std.proofs.Common.{◌≡◌, ℕ, suc, ◌<◌, ◌≤◌, ◌⊎◌, true, false, List, [], ◌∷◌, ◌++◌, refl, sym, ap, ◌∙◌, subst, inl, inr, ⊎_elim, arith}
-use Rattle.std.proofs.lemmas.Bool.{cond-true, cond-false, cases_Bool, cases_eq}
+use Rattle.std.proofs.Common.{◌≡◌, ℕ, suc, ◌<◌, ◌≤◌, ◌⊎◌, true, false, List, [], ◌∷◌, ◌++◌, length, refl, sym, ap, ◌∙◌, subst, inl, inr, ⊎_elim, arith}
+use Rattle.std.proofs.lemmas.Bool.{false≢true, both_ways, false_from_ne_true, cond-true, cond-false, cases_Bool, cases_eq}
+use Rattle.std.proofs.lemmas.List.Elements.{All-nil}
 use Rattle.mp_names.specs.declared.names.Name.{Name}
 use Rattle.mp_names.specs.declared.locations.Loc.{Loc}
 use Rattle.mp_names.specs.declared.kinds.Kind.{Kind}
 use Rattle.mp_names.specs.declared.kinds.Kind.TheVariants.{Ingest, SendControl, Route, Receive, Extract, Settle, Apply, SendRow, Write, Exchange}
-use Rattle.mp_names.specs.Names.{In}
-use Rattle.mp_names.specs.Outlines.{Outline, OutlineIsSound}
-use Rattle.mp_names.specs.Logs.{Log, LogIsLegal, LogGrows, LogsAreLegal, LogsGrow, empty_log, with_took}
+use Rattle.mp_names.specs.Names.{has, In, Distinct}
+use Rattle.mp_names.specs.Outlines.{Outline, OutlineIsSound, receiver}
+use Rattle.mp_names.specs.Logs.{Log, LogIsLegal, LogGrows, LogsAreLegal, LogsGrow, empty_log, with_sent}
 use Rattle.mp_names.specs.Frontiers.{IsFrontier, HasPassed, frontier_of, IsClosed, IsClosedForOne}
-use Rattle.mp_names.proofs.Lists.{In_here}
+use Rattle.mp_names.proofs.Lists.{In_left, In_cases}
 use Rattle.mp_names.proofs.Exact.{closed_from_passed, passed_from_closed}
 use Rattle.mp_names.proofs.Exists.{frontier_is}
 use Rattle.mp_names.proofs.Grows.{grows_refl, grows_trans, grown_closed}
 use Rattle.mp_names.proofs.Keeps.{empty_is_legal}
 use Rattle.mp_machine.specs.Worlds.{Worker, World, posted_logs, start_of_machine, put}
-use Rattle.mp_machine.specs.Steps.{CanStep, CanExchange, logged, mailed, stepped, same_log, version_after, posted_with, having_seen, exchanged}
+use Rattle.mp_machine.specs.Messages.{joined, first_message, IsMessage}
+use Rattle.mp_machine.specs.Steps.{HasRoom, CanStep, CanExchange, AreNamesOf, names_of, logged, pushed, mailed, stepped, same_log, version_after, posted_with, having_seen, exchanged}
 use Rattle.mp_machine.specs.Runs.{Turn, Did, Saw, NotNow, turn_of, turn_of_machine, after_turn, step_of_machine, world_after, run_of_machine, turns_of}
 use Rattle.mp_machine.specs.Promises.{ComesRightly}
 use Rattle.mp_machine.proofs.Puts.{put_here, put_other, put_all}
 use Rattle.mp_machine.proofs.Turns.{did_to, saw_to, same_log_is}
 use Rattle.mp_machine.proofs.Keeps.{logged_grows, step_keeps}
-use Rattle.mp_machine.proofs.Mailboxes.{MailIsInOrder, from, to, waiting_is_right, mail_kept, mail_sent, mail_taken}
+use Rattle.mp_machine.proofs.Messages.{single_message, bundle_receiver, bundle_is_message}
+use Rattle.mp_machine.proofs.Mailboxes.{MailIsInOrder, from, to, waiting_is_right, waiting_once, mail_kept, mail_sent, mail_taken}
+
+-- a step that can be made puts some name into the log, and one only, where records travel singly
+
+pub names_some : (o : Outline) → OutlineIsSound o → (depth : ℕ) (world : World) (w : ℕ) (kind : Kind) (x : Name) → CanStep o depth world w kind x → 0 < length (names_of o world w kind x)
+names_some o ok depth world w (Route j) x can = (bundle_is_message o ok w (world.worker w) j x can.1).some
+names_some o ok depth world w (Receive v) x can = let e : length (first_message (world.mailbox v w)) ≡ suc (length can.3.0) = ap (λ (l : List (List Name)). length (first_message l)) can.3.2 in omega arith
+names_some o ok depth world w _ x can = omega arith
 
 -- What holds of every world that a run reaches: logs and posted logs are legal; what a worker saw to be passed is closed in the posted logs; no worker is ahead of the board, and one that is level with it saw its frontiers; mail is in order
 pub record WorldIsRight (o : Outline) (depth : ℕ) (world : World) : Type 0 where
@@ -56,13 +66,17 @@ goes_on_trans o a b c p q =
 pub closed_grows : (o : Outline) (old new : ℕ → Log) → LogsGrow o old new → (at : Loc) (t : ℕ) → IsClosed o old at t → IsClosed o new at t
 closed_grows o old new g at t c w l = grown_closed o w (old w) (new w) (g w l) at t (c w l)
 
+left_once : (xs ys : List Name) → Distinct (xs ++ ys) → Distinct xs
+left_once [] ys d = tt
+left_once (x ∷ xs) ys d = (false_from_ne_true (has xs x) (λ i. both_ways (has (xs ++ ys) x) d.0 (In_left x xs ys i)), left_once xs ys d.1)
+
 module _ (o : Outline) (ok : OutlineIsSound o) (depth : ℕ) (world : World) (right : WorldIsRight o depth world) (w : ℕ) (l : w < o.workers) where
   -- what the worker saw to be passed is done in its own log
   pub known : (at : Loc) (t : ℕ) → HasPassed ((world.worker w).seen at) t → IsClosedForOne o w (world.worker w).log at t
   known at t p = grown_closed o w (world.worker w).posted (world.worker w).log (right.grows w l) at t (right.seen w l at t p w l)
 
-  -- a step that puts a name into the log
-  acted : (new : Log) (box : ℕ → ℕ → List Name) → LogGrows (world.worker w).log new → LogIsLegal o w new → MailIsInOrder o depth (record world { worker = put w (record (world.worker w) { log = new }) world.worker; mailbox = box }) → Moved o depth world (record world { worker = put w (record (world.worker w) { log = new }) world.worker; mailbox = box })
+  -- a step that puts names into the log
+  acted : (new : Log) (box : ℕ → ℕ → List (List Name)) → LogGrows (world.worker w).log new → LogIsLegal o w new → MailIsInOrder o depth (record world { worker = put w (record (world.worker w) { log = new }) world.worker; mailbox = box }) → Moved o depth world (record world { worker = put w (record (world.worker w) { log = new }) world.worker; mailbox = box })
   acted new box g keeps mail =
       let me : Worker = record (world.worker w) { log = new } in
       let posted : (v : ℕ) → (world.worker v).posted ≡ (put w me world.worker v).posted = put_all (λ v (k : Worker). (world.worker v).posted ≡ k.posted) w me world.worker refl (λ v e. refl) in
@@ -83,26 +97,57 @@ module _ (o : Outline) (ok : OutlineIsSound o) (depth : ℕ) (world : World) (ri
         },
       )
 
-  pub keeps : (kind : Kind) (x : Name) → CanStep o depth world w kind x → ComesRightly o w (world.worker w).log kind x → LogIsLegal o w (logged kind (world.worker w).log x)
-  keeps kind x can c = step_keeps o ok w l (world.worker w) (right.logs w l) known kind x can.1 can.2 c
+  -- the names of a step that can be made
+  pub names_are : (kind : Kind) (x : Name) → CanStep o depth world w kind x → AreNamesOf o w (world.worker w).log kind x (names_of o world w kind x)
+  names_are Ingest x can = refl
+  names_are SendControl x can = refl
+  names_are (Route j) x can = refl
+  names_are (Receive v) x can = (can.3.0, ap first_message can.3.2)
+  names_are (Extract j) x can = refl
+  names_are (Settle j) x can = refl
+  names_are (Apply j) x can = refl
+  names_are SendRow x can = refl
+  names_are Write x can = refl
+  names_are Exchange x can = refl
 
-  grown : (kind : Kind) (x : Name) → LogGrows (world.worker w).log (logged kind (world.worker w).log x)
-  grown kind x = logged_grows kind (world.worker w).log x
+  pub keeps : (kind : Kind) (x : Name) → CanStep o depth world w kind x → ComesRightly o w (world.worker w).log kind (names_of o world w kind x) → LogIsLegal o w (logged kind (world.worker w).log (names_of o world w kind x))
+  keeps kind x can c = step_keeps o ok w l (world.worker w) (right.logs w l) known kind x (names_of o world w kind x) can.1 can.2 (names_are kind x can) c
+
+  grown : (kind : Kind) (x : Name) → LogGrows (world.worker w).log (logged kind (world.worker w).log (names_of o world w kind x))
+  grown kind x = logged_grows kind (world.worker w).log (names_of o world w kind x)
+
+  -- a message of one name goes to the receiver of that name
+  to_receiver : (x y : Name) → In y (x ∷ []) → receiver o y ≡ receiver o x
+  to_receiver x y i = ⊎_elim (λ (e : x ≡ y). ap (receiver o) (sym e)) (λ (k : In y []). absurd (false≢true k)) (In_cases y x [] i)
+
+  abbrev now : Kind → Name → Log
+  now kind x = logged kind (world.worker w).log (names_of o world w kind x)
+
+  abbrev boxes : Kind → Name → ℕ → ℕ → List (List Name)
+  boxes kind x = mailed o w kind x (names_of o world w kind x) world.mailbox
+
+  send_one : (x : Name) → HasRoom o depth world.mailbox w x → MailIsInOrder o depth (record world { worker = put w (record (world.worker w) { log = with_sent (world.worker w).log x }) world.worker; mailbox = pushed w (receiver o x) (x ∷ []) world.mailbox })
+  send_one x room = mail_sent o ok depth world right.mail w (receiver o x) (x ∷ []) (single_message o ok x) (to_receiver x) room
 
   pub act : (kind : Kind) (x : Name) → CanStep o depth world w kind x → Moved o depth world (stepped o world w kind x)
-  act Ingest x can = acted (logged Ingest (world.worker w).log x) world.mailbox (grown Ingest x) (keeps Ingest x can tt) (mail_kept o ok depth world right.mail w (logged Ingest (world.worker w).log x) refl refl)
-  act SendControl x can = acted (logged SendControl (world.worker w).log x) (mailed o w SendControl x world.mailbox) (grown SendControl x) (keeps SendControl x can tt) (mail_sent o ok depth world right.mail w x can.3)
-  act (Route j) x can = acted (logged (Route j) (world.worker w).log x) (mailed o w (Route j) x world.mailbox) (grown (Route j) x) (keeps (Route j) x can tt) (mail_sent o ok depth world right.mail w x can.3)
+  act Ingest x can = acted (now Ingest x) world.mailbox (grown Ingest x) (keeps Ingest x can tt) (mail_kept o ok depth world right.mail w (now Ingest x) refl refl)
+  act SendControl x can = acted (now SendControl x) (boxes SendControl x) (grown SendControl x) (keeps SendControl x can tt) (send_one x can.3)
+  act (Route j) x can =
+      acted (now (Route j) x) (boxes (Route j) x) (grown (Route j) x) (keeps (Route j) x can tt)
+      (mail_sent o ok depth world right.mail w (receiver o x) (names_of o world w (Route j) x) (bundle_is_message o ok w (world.worker w) j x can.1) (bundle_receiver o ok w (world.worker w) j x) can.3)
   act (Receive v) x can =
-      let first = can.3.1 in
-      let here : In x (world.mailbox v w) = subst (λ (xs : List Name). In x xs) (sym first) (In_here x can.3.0) in
-      let r = waiting_is_right o ok depth world right.mail right.logs v w can.0.1 l x here in
-      acted (with_took (world.worker w).log x) (mailed o w (Receive v) x world.mailbox) (grown (Receive v) x) (keeps (Receive v) x can (r.0, r.2)) (mail_taken o ok depth world right.mail w v x can.3.0 first r.1)
-  act (Extract j) x can = acted (logged (Extract j) (world.worker w).log x) (mailed o w (Extract j) x world.mailbox) (grown (Extract j) x) (keeps (Extract j) x can tt) (mail_sent o ok depth world right.mail w x can.3)
-  act (Settle j) x can = acted (logged (Settle j) (world.worker w).log x) world.mailbox (grown (Settle j) x) (keeps (Settle j) x can tt) (mail_kept o ok depth world right.mail w (logged (Settle j) (world.worker w).log x) refl refl)
-  act (Apply j) x can = acted (logged (Apply j) (world.worker w).log x) world.mailbox (grown (Apply j) x) (keeps (Apply j) x can tt) (mail_kept o ok depth world right.mail w (logged (Apply j) (world.worker w).log x) refl refl)
-  act SendRow x can = acted (logged SendRow (world.worker w).log x) (mailed o w SendRow x world.mailbox) (grown SendRow x) (keeps SendRow x can tt) (mail_sent o ok depth world right.mail w x can.3)
-  act Write x can = acted (logged Write (world.worker w).log x) world.mailbox (grown Write x) (keeps Write x can tt) (mail_kept o ok depth world right.mail w (logged Write (world.worker w).log x) refl refl)
+      let xs = first_message (world.mailbox v w) in
+      let first : world.mailbox v w ≡ xs ∷ can.3.1 = can.3.2 ∙ ap (λ (l : List Name). l ∷ can.3.1) (sym (ap first_message can.3.2)) in
+      let waits : (y : Name) → In y xs → In y (joined (world.mailbox v w)) = λ y i. subst (λ (l : List (List Name)). In y (joined l)) (sym first) (In_left y xs (joined can.3.1) i) in
+      let right_one = λ (y : Name) (i : In y xs). waiting_is_right o ok depth world right.mail right.logs v w can.0.1 l y (waits y i) in
+      let once : Distinct xs = left_once xs (joined can.3.1) (subst (λ (l : List (List Name)). Distinct (joined l)) first (waiting_once o ok depth world right.mail right.logs v w can.0.1 l)) in
+      acted (now (Receive v) x) (boxes (Receive v) x) (grown (Receive v) x) (keeps (Receive v) x can (once, (λ y i. let r = right_one y i in (r.0, r.2))))
+      (mail_taken o ok depth world right.mail w v xs can.3.1 first (λ y i. (right_one y i).1))
+  act (Extract j) x can = acted (now (Extract j) x) (boxes (Extract j) x) (grown (Extract j) x) (keeps (Extract j) x can tt) (send_one x can.3)
+  act (Settle j) x can = acted (now (Settle j) x) world.mailbox (grown (Settle j) x) (keeps (Settle j) x can tt) (mail_kept o ok depth world right.mail w (now (Settle j) x) refl refl)
+  act (Apply j) x can = acted (now (Apply j) x) world.mailbox (grown (Apply j) x) (keeps (Apply j) x can tt) (mail_kept o ok depth world right.mail w (now (Apply j) x) refl refl)
+  act SendRow x can = acted (now SendRow x) (boxes SendRow x) (grown SendRow x) (keeps SendRow x can tt) (send_one x can.3)
+  act Write x can = acted (now Write x) world.mailbox (grown Write x) (keeps Write x can tt) (mail_kept o ok depth world right.mail w (now Write x) refl refl)
   act Exchange x can = absurd can.1
 
   -- an exchange
@@ -177,8 +222,9 @@ module _ (o : Outline) (ok : OutlineIsSound o) (depth : ℕ) (world : World) (ri
           (put_all (λ v (k : Worker). v < o.workers → k.version ≡ version_after world w → k.seen at ≡ frontier_of o (posted_with world w) at) w saw world.worker (λ h e. refl) (λ v f h e. still_level v h e at) v h e);
       mail =
           record {
-            order = λ a b la lb. ap (λ (log : Log). from o a log.took ++ world.mailbox a b) (sym (logs_are b)) ∙ right.mail.order a b la lb ∙ ap (λ (log : Log). to o b log.sent) (logs_are a);
+            order = λ a b la lb. ap (λ (log : Log). from o a log.took ++ joined (world.mailbox a b)) (sym (logs_are b)) ∙ right.mail.order a b la lb ∙ ap (λ (log : Log). to o b log.sent) (logs_are a);
             room = right.mail.room;
+            messages = right.mail.messages;
           };
     },
     record {
@@ -208,7 +254,7 @@ module _ (o : Outline) (ok : OutlineIsSound o) (depth : ℕ) where
   by_turn P world w kind did saw not_now = go (turn_of o depth world w kind) refl
     where
       go : (t : Turn) → turn_of o depth world w kind ≡ t → P (after_turn o world w kind t)
-      go (Did x) e = did x (did_to o depth world w ok kind x e)
+      go (Did x n) e = did x (did_to o depth world w ok kind x n e)
       go (Saw v) e = saw (saw_to o depth world w kind v e).0
       go NotNow e = not_now
 
@@ -237,7 +283,7 @@ module _ (o : Outline) (ok : OutlineIsSound o) (depth : ℕ) where
         seen = λ w l at t p. closed_from_passed o (λ v. empty_log) ok legal at (frontier_of o (λ v. empty_log) at) t (frontier_is o (λ v. empty_log) ok legal at) p;
         behind = λ w l. omega arith;
         level = λ w l e at. refl;
-        mail = record { order = λ v w lv lw. refl; room = λ v w lv lw. omega arith };
+        mail = record { order = λ v w lv lw. refl; room = λ v w lv lw. omega arith; messages = λ v w lv lw. All-nil (IsMessage o) };
       }
 
   pub run_right : (steps : List (ℕ × Kind)) → WorldIsRight o depth (run_of_machine o depth steps)

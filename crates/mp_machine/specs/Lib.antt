@@ -1,4 +1,5 @@
 pub mod Worlds
+pub mod Messages
 pub mod Steps
 pub mod Tests
 pub mod Runs

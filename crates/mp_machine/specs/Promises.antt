@@ -1,5 +1,5 @@
 -- What holds in every run of the machine: for each sound outline, each depth of the mailboxes and each list of steps.
-use Rattle.std.specs.Prelude.{◌≡◌, ◌↔◌, ℕ, ◌+◌, ◌*◌, ◌<◌, ◌≤◌, ◌⊎◌, false, ◌==◌, List, ◌++◌, length, filter}
+use Rattle.std.specs.Prelude.{◌≡◌, ◌↔◌, ℕ, ◌+◌, ◌*◌, ◌<◌, ◌≤◌, ◌⊎◌, false, ◌==◌, All, List, [], ◌∷◌, ◌++◌, length, filter}
 use Rattle.std.specs.List.{Contains}
 use Rattle.mp_names.specs.declared.names.Name.{Name}
 use Rattle.mp_names.specs.declared.names.Name.TheVariants.{Packet, Row, Group, Written}
@@ -9,22 +9,23 @@ use Rattle.mp_names.specs.declared.locations.Loc.TheVariants.{OutMail}
 use Rattle.mp_names.specs.declared.locations.Frontier.{Frontier}
 use Rattle.mp_names.specs.declared.kinds.Kind.{Kind}
 use Rattle.mp_names.specs.declared.kinds.Kind.TheVariants.{Receive, Extract, Apply}
-use Rattle.mp_names.specs.Names.{has, In, is_group, is_settled, is_written}
+use Rattle.mp_names.specs.Names.{has, In, Distinct, is_group, is_settled, is_written}
 use Rattle.mp_names.specs.Outlines.{Outline, OutlineIsSound, owner_at, group_owner, IsMove, groups_of, control_times, answer_times, sender, receiver, IsOwedBy, IsOwedTo, share, name_count}
 use Rattle.mp_names.specs.Logs.{Log, LogIsLegal, LogGrows, InHandBefore, EarlierApplied, owned_groups}
 use Rattle.mp_names.specs.Frontiers.{IsFrontier, HasPassed, frontier_of, IsClosed, IsClosedForOne}
 use Rattle.mp_names.specs.Keeping.{GroupIsWhole}
 use Rattle.mp_machine.specs.Worlds.{Worker, World, posted_logs, start_of_machine}
-use Rattle.mp_machine.specs.Steps.{KindFits, IsPlace, IsNext, IsReady, CanStep, CanExchange, logged, stepped, version_after, exchanged}
+use Rattle.mp_machine.specs.Messages.{joined, IsMessage}
+use Rattle.mp_machine.specs.Steps.{KindFits, IsPlace, IsNext, IsReady, CanStep, CanExchange, AreNamesOf, names_of, logged, stepped, version_after, exchanged}
 use Rattle.mp_machine.specs.Runs.{Did, Saw, NotNow, turn_of_machine, step_of_machine, world_after, run_of_machine, turns_of, made_count, IsFinished, WorkerIsFinished}
 use Rattle.mp_machine.specs.Places.{places}
 use Rattle.mp_machine.specs.Holding.{HasOneHolder, HasOnePacket}
 
 -- Turns and conditions
 
--- a step puts a name into the log exactly where its condition is true with that name
+-- a step puts names into the log exactly where its condition is true with the first of them, and they are so many as go with that one
 abbrev pub DidTells : Type 0
-DidTells = (o : Outline) (depth : ℕ) (world : World) (w : ℕ) (kind : Kind) (x : Name) → OutlineIsSound o → ((turn_of_machine o depth world w kind ≡ Did x) ↔ CanStep o depth world w kind x)
+DidTells = (o : Outline) (depth : ℕ) (world : World) (w : ℕ) (kind : Kind) (x : Name) (n : ℕ) → OutlineIsSound o → ((turn_of_machine o depth world w kind ≡ Did x n) ↔ (CanStep o depth world w kind x × (n ≡ length (names_of o world w kind x))))
 
 -- a step sees a version exactly where it is an exchange whose condition is true, and what it sees is the board's version after that
 abbrev pub SawTells : Type 0
@@ -34,9 +35,9 @@ SawTells = (o : Outline) (depth : ℕ) (world : World) (w : ℕ) (kind : Kind) (
 abbrev pub NotNowTells : Type 0
 NotNowTells = (o : Outline) (depth : ℕ) (world : World) (w : ℕ) (kind : Kind) → OutlineIsSound o → ((turn_of_machine o depth world w kind ≡ NotNow) ↔ (((x : Name) → CanStep o depth world w kind x → ⊥) × (CanExchange o world w kind → ⊥)))
 
--- A step that puts a name into the log has the effect of its kind with that name, an exchange has that of an exchange, and NotNow changes nothing
+-- A step that puts names into the log has the effect of its kind with the first of them, an exchange has that of an exchange, and NotNow changes nothing
 pub record EffectFollowsTurn (o : Outline) (depth : ℕ) (world : World) (w : ℕ) (kind : Kind) : Type 0 where
-  pub did : (x : Name) → turn_of_machine o depth world w kind ≡ Did x → step_of_machine o depth world w kind ≡ stepped o world w kind x
+  pub did : (x : Name) (n : ℕ) → turn_of_machine o depth world w kind ≡ Did x n → step_of_machine o depth world w kind ≡ stepped o world w kind x
   pub saw : (version : ℕ) → turn_of_machine o depth world w kind ≡ Saw version → step_of_machine o depth world w kind ≡ exchanged o world w
   pub not_now : turn_of_machine o depth world w kind ≡ NotNow → step_of_machine o depth world w kind ≡ world
 
@@ -52,7 +53,7 @@ pub record StepFollowsCondition (o : Outline) (depth : ℕ) (world : World) (w :
 abbrev pub StepsFollowConditions : Type 0
 StepsFollowConditions = (o : Outline) (depth : ℕ) (world : World) (w : ℕ) (kind : Kind) → OutlineIsSound o → StepFollowsCondition o depth world w kind
 
--- a condition is true with one name at most
+-- a condition is true with one first name at most
 abbrev pub OneNameAtMost : Type 0
 OneNameAtMost = (o : Outline) (depth : ℕ) (world : World) (w : ℕ) (kind : Kind) (x y : Name) → OutlineIsSound o → CanStep o depth world w kind x → CanStep o depth world w kind y → x ≡ y
 
@@ -66,15 +67,25 @@ PlacesAreCounted = (o : Outline) → length (places o) ≡ o.workers * (4 * o.st
 
 -- One worker
 
--- of a name that comes by mail the worker knows that it is owed to it, and that it didn't take it before
-abbrev pub ComesRightly : Outline → ℕ → Log → Kind → Name → Type 0
-ComesRightly o w log (Receive v) x = IsOwedTo o w x × (has log.took x ≡ false)
-ComesRightly o w log _ x = Unit {0}
+-- of the names of a message that comes by mail the worker knows that they are owed to it, that it didn't take them before, and that each is there once
+abbrev pub ComesRightly : Outline → ℕ → Log → Kind → List Name → Type 0
+ComesRightly o w log (Receive v) xs = Distinct xs × ((x : Name) → In x xs → IsOwedTo o w x × (has log.took x ≡ false))
+ComesRightly o w log _ xs = Unit {0}
 
 -- each step keeps the log of its worker legal, by what this worker saw alone: that where a frontier that it saw has passed a time, its own part is done in its own log
 abbrev pub StepsKeepLogsLegal : Type 0
 StepsKeepLogsLegal =
-    (o : Outline) (w : ℕ) (worker : Worker) (kind : Kind) (x : Name) → OutlineIsSound o → w < o.workers → KindFits o kind → LogIsLegal o w worker.log → ((at : Loc) (t : ℕ) → HasPassed (worker.seen at) t → IsClosedForOne o w worker.log at t) → IsNext o w worker kind x → IsReady o w worker kind x → ComesRightly o w worker.log kind x → LogIsLegal o w (logged kind worker.log x)
+    (o : Outline) (w : ℕ) (worker : Worker) (kind : Kind) (x : Name) (xs : List Name)
+    → OutlineIsSound o
+    → w < o.workers
+    → KindFits o kind
+    → LogIsLegal o w worker.log
+    → ((at : Loc) (t : ℕ) → HasPassed (worker.seen at) t → IsClosedForOne o w worker.log at t)
+    → IsNext o w worker kind x
+    → IsReady o w worker kind x
+    → AreNamesOf o w worker.log kind x xs
+    → ComesRightly o w worker.log kind xs
+    → LogIsLegal o w (logged kind worker.log xs)
 
 -- The worker has done all that it has to do
 pub record LogIsFull (o : Outline) (w : ℕ) (log : Log) : Type 0 where
@@ -115,10 +126,19 @@ LogsAreAlwaysLegal = InEveryRun (λ o depth world. (w : ℕ) → w < o.workers �
 abbrev pub LogsOnlyGrow : Type 0
 LogsOnlyGrow = AsRunsGoOn (λ o old new. (w : ℕ) → w < o.workers → LogGrows (old.worker w).log (new.worker w).log × LogGrows (old.worker w).posted (new.worker w).posted)
 
--- what w took from v, and then what waits in the mailbox between them, is what v sent to w, in that order; and no mailbox holds more than its depth
+-- what w took from v, and then the names of the messages that wait in the mailbox between them, is what v sent to w, in that order; and no mailbox holds more messages than its depth
 abbrev pub MailComesInOrder : Type 0
 MailComesInOrder =
-    InEveryRun (λ o depth world. (v w : ℕ) → v < o.workers → w < o.workers → (filter (λ x. sender o x == v) (world.worker w).log.took ++ world.mailbox v w ≡ filter (λ x. receiver o x == w) (world.worker v).log.sent) × (length (world.mailbox v w) ≤ depth))
+    InEveryRun (λ o depth world. (v w : ℕ) → v < o.workers → w < o.workers → (filter (λ x. sender o x == v) (world.worker w).log.took ++ joined (world.mailbox v w) ≡ filter (λ x. receiver o x == w) (world.worker v).log.sent) × (length (world.mailbox v w) ≤ depth))
+
+-- all that waits in a mailbox is a message, as the definition says it
+abbrev pub MailIsOfMessages : Type 0
+MailIsOfMessages = InEveryRun (λ o depth world. (v w : ℕ) → v < o.workers → w < o.workers → All (IsMessage o) (world.mailbox v w))
+
+-- where records travel singly, each step puts one name into the log, and each message has one name
+abbrev pub OneNameTravels : Type 0
+OneNameTravels =
+    InEveryRun (λ o depth world. o.bundle ≡ 1 → ((w : ℕ) (kind : Kind) (x : Name) → CanStep o depth world w kind x → names_of o world w kind x ≡ x ∷ []) × ((v w : ℕ) → v < o.workers → w < o.workers → All (λ xs. length xs ≡ 1) (world.mailbox v w)))
 
 -- no frontier that a worker saw goes back
 abbrev pub SeenFrontiersNeverGoBack : Type 0
@@ -151,7 +171,7 @@ BinsAreInOnePlace = InEveryRun (λ o depth world. (j b : ℕ) → j < o.stages �
 -- when a group is applied, it is its worker's with all that belongs to it, and no worker has applied it before
 abbrev pub GroupsAreAppliedWhole : Type 0
 GroupsAreAppliedWhole =
-    InEveryRun (λ o depth world. (w i j t k : ℕ) → turn_of_machine o depth world w (Apply i) ≡ Did (Group j t k) → GroupIsWhole o w (world.worker w).log j t k × ((v : ℕ) → v < o.workers → has (world.worker v).log.applied (Group j t k) ≡ false))
+    InEveryRun (λ o depth world. (w i j t k n : ℕ) → turn_of_machine o depth world w (Apply i) ≡ Did (Group j t k) n → GroupIsWhole o w (world.worker w).log j t k × ((v : ℕ) → v < o.workers → has (world.worker v).log.applied (Group j t k) ≡ false))
 
 -- only the owner of a group applies it
 abbrev pub OwnersApply : Type 0
@@ -160,7 +180,7 @@ OwnersApply = InEveryRun (λ o depth world. (w j t k : ℕ) → w < o.workers �
 -- when a packet leaves, the bin is in hand, and every group of it below the packet's time that the sender owns is applied
 abbrev pub PacketsLeaveLast : Type 0
 PacketsLeaveLast =
-    InEveryRun (λ o depth world. (w i j b t : ℕ) → turn_of_machine o depth world w (Extract i) ≡ Did (Packet j b t) → InHandBefore o w (world.worker w).log j b t × EarlierApplied o w (world.worker w).log j b t)
+    InEveryRun (λ o depth world. (w i j b t n : ℕ) → turn_of_machine o depth world w (Extract i) ≡ Did (Packet j b t) n → InHandBefore o w (world.worker w).log j b t × EarlierApplied o w (world.worker w).log j b t)
 
 -- where a packet of a bin is sent, those of all its earlier moves are taken
 abbrev pub PacketsFollowMoves : Type 0
@@ -172,8 +192,8 @@ BinIsAppliedBelow o world j b t = (u k : ℕ) → u < t → o.bin_of k ≡ b →
 
 -- When a group is applied or a packet leaves, all earlier groups of the bin are applied, whoever owned it then: no update is lost or overtaken where a bin moves
 pub record BinsAreAppliedInOrder (o : Outline) (depth : ℕ) (world : World) : Type 0 where
-  pub groups : (w i j t k : ℕ) → turn_of_machine o depth world w (Apply i) ≡ Did (Group j t k) → BinIsAppliedBelow o world j (o.bin_of k) t
-  pub packets : (w i j b t : ℕ) → turn_of_machine o depth world w (Extract i) ≡ Did (Packet j b t) → BinIsAppliedBelow o world j b t
+  pub groups : (w i j t k n : ℕ) → turn_of_machine o depth world w (Apply i) ≡ Did (Group j t k) n → BinIsAppliedBelow o world j (o.bin_of k) t
+  pub packets : (w i j b t n : ℕ) → turn_of_machine o depth world w (Extract i) ≡ Did (Packet j b t) n → BinIsAppliedBelow o world j b t
 
 abbrev pub UpdatesComeInOrder : Type 0
 UpdatesComeInOrder = InEveryRun BinsAreAppliedInOrder
@@ -215,6 +235,6 @@ StepsAreBoundedBy each = (o : Outline) (depth : ℕ) (steps : List (ℕ × Kind)
 abbrev pub StepsAreBounded : Type 0
 StepsAreBounded = StepsAreBoundedBy (λ o. o.workers + 2)
 
--- one for each name that a step adds, and one for each worker that sees it posted
+-- one for each name that steps add, and one for each worker that sees it posted
 abbrev pub StepsAreBoundedClosely : Type 0
 StepsAreBoundedClosely = StepsAreBoundedBy (λ o. o.workers + 1)

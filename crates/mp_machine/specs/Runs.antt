@@ -1,5 +1,5 @@
 -- Runs: the turn of each step, the world after a list of steps, and when all is over.
-use Rattle.std.specs.Prelude.{◌≡◌, ℕ, Bool, true, false, cond, List, [], ◌∷◌, count_by, Option}
+use Rattle.std.specs.Prelude.{◌≡◌, ℕ, Bool, true, false, cond, List, [], ◌∷◌, count_by, length, Option}
 use Rattle.std.specs.Option.{option_map_or}
 use Rattle.mp_names.specs.declared.names.Name.{Name}
 use Rattle.mp_names.specs.declared.names.Name.TheVariants.{Row, Written}
@@ -13,17 +13,17 @@ use Rattle.mp_names.specs.Outlines.{Outline}
 use Rattle.mp_names.specs.Frontiers.{IsFrontier}
 use Rattle.mp_names.specs.Locations.{IsLocation}
 use Rattle.mp_machine.specs.Worlds.{World, posted_logs, start_of_machine}
-use Rattle.mp_machine.specs.Steps.{stepped, exchanged, version_after}
+use Rattle.mp_machine.specs.Steps.{names_of, stepped, exchanged, version_after}
 use Rattle.mp_machine.specs.Tests.{next_name, is_allowed, can_exchange}
 
--- What a step does: it puts a name into its worker's log; or it is an exchange, which saw this version; or its condition is false
+-- What a step does: it puts names into its worker's log, of which this is the first, and which are so many; or it is an exchange, which saw this version; or its condition is false
 pub data Turn : Type 0 where
-  Did : Name → Turn
+  Did : Name → ℕ → Turn
   Saw : ℕ → Turn
   NotNow : Turn
 
 abbrev pub turn_with : Outline → ℕ → World → ℕ → Kind → Option Name → Turn
-turn_with o depth world w kind tried = option_map_or (λ x. cond (is_allowed o depth world w kind x) (Did x) NotNow) tried NotNow
+turn_with o depth world w kind tried = option_map_or (λ x. cond (is_allowed o depth world w kind x) (Did x (length (names_of o world w kind x))) NotNow) tried NotNow
 
 abbrev pub turn_of : Outline → ℕ → World → ℕ → Kind → Turn
 turn_of o depth world w Exchange = cond (can_exchange o world w) (Saw (version_after world w)) NotNow
@@ -34,7 +34,7 @@ unfoldable pub turn_of_machine : Outline → ℕ → World → ℕ → Kind → 
 turn_of_machine o depth world w kind = turn_of o depth world w kind
 
 abbrev pub after_turn : Outline → World → ℕ → Kind → Turn → World
-after_turn o world w kind (Did x) = stepped o world w kind x
+after_turn o world w kind (Did x n) = stepped o world w kind x
 after_turn o world w kind (Saw version) = exchanged o world w
 after_turn o world w kind NotNow = world
 

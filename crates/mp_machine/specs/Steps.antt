@@ -1,4 +1,4 @@
--- The ten kinds of step: of each the place, the name that it puts into its worker's log, the condition and the effect.
+-- The ten kinds of step: of each the place, the names that it puts into its worker's log, the condition and the effect.
 use Rattle.std.specs.Prelude.{◌≡◌, ℕ, suc, ◌<◌, ◌⊎◌, cond, ◌&&◌, Bool, true, false, List, [], ◌∷◌, ◌++◌, length}
 use Rattle.mp_names.specs.declared.names.Name.{Name}
 use Rattle.mp_names.specs.declared.names.Name.TheVariants.{Packet, Group, Settled}
@@ -7,10 +7,11 @@ use Rattle.mp_names.specs.declared.kinds.Kind.{Kind}
 use Rattle.mp_names.specs.declared.kinds.Kind.TheVariants.{Ingest, SendControl, Route, Receive, Extract, Settle, Apply, SendRow, Write, Exchange}
 use Rattle.mp_names.specs.Names.{In, same_name, IsPrefix, IsLeast, is_ctrl, is_rec, is_row}
 use Rattle.mp_names.specs.Outlines.{Outline, time_of, receiver, IsOwedBy, share}
-use Rattle.mp_names.specs.Logs.{Log, with_ingested, with_sent, with_took, with_applied, with_settled, InHandBefore, InHand}
+use Rattle.mp_names.specs.Logs.{Log, InHandBefore, InHand}
 use Rattle.mp_names.specs.Frontiers.{HasPassed, HasReached, frontier_of}
 use Rattle.mp_names.specs.Keeping.{IsHeld, IsUnsentPacket, IsUnsettled, IsWaiting, IsUnwritten}
 use Rattle.mp_machine.specs.Worlds.{Worker, World, posted_logs, put}
+use Rattle.mp_machine.specs.Messages.{bundle_of, first_message}
 
 -- Places
 
@@ -33,7 +34,7 @@ abbrev pub IsDue : Outline → ℕ → Worker → ℕ → Name → Type 0
 IsDue o w worker j (Packet i b t) = IsUnsentPacket o w worker.log j (Packet i b t) × HasPassed (worker.seen CtlMail) t
 IsDue o w worker j _ = ⊥
 
--- the name that the step would put into the log: the next record of the share; the least control record, record or answer row that is held; the least packet that is due; the least time of noted control records that isn't settled; the least group that waits; the least time of taken answer rows that isn't written. Which name is received, the mailbox says. An exchange puts none
+-- the name that the step would put into the log, or the first of several: the next record of the share; the least control record, record or answer row that is held; the least packet that is due; the least time of noted control records that isn't settled; the least group that waits; the least time of taken answer rows that isn't written. Which names are received, the mailbox says. An exchange puts none
 abbrev pub IsNext : Outline → ℕ → Worker → Kind → Name → Type 0
 IsNext o w worker Ingest x = IsPrefix (worker.log.ingested ++ x ∷ []) (share o w)
 IsNext o w worker SendControl x = IsLeast (IsHeld o w worker.log is_ctrl) x
@@ -71,19 +72,19 @@ IsReady o w worker Write x = HasPassed (worker.seen OutMail) (time_of o x)
 IsReady o w worker _ x = Unit {0}
 
 -- the mailbox to the receiver of the name isn't full
-abbrev pub HasRoom : Outline → ℕ → (ℕ → ℕ → List Name) → ℕ → Name → Type 0
+abbrev pub HasRoom : Outline → ℕ → (ℕ → ℕ → List (List Name)) → ℕ → Name → Type 0
 HasRoom o depth mailbox w x = length (mailbox w (receiver o x)) < depth
 
--- the mailbox that the step uses, if it uses one, lets it: there is room, or the name is the first in it
-abbrev pub MailAllows : Outline → ℕ → (ℕ → ℕ → List Name) → ℕ → Kind → Name → Type 0
+-- the mailbox that the step uses, if it uses one, lets it: there is room, or the first message in it begins with the name
+abbrev pub MailAllows : Outline → ℕ → (ℕ → ℕ → List (List Name)) → ℕ → Kind → Name → Type 0
 MailAllows o depth mailbox w SendControl x = HasRoom o depth mailbox w x
 MailAllows o depth mailbox w (Route j) x = HasRoom o depth mailbox w x
 MailAllows o depth mailbox w (Extract j) x = HasRoom o depth mailbox w x
 MailAllows o depth mailbox w SendRow x = HasRoom o depth mailbox w x
-MailAllows o depth mailbox w (Receive v) x = (rest : List Name) × (mailbox v w ≡ x ∷ rest)
+MailAllows o depth mailbox w (Receive v) x = (rest : List Name) × (others : List (List Name)) × (mailbox v w ≡ (x ∷ rest) ∷ others)
 MailAllows o depth mailbox w _ x = Unit {0}
 
--- the worker's step of this kind has a true condition, and puts this name into its log
+-- the worker's step of this kind has a true condition, and this name is the first that it puts into its log
 abbrev pub CanStep : Outline → ℕ → World → ℕ → Kind → Name → Type 0
 CanStep o depth world w kind x = IsPlace o w kind × IsNext o w (world.worker w) kind x × IsReady o w (world.worker w) kind x × MailAllows o depth world.mailbox w kind x
 
@@ -92,48 +93,67 @@ abbrev pub CanExchange : Outline → World → ℕ → Kind → Type 0
 CanExchange o world w Exchange = (w < o.workers) × (((world.worker w).log ≡ (world.worker w).posted → ⊥) ⊎ ((world.worker w).version ≡ world.version → ⊥))
 CanExchange o world w _ = ⊥
 
+-- Names
+
+-- the names that the worker's step puts into its log, x being the first: one, but for a step that routes records, and one that receives, of which the mailbox says which names the message has
+abbrev pub AreNamesOf : Outline → ℕ → Log → Kind → Name → List Name → Type 0
+AreNamesOf o w log (Route j) x xs = xs ≡ bundle_of o w log j x
+AreNamesOf o w log (Receive v) x xs = (rest : List Name) × (xs ≡ x ∷ rest)
+AreNamesOf o w log _ x xs = xs ≡ x ∷ []
+
+-- these names, as the world tells them
+abbrev pub names_of : Outline → World → ℕ → Kind → Name → List Name
+names_of o world w (Route j) x = bundle_of o w (world.worker w).log j x
+names_of o world w (Receive v) x = first_message (world.mailbox v w)
+names_of o world w _ x = x ∷ []
+
 -- Effects
 
--- the log with the name in the list that the kind fills
-abbrev pub logged : Kind → Log → Name → Log
-logged Ingest log x = with_ingested log x
-logged SendControl log x = with_sent log x
-logged (Route j) log x = with_sent log x
-logged (Receive v) log x = with_took log x
-logged (Extract j) log x = with_sent log x
-logged (Settle j) log x = with_settled log x
-logged (Apply j) log x = with_applied log x
-logged SendRow log x = with_sent log x
-logged Write log x = with_settled log x
-logged Exchange log x = log
+-- the log with the names in the list that the kind fills
+abbrev pub logged : Kind → Log → List Name → Log
+logged Ingest log xs = record log { ingested = log.ingested ++ xs }
+logged SendControl log xs = record log { sent = log.sent ++ xs }
+logged (Route j) log xs = record log { sent = log.sent ++ xs }
+logged (Receive v) log xs = record log { took = log.took ++ xs }
+logged (Extract j) log xs = record log { sent = log.sent ++ xs }
+logged (Settle j) log xs = record log { settled = log.settled ++ xs }
+logged (Apply j) log xs = record log { applied = log.applied ++ xs }
+logged SendRow log xs = record log { sent = log.sent ++ xs }
+logged Write log xs = record log { settled = log.settled ++ xs }
+logged Exchange log xs = log
 
-abbrev pub rest_of : List Name → List Name
+abbrev pub rest_of : {X : Type 0} → List X → List X
 rest_of [] = []
 rest_of (x ∷ xs) = xs
 
--- the name stands last in the mailbox to its receiver
-abbrev pub pushed : Outline → ℕ → Name → (ℕ → ℕ → List Name) → ℕ → ℕ → List Name
-pushed o w x mailbox = put w (put (receiver o x) (mailbox w (receiver o x) ++ x ∷ []) (mailbox w)) mailbox
+-- the message stands last in the mailbox from v to w
+abbrev pub pushed : ℕ → ℕ → List Name → (ℕ → ℕ → List (List Name)) → ℕ → ℕ → List (List Name)
+pushed v w xs mailbox = put v (put w (mailbox v w ++ xs ∷ []) (mailbox v)) mailbox
 
--- the first name is gone from the mailbox
-abbrev pub popped : ℕ → ℕ → (ℕ → ℕ → List Name) → ℕ → ℕ → List Name
+-- the first message is gone from the mailbox from v to w
+abbrev pub popped : ℕ → ℕ → (ℕ → ℕ → List (List Name)) → ℕ → ℕ → List (List Name)
 popped v w mailbox = put v (put w (rest_of (mailbox v w)) (mailbox v)) mailbox
 
-abbrev pub mailed : Outline → ℕ → Kind → Name → (ℕ → ℕ → List Name) → ℕ → ℕ → List Name
-mailed o w SendControl x mailbox = pushed o w x mailbox
-mailed o w (Route j) x mailbox = pushed o w x mailbox
-mailed o w (Receive v) x mailbox = popped v w mailbox
-mailed o w (Extract j) x mailbox = pushed o w x mailbox
-mailed o w SendRow x mailbox = pushed o w x mailbox
-mailed o w _ x mailbox = mailbox
+-- the mailboxes after the step of worker w with these names, x being the first
+abbrev pub mailed : Outline → ℕ → Kind → Name → List Name → (ℕ → ℕ → List (List Name)) → ℕ → ℕ → List (List Name)
+mailed o w SendControl x xs mailbox = pushed w (receiver o x) xs mailbox
+mailed o w (Route j) x xs mailbox = pushed w (receiver o x) xs mailbox
+mailed o w (Receive v) x xs mailbox = popped v w mailbox
+mailed o w (Extract j) x xs mailbox = pushed w (receiver o x) xs mailbox
+mailed o w SendRow x xs mailbox = pushed w (receiver o x) xs mailbox
+mailed o w _ x xs mailbox = mailbox
 
--- the world after the step with this name: one log has one name more, and one end of one mailbox has moved at most
-abbrev pub stepped : Outline → World → ℕ → Kind → Name → World
-stepped o world w kind x =
+-- the world after the step that puts these names into the log, x being the first: one log has these names more, and one end of one mailbox has moved by one message at most
+abbrev pub stepped_with : Outline → World → ℕ → Kind → Name → List Name → World
+stepped_with o world w kind x xs =
     record world {
-      worker = put w (record (world.worker w) { log = logged kind (world.worker w).log x }) world.worker;
-      mailbox = mailed o w kind x world.mailbox;
+      worker = put w (record (world.worker w) { log = logged kind (world.worker w).log xs }) world.worker;
+      mailbox = mailed o w kind x xs world.mailbox;
     }
+
+-- the world after the step with this first name
+abbrev pub stepped : Outline → World → ℕ → Kind → Name → World
+stepped o world w kind x = stepped_with o world w kind x (names_of o world w kind x)
 
 -- the two lists have the same names in the same order
 abbrev pub same_names : List Name → List Name → Bool

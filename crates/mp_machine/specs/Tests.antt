@@ -13,6 +13,7 @@ use Rattle.mp_names.specs.Outlines.{Outline, control_at, time_of, owner_before, 
 use Rattle.mp_names.specs.Logs.{Log, is_pending}
 use Rattle.mp_names.specs.Frontiers.{is_held}
 use Rattle.mp_machine.specs.Worlds.{Worker, World}
+use Rattle.mp_machine.specs.Messages.{first_message}
 use Rattle.mp_machine.specs.Steps.{same_log}
 
 abbrev pub kind_fits : Outline → Kind → Bool
@@ -71,7 +72,7 @@ abbrev pub next_name : Outline → World → ℕ → Kind → Option Name
 next_name o world w Ingest = next_of (world.worker w).log.ingested (share o w)
 next_name o world w SendControl = least_where (is_held o w (world.worker w).log) (ctrl_names o)
 next_name o world w (Route j) = least_where (is_held o w (world.worker w).log) (o.records j)
-next_name o world w (Receive v) = first_of (world.mailbox v w)
+next_name o world w (Receive v) = first_of (first_message (world.mailbox v w))
 next_name o world w (Extract j) = least_where (is_due o w (world.worker w) j) (packets_of o)
 next_name o world w (Settle j) = least_where (λ x. not (has (world.worker w).log.settled x)) (noted_times o j (world.worker w).log)
 next_name o world w (Apply j) = least_where (is_pending o (world.worker w).log) (groups_of o j)
@@ -116,11 +117,11 @@ is_ready o w worker (Apply j) x = may_apply o w worker j x
 is_ready o w worker Write x = has_passed (worker.seen OutMail) (time_of o x)
 is_ready o w worker _ x = true
 
-abbrev pub has_room : Outline → ℕ → (ℕ → ℕ → List Name) → ℕ → Name → Bool
+abbrev pub has_room : Outline → ℕ → (ℕ → ℕ → List (List Name)) → ℕ → Name → Bool
 has_room o depth mailbox w x = nat_lt (length (mailbox w (receiver o x))) depth
 
 -- that there is a first name to receive, the search for it has shown
-abbrev pub mail_allows : Outline → ℕ → (ℕ → ℕ → List Name) → ℕ → Kind → Name → Bool
+abbrev pub mail_allows : Outline → ℕ → (ℕ → ℕ → List (List Name)) → ℕ → Kind → Name → Bool
 mail_allows o depth mailbox w SendControl x = has_room o depth mailbox w x
 mail_allows o depth mailbox w (Route j) x = has_room o depth mailbox w x
 mail_allows o depth mailbox w (Extract j) x = has_room o depth mailbox w x

@@ -14,11 +14,11 @@ pub record Worker : Type 0 where
   pub seen : Loc → Frontier
   pub version : ℕ
 
--- The workers by number; how often a changed log was posted on the board; and from one worker to another the names sent and not yet taken, the oldest first
+-- The workers by number; how often a changed log was posted on the board; and from one worker to another the messages sent and not yet taken, the oldest first, each as the names that travel in it
 pub record World : Type 0 where
   pub worker : ℕ → Worker
   pub version : ℕ
-  pub mailbox : ℕ → ℕ → List Name
+  pub mailbox : ℕ → ℕ → List (List Name)
 
 abbrev pub logs_of : World → ℕ → Log
 logs_of world w = (world.worker w).log

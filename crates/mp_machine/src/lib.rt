@@ -10,7 +10,7 @@ mod progress;
 mod runs;
 mod steps;
 
-pub use examples::{counts_cancel_in_a_run, handoff_is_gated};
+pub use examples::{counts_cancel_in_a_run, handoff_is_gated, records_travel_together};
 pub use ownership::{bins_are_in_one_place, groups_are_applied_once};
 pub use progress::{finished_runs_are_full, never_stuck, steps_are_bounded};
 pub use runs::{frontiers_go_on, logs_are_always_legal, mail_comes_in_order, runs_continue};

@@ -78,6 +78,7 @@ two_bids_sound =
     record {
       some_worker = omega arith;
       some_stage = omega arith;
+      some_bundle = omega arith;
       controls_fit = λ i l. absurd (omega arith);
       first_owners_fit = λ j b l k. mod-lt b (omega arith);
       bins_fit = λ k. one_or_two (k == 4) (two_bids.bin_of k) refl;
@@ -157,6 +158,7 @@ two_moves_sound =
     record {
       some_worker = omega arith;
       some_stage = omega arith;
+      some_bundle = omega arith;
       controls_fit = two_moves_controls;
       first_owners_fit = λ j b l k. mod-lt b (omega arith);
       bins_fit = λ k. omega arith;

@@ -45,6 +45,10 @@ most_bins = 256
 abbrev pub deepest_mailbox : ℕ
 deepest_mailbox = 1024
 
+-- how many records may travel in one message
+abbrev pub most_in_bundle : ℕ
+most_in_bundle = 64
+
 -- the greatest seed of a schedule
 abbrev pub greatest_seed : ℕ
 greatest_seed = 2 ^ 48

@@ -20,6 +20,7 @@ pub record Outline : Type 0 where
   pub records : ℕ → List Name  -- the `Rec` names of a stage; those of stage 0 by index
   pub posts : Name → List ℕ  -- the later times at which a record wakes its key
   pub rows : List Name  -- the `Row` names
+  pub bundle : ℕ  -- how many records travel in one message at most
 
 abbrev pub control_at : Outline → ℕ → Control
 control_at o i = control_of o.controls i
@@ -177,6 +178,7 @@ StandByIndex (x ∷ xs) = ((y : Name) → In y xs → index_of x < index_of y) �
 pub record OutlineIsSound (o : Outline) : Type 0 where
   pub some_worker : 0 < o.workers
   pub some_stage : 0 < o.stages
+  pub some_bundle : 0 < o.bundle
   pub controls_fit : (i : ℕ) → i < length o.controls → IsInShape o (control_at o i)
   pub first_owners_fit : (j b : ℕ) → j < o.stages → b < o.bins → o.first_owner j b < o.workers
   pub bins_fit : (k : ℕ) → o.bin_of k < o.bins

@@ -39,6 +39,7 @@ three_bids =
       records = by_stage (Rec 0 5 7 (tag 0 0) ∷ Rec 0 3 7 (tag 0 1) ∷ Rec 0 5 2 (tag 0 2) ∷ []) [];
       posts = no_posts;
       rows = Row 5 (tag 7 0) ∷ Row 3 (tag 7 0) ∷ Row 5 (tag 2 0) ∷ [];
+      bundle = 1;
     }
 
 -- the records that post: an auction at 0, which closes at 100, and its sale, where that posts too
@@ -60,6 +61,7 @@ wake_moves =
       records = by_stage (Rec 0 0 1 (tag 0 0) ∷ Rec 0 5 1 (tag 0 1) ∷ []) (Rec 1 100 10 (tag 1 0) ∷ []);
       posts = closing 0;
       rows = Row 100 (tag 10 0) ∷ [];
+      bundle = 1;
     }
 
 -- the same with a wake in each stage, the second at 120, and a move of each stage's bin before its wake
@@ -92,6 +94,7 @@ two_bids =
       records = by_stage (Rec 0 5 4 (tag 0 0) ∷ Rec 0 5 1 (tag 0 1) ∷ []) [];
       posts = no_posts;
       rows = Row 5 (tag 4 0) ∷ Row 5 (tag 1 0) ∷ [];
+      bundle = 1;
     }
 
 abbrev pub first_bid : Name

@@ -36,6 +36,9 @@ pub const MAX_BINS: u32 = 256;
 /// How many messages a mailbox between two workers may hold; it holds one at least.
 pub const MAX_DEPTH: u32 = 1024;
 
+/// How many records may travel in one message; it has one at least.
+pub const MAX_BUNDLE: usize = 64;
+
 /// The greatest seed of a schedule: 2^48.
 pub const MAX_SEED: u64 = 1 << 48;
 

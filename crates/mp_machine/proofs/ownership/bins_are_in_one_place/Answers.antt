@@ -14,9 +14,9 @@ returns-clause-place c = λ o depth steps ok j b lj lb. in_one_place o ok depth 
 
 pub returns-clause-leave : goal.returns-clause-leave
 unfolding turn_of_machine
-returns-clause-leave c = λ o depth steps ok w i j b t e.
+returns-clause-leave c = λ o depth steps ok w i j b t n e.
     let world = run_of_machine o depth steps in
-    packet_given o ok depth world (run_right o ok depth steps) w i j b t (did_to o depth world w ok (Extract i) (Packet j b t) e)
+    packet_given o ok depth world (run_right o ok depth steps) w i j b t (did_to o depth world w ok (Extract i) (Packet j b t) n e)
 
 pub returns-clause-order : goal.returns-clause-order
 returns-clause-order c = λ o depth steps ok w j b m n l h k move.

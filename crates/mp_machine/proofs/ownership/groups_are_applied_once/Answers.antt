@@ -14,10 +14,10 @@ use Rattle.mp_machine.proofs.ownership.groups_are_applied_once.Goals as goal
 
 pub returns-clause-whole : goal.returns-clause-whole
 unfolding turn_of_machine
-returns-clause-whole c = λ o depth steps ok w i j t k e.
+returns-clause-whole c = λ o depth steps ok w i j t k n e.
     let world = run_of_machine o depth steps in
     let right = run_right o ok depth steps in
-    let can = did_to o depth world w ok (Apply i) (Group j t k) e in
+    let can = did_to o depth world w ok (Apply i) (Group j t k) n e in
     let whole = group_is_whole o ok w can.0.0 (world.worker w) (right.logs w can.0.0) (known o ok depth world right w can.0.0) i j t k can.1 can.2 in (
       whole,
       (λ v lv. false_from_ne_true (has (world.worker v).log.applied (Group j t k)) (λ h.
@@ -34,9 +34,9 @@ returns-clause-order c = λ o depth steps ok.
     let world = run_of_machine o depth steps in
     let right = run_right o ok depth steps in
     record {
-      groups = λ w i j t k e.
-          let can = did_to o depth world w ok (Apply i) (Group j t k) e in
+      groups = λ w i j t k n e.
+          let can = did_to o depth world w ok (Apply i) (Group j t k) n e in
           let whole = group_is_whole o ok w can.0.0 (world.worker w) (right.logs w can.0.0) (known o ok depth world right w can.0.0) i j t k can.1 can.2 in
           group_last o ok depth world right w i j t k can.0.0 can.1.0.0 whole;
-      packets = λ w i j b t e. packet_last o ok depth world right w i j b t (did_to o depth world w ok (Extract i) (Packet j b t) e);
+      packets = λ w i j b t n e. packet_last o ok depth world right w i j b t (did_to o depth world w ok (Extract i) (Packet j b t) n e);
     }

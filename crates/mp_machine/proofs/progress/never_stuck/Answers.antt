@@ -13,12 +13,12 @@ pub returns-clause-not_stuck : goal.returns-clause-not_stuck
 returns-clause-not_stuck c = λ o depth steps ok deep not_now. all_over o ok depth deep (run_of_machine o depth steps) (run_right o ok depth steps) not_now
 
 not_made : (t : Turn) → is_made t ≡ false → t ≡ NotNow
-not_made (Did x) e = absurd (cc)
+not_made (Did x n) e = absurd (cc)
 not_made (Saw v) e = absurd (cc)
 not_made NotNow e = refl
 
 made : (t : Turn) → is_made t ≡ true → t ≡ NotNow → ⊥
-made (Did x) e f = cc
+made (Did x n) e f = cc
 made (Saw v) e f = cc
 made NotNow e f = false≢true e
 
