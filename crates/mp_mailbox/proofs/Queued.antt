@@ -3,11 +3,11 @@
 use Rattle.std.proofs.Common.{◌≡◌, ◌≢◌, ◌⊎◌, ℕ, suc, ◌+◌, ◌*◌, ◌<◌, ◌≤◌, List, [], ◌∷◌, ◌++◌, length, map, set, get_or, sym, ap, ◌∙◌, subst, ⊎_elim, arith, append_assoc, mul-le-mul_right, suc-mul, lt_of_not-le}
 use mathlib.Core.Logic.{dite}
 use native.Mathlib.Decide.{dec_le, ℕ_discrete}
-use Rattle.std.proofs.lemmas.List.{map-set, get_or-map, get_or-set_same, get_or-set_other, get_or-replicate, length-map}
+use Rattle.std.proofs.lemmas.List.{map-append, map-set, get_or-map, get_or-set_same, get_or-set_other, get_or-replicate, length-map}
 use Rattle.std.proofs.lemmas.List.Elements.{All-push, All-head, All-tail, All-nil}
 use Rattle.mp_mailbox.specs.Names.{Distinct, names_of, OnEdge}
-use Rattle.mp_mailbox.specs.Standing.{Denotes, AddsPushed, AddsPopped, PopsNew, KeepsEdge, KeepsOthers}
-use Rattle.mp_mailbox.specs.Queues.{Queues, queue_between, PlainDenotes, empty_queues}
+use Rattle.mp_mailbox.specs.Standing.{Denotes, AddsLast, AddsPushed, AddsPopped, PopsNew, KeepsEdge, KeepsOthers, KeepsOthersWaiting, KeepsWaiting, TakesFirst}
+use Rattle.mp_mailbox.specs.Queues.{Queues, queue_between, PlainDenotes, PlainWaits, empty_queues}
 use Rattle.mp_mailbox.proofs.NameLists.{Distinct-begin, Distinct-nil, names_of-push}
 
 -- two edges have two places
@@ -108,6 +108,39 @@ module _ {M E : Type 0} (f : E → List M) (w d : ℕ) where
     pub pops_new : (m : M) → at ≡ from * w + to → at < length es → old ≡ get_or es at old → f old ≡ m ∷ f new → PopsNew Old from to (names m)
     pops_new m is inside read leaves pushed popped h =
         Distinct-begin (popped ++ names m) (names_of names (f new)) (subst (λ l. Distinct l) (pops_one m is inside read leaves pushed popped h).0 h.once)
+
+  -- the messages that wait, by their names
+  module _ {N : Type 0} (names : M → List N) (es : List E) (from to at : ℕ) (old new : E) (is : at ≡ from * w + to) where
+    abbrev Before : ℕ → ℕ → List (List N) → Type 0
+    Before = PlainWaits names (post_of es)
+
+    abbrev After : ℕ → ℕ → List (List N) → Type 0
+    After = PlainWaits names (post_of (set es at new))
+
+    module _ (inside : at < length es) (read : old ≡ get_or es at old) where
+      was : queue_between (post_of es) from to ≡ f old
+      was = queue_here es from to at old is inside read
+
+      now : queue_between (post_of (set es at new)) from to ≡ f new
+      now = queue_set es from to at new is inside
+
+      pub adds_last : (m : M) → f new ≡ f old ++ m ∷ [] → AddsLast Before After from to (names m)
+      adds_last m grows messages h = record {
+        sender = h.sender;
+        receiver = h.receiver;
+        queued = ap (map names) (now ∙ grows) ∙ map-append names (f old) (m ∷ []) ∙ ap (λ l. l ++ names m ∷ []) (sym (ap (map names) was) ∙ h.queued);
+      }
+
+      pub takes_first : (m : M) → f old ≡ m ∷ f new → TakesFirst Before After from to (names m)
+      takes_first m leaves messages h =
+          (map names (f new), sym h.queued ∙ ap (map names) (was ∙ leaves), record { sender = h.sender; receiver = h.receiver; queued = ap (map names) now })
+
+      pub keeps_waiting : f new ≡ f old → KeepsWaiting Before After from to
+      keeps_waiting stays messages h = record { sender = h.sender; receiver = h.receiver; queued = ap (map names) (now ∙ stays ∙ sym was) ∙ h.queued }
+
+    pub others_wait : to < w → KeepsOthersWaiting Before After from to
+    others_wait to_in g u other messages h =
+        record { sender = h.sender; receiver = h.receiver; queued = ap (map names) (queue_other es from to at new g u is to_in h.receiver other) ∙ h.queued }
 
 -- queues in which nothing waits
 pub empty_stands : {M N : Type 0} (names : M → List N) (message_from message_to : M → ℕ) (w d from to : ℕ) → from < w → to < w → PlainDenotes names message_from message_to (empty_queues w d) from to [] []

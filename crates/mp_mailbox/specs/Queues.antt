@@ -1,5 +1,5 @@
 -- Plain queues as data, and what they stand for.
-use Rattle.std.specs.Prelude.{◌≡◌, ℕ, ◌+◌, ◌*◌, ◌<◌, List, [], ◌++◌, length, replicate, slice_index_or}
+use Rattle.std.specs.Prelude.{◌≡◌, ℕ, ◌+◌, ◌*◌, ◌<◌, List, [], ◌++◌, length, replicate, map, slice_index_or}
 use Rattle.mp_mailbox.specs.Names.{Distinct, names_of, OnEdge}
 
 -- how many workers there are, how many messages each queue takes, and what is queued, by sender and then by receiver
@@ -33,3 +33,9 @@ module _ {M : Type 0} where
     pub whole : pushed ≡ popped ++ names_of names (queue_between p from to)
     pub once : Distinct pushed
     pub edge : OnEdge message_from message_to from to (queue_between p from to)
+
+  -- these messages are queued on this edge, each with its names
+  pub record PlainWaits {N : Type 0} (names : M → List N) (p : Queues M) (from to : ℕ) (messages : List (List N)) : Type 0 where
+    pub sender : from < p.workers
+    pub receiver : to < p.workers
+    pub queued : map names (queue_between p from to) ≡ messages

@@ -1,6 +1,6 @@
 -- What a post stands for before and after a call, on the edge of the call and on the others.
 -- `stands from to pushed popped`: from a worker to a worker these names were pushed with Ok, and these were popped.
-use Rattle.std.specs.Prelude.{◌≡◌, ◌≢◌, ◌⊎◌, ℕ, List, ◌++◌}
+use Rattle.std.specs.Prelude.{◌≡◌, ◌≢◌, ◌⊎◌, ℕ, List, [], ◌∷◌, ◌++◌}
 use Rattle.mp_mailbox.specs.Names.{Distinct}
 
 module _ {N : Type 0} (denotes : ℕ → ℕ → List N → List N → Type 0) where
@@ -32,6 +32,24 @@ module _ {N : Type 0} (old new : ℕ → ℕ → List N → List N → Type 0) w
   -- nothing was pushed or popped on any edge but this one
   abbrev pub KeepsOthers : ℕ → ℕ → Type 0
   KeepsOthers from to = (other_from other_to : ℕ) → (other_from ≢ from) ⊎ (other_to ≢ to) → KeepsEdge other_from other_to
+
+-- `waits from to messages`: from a worker to a worker these messages wait, the oldest first, each with its names
+module _ {N : Type 0} (old new : ℕ → ℕ → List (List N) → Type 0) where
+  -- a message with these names waits last on this edge
+  abbrev pub AddsLast : ℕ → ℕ → List N → Type 0
+  AddsLast from to names = (messages : List (List N)) → old from to messages → new from to (messages ++ names ∷ [])
+
+  -- the message that waited first on this edge has these names, and is gone
+  abbrev pub TakesFirst : ℕ → ℕ → List N → Type 0
+  TakesFirst from to names = (messages : List (List N)) → old from to messages → (rest : List (List N)) × (messages ≡ names ∷ rest) × new from to rest
+
+  -- the same messages wait on this edge
+  abbrev pub KeepsWaiting : ℕ → ℕ → Type 0
+  KeepsWaiting from to = (messages : List (List N)) → old from to messages → new from to messages
+
+  -- the same messages wait on each edge but this one
+  abbrev pub KeepsOthersWaiting : ℕ → ℕ → Type 0
+  KeepsOthersWaiting from to = (other_from other_to : ℕ) → (other_from ≢ from) ⊎ (other_to ≢ to) → KeepsWaiting other_from other_to
 
 -- What a post is to its workers, which no call changes: between how many it is, how deep each queue is, and whose ends are here
 module _ {P : Type 0} (workers depth : P → ℕ) (serves : P → ℕ → Type 0) where

@@ -32,7 +32,7 @@ impl<M> Model for PlainPost<M> {
 }
 
 impl<M: Named + Drop> Post<M> for PlainPost<M> {
-    ghost use Rattle.mp_mailbox.specs.Queues.{PlainDenotes, HadRoom, WasFull, WasEmpty};
+    ghost use Rattle.mp_mailbox.specs.Queues.{PlainDenotes, PlainWaits, HadRoom, WasFull, WasEmpty};
 
     ghost workers = { λ p. p.workers };
 
@@ -41,6 +41,8 @@ impl<M: Named + Drop> Post<M> for PlainPost<M> {
     ghost serves = { λ p worker. Unit {0} };
 
     ghost denotes = { PlainDenotes M.names M.from M.to };
+
+    ghost waits = { PlainWaits M.names };
 
     ghost had_room = { HadRoom };
 

@@ -1,6 +1,6 @@
 //! What a message and a post are.
 ghost use Rattle.std.specs.Prelude.{◌≡◌, ℕ, ◌<◌, List, OnOk, OnErr, IfErr, IfSome, IfNone};
-ghost use Rattle.mp_mailbox.specs.Standing.{IsFresh, Denotes, AddsPushed, AddsPopped, PopsNew, KeepsEdge, KeepsEnds, KeepsOthers};
+ghost use Rattle.mp_mailbox.specs.Standing.{IsFresh, Denotes, AddsLast, AddsPushed, AddsPopped, PopsNew, KeepsEdge, KeepsEnds, KeepsOthers, KeepsOthersWaiting, KeepsWaiting, TakesFirst};
 
 /// A message has names, and goes along one edge, from one worker to another. Which job it belongs to is
 /// a matter of its type (this project's profile).
@@ -43,6 +43,10 @@ pub trait Post<M: Named> {
     // From a worker to a worker, these names were pushed with `Ok`, and these were popped.
     ghost denotes: { Self → ℕ → ℕ → List M.Name → List M.Name → Type 0 };
 
+    // From a worker to a worker, these messages wait, the oldest first, each with its names; none where
+    // the post doesn't tell.
+    ghost waits: { Self → ℕ → ℕ → List (List M.Name) → Type 0 } = { λ _ _ _ _. ⊥ };
+
     // What `Ok` tells of the queue from a worker to a worker, at the push's step.
     ghost had_room: { Self → ℕ → ℕ → Type 0 };
 
@@ -62,12 +66,15 @@ pub trait Post<M: Named> {
 
         ensures room { OnOk result (had_room self.old from to) }
         ensures ok { OnOk result (AddsPushed (denotes self.old) (denotes self.new) from to (M.names message)) }
+        ensures last { OnOk result (AddsLast (waits self.old) (waits self.new) from to (M.names message)) }
 
         ensures full { OnErr result (was_full self.old from to) }
         ensures back { IfErr result (λ f. f.message ≡ message) }
         ensures unchanged { OnErr result (KeepsEdge (denotes self.old) (denotes self.new) from to) }
+        ensures waiting { OnErr result (KeepsWaiting (waits self.old) (waits self.new) from to) }
 
         ensures others { KeepsOthers (denotes self.old) (denotes self.new) from to }
+        ensures others_wait { KeepsOthersWaiting (waits self.old) (waits self.new) from to }
         ensures keeps { KeepsEnds workers depth serves self.old self.new };
 
     /// Pops the message that was pushed first of those that wait on the edge, or answers `None` where
@@ -80,10 +87,13 @@ pub trait Post<M: Named> {
         ensures edge { IfSome result (λ m. (M.from m ≡ from) × (M.to m ≡ to)) }
         ensures some { IfSome result (λ m. AddsPopped (denotes self.old) (denotes self.new) from to (M.names m)) }
         ensures once { IfSome result (λ m. PopsNew (denotes self.old) from to (M.names m)) }
+        ensures first { IfSome result (λ m. TakesFirst (waits self.old) (waits self.new) from to (M.names m)) }
 
         ensures empty { IfNone result (was_empty self.old from to) }
         ensures none { IfNone result (KeepsEdge (denotes self.old) (denotes self.new) from to) }
+        ensures waiting { IfNone result (KeepsWaiting (waits self.old) (waits self.new) from to) }
 
         ensures others { KeepsOthers (denotes self.old) (denotes self.new) from to }
+        ensures others_wait { KeepsOthersWaiting (waits self.old) (waits self.new) from to }
         ensures keeps { KeepsEnds workers depth serves self.old self.new };
 }

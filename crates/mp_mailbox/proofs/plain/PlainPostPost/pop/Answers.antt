@@ -1,7 +1,7 @@
 use Rattle.std.proofs.Common.{◌<◌, length, arith, sym, ◌∙◌}
 use Rattle.std.proofs.lemmas.Option.{IfSome_then}
 use Rattle.mp_mailbox.proofs.Cases.{IfNone_then}
-use Rattle.mp_mailbox.proofs.Queued.{others, pops, pops_edge, pops_new, kept}
+use Rattle.mp_mailbox.proofs.Queued.{keeps_waiting, kept, others, others_wait, pops, pops_edge, pops_new, takes_first}
 use Rattle.mp_mailbox.proofs.plain.PlainPostPost.pop.Goals as goal
 
 pub returns-clause-some : goal.returns-clause-some
@@ -31,3 +31,19 @@ returns-clause-none g c =
 pub returns-clause-others : goal.returns-clause-others
 returns-clause-others g c =
     rw (← c.self.view_is) (others (λ q. q.items) c.self.inside.workers c.self.inside.depth g.M.Named.names g.M.Named.from g.M.Named.to c.self.inside.queues.items c.args.from c.args.to c.place-at.result c.index_mut.result.now c.pop_oldest.new.queue c.place-at.ensures.place (rw (← c.self.view_is) at c.requires.workers.1))
+
+pub returns-clause-first : goal.returns-clause-first
+returns-clause-first g c =
+    let near : c.place-at.result < length c.self.inside.queues.items = omega (arith, c.self.invariant.square, c.place-at.ensures.inside) in
+    rw (← c.self.view_is) (IfSome_then c.pop_oldest.result c.pop_oldest.ensures.some
+    (takes_first (λ q. q.items) c.self.inside.workers c.self.inside.depth g.M.Named.names c.self.inside.queues.items c.args.from c.args.to c.place-at.result c.index_mut.result.now c.pop_oldest.new.queue c.place-at.ensures.place near c.index_mut.ensures.value))
+
+pub returns-clause-waiting : goal.returns-clause-waiting
+returns-clause-waiting g c =
+    let near : c.place-at.result < length c.self.inside.queues.items = omega (arith, c.self.invariant.square, c.place-at.ensures.inside) in
+    rw (← c.self.view_is) (IfNone_then c.pop_oldest.result c.pop_oldest.ensures.none
+    (λ empty. keeps_waiting (λ q. q.items) c.self.inside.workers c.self.inside.depth g.M.Named.names c.self.inside.queues.items c.args.from c.args.to c.place-at.result c.index_mut.result.now c.pop_oldest.new.queue c.place-at.ensures.place near c.index_mut.ensures.value (empty.1 ∙ sym empty.0)))
+
+pub returns-clause-others_wait : goal.returns-clause-others_wait
+returns-clause-others_wait g c =
+    rw (← c.self.view_is) (others_wait (λ q. q.items) c.self.inside.workers c.self.inside.depth g.M.Named.names c.self.inside.queues.items c.args.from c.args.to c.place-at.result c.index_mut.result.now c.pop_oldest.new.queue c.place-at.ensures.place (rw (← c.self.view_is) at c.requires.workers.1))
