@@ -1,5 +1,5 @@
 //! Blocks of items, each a ring with memory for 128 and with fewer items.
-ghost use Rattle.std.specs.Prelude.{◌≡◌, ◌≤◌, ◌<◌, ◌+◌, ◌-◌, ◌⊎◌, ◌++◌, ◌∷◌, [], All, get_or, length, slice_get, take, IfNone, IfOk, IfSome, OnOk, Some};
+ghost use Rattle.std.specs.Prelude.{◌≡◌, ◌≤◌, ◌<◌, ◌+◌, ◌-◌, ◌⊎◌, ◌++◌, ◌∷◌, [], All, get_or, length, slice_get, take, IfNone, IfOk, IfSome, IsTrue, OnOk, Some, true};
 ghost use Rattle.std.specs.List.{insert, prefix_len, remove};
 ghost use Rattle.std.specs.List.Sorted.{IsPartitionedBy};
 ghost use Rattle.std.specs.declared.collections.VecDeque.{VecDeque};
@@ -33,8 +33,24 @@ pub fn place_of<T, O: Order<T>>(items: &[T], item: &T) -> usize
     )
 }
 
-/// How many items of a block come before one.
+/// How many items of a block come before one. Where the item goes to an end of the block it isn't searched for.
 pub fn place_in<T, O: Order<T>>(block: &VecDeque<T>, item: &T) -> usize
+    requires { IsInOrder O.rank block.now.items }
+    ensures inside { result ≤ length block.now.items }
+    ensures place { insert block.now.items result item.now ≡ put_in_order O.rank item.now block.now.items }
+    ensures count { result ≡ prefix_len (λ y. is_before (O.rank y) (O.rank item.now)) block.now.items }
+{
+    if !begins_before::<T, O>(block, item) {
+        return 0;
+    }
+    if ends_before::<T, O>(block, item) {
+        return block.len();
+    }
+    found_in::<T, O>(block, item)
+}
+
+// The same, found by halving.
+fn found_in<T, O: Order<T>>(block: &VecDeque<T>, item: &T) -> usize
     requires { IsInOrder O.rank block.now.items }
     ensures inside { result ≤ length block.now.items }
     ensures place { insert block.now.items result item.now ≡ put_in_order O.rank item.now block.now.items }
@@ -45,6 +61,17 @@ pub fn place_in<T, O: Order<T>>(block: &VecDeque<T>, item: &T) -> usize
             ensures { result ≡ is_before (O.rank other.now) (O.rank item.entry.now) }
         { O::is_before(other, item) },
     )
+}
+
+// Whether a block ends with an item that comes before this one.
+fn ends_before<T, O: Order<T>>(block: &VecDeque<T>, item: &T) -> bool
+    ensures some { IsTrue result → 0 < length block.now.items }
+    ensures before { IsTrue result → (d : T) → is_before (O.rank (get_or block.now.items (length block.now.items - 1) d)) (O.rank item.now) ≡ true }
+{
+    match block.back() {
+        Some(last) => O::is_before(last, item),
+        None => false,
+    }
 }
 
 /// How many items of a block stand in front of a cut.
@@ -59,8 +86,26 @@ pub fn cut_in<T, C: Cut<T>>(block: &VecDeque<T>, cut: &C) -> usize
     )
 }
 
-/// The block in which an item has its place.
+/// The block in which an item has its place. The first and the last one are asked first: most items go to them.
 pub fn block_of<T, O: Order<T>>(blocks: &[VecDeque<T>], item: &T) -> usize
+    requires some { 0 < length blocks.now }
+    requires order { IsInOrder O.rank (items_of blocks.now) }
+    requires filled { AreFilled blocks.now }
+    ensures inside { result < length blocks.now }
+    ensures place { IsBlockFor O.rank item.now blocks.now result }
+{
+    let last = blocks.len() - 1;
+    if last == 0 || !begins_before::<T, O>(&blocks[1], item) {
+        return 0;
+    }
+    if begins_before::<T, O>(&blocks[last], item) {
+        return last;
+    }
+    found_among::<T, O>(blocks, item)
+}
+
+// The same, found by halving.
+fn found_among<T, O: Order<T>>(blocks: &[VecDeque<T>], item: &T) -> usize
     requires some { 0 < length blocks.now }
     requires order { IsInOrder O.rank (items_of blocks.now) }
     requires filled { AreFilled blocks.now }

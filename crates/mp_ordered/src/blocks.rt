@@ -1,5 +1,5 @@
 //! Items in order, in blocks.
-ghost use Rattle.std.specs.Prelude.{◌≡◌, ◌≤◌, ◌<◌, ◌+◌, ◌*◌, ◌-◌, ◌∷◌, [], drop, length, max, slice_get, IfNone, IfOk, IfSome, None, OnErr, OnOk, Some};
+ghost use Rattle.std.specs.Prelude.{◌≡◌, ◌≤◌, ◌<◌, ◌+◌, ◌*◌, ◌-◌, ◌^◌, ◌∷◌, [], drop, length, max, slice_get, IfNone, IfOk, IfSome, None, OnErr, OnOk, Some};
 ghost use Rattle.std.specs.List.{prefix_len, remove};
 ghost use Rattle.std.specs.List.Sorted.{IsPartitionedBy};
 ghost use Rattle.mp_ordered.specs.Blocks.{items_of};
@@ -181,7 +181,9 @@ impl<T: Drop, O: Order<T>> Blocks<T, O> {
 
     /// The items in order, in the blocks that they stand in.
     pub fn as_blocks(&self) -> &[VecDeque<T>]
-        ensures { items_of result.now ≡ self.now.items }
+        ensures items { items_of result.now ≡ self.now.items }
+        ensures in_order { IsInOrder O.rank self.now.items }
+        ensures few { length self.now.items < 2 ^ 64 }
     {
         &self.blocks
     }

@@ -53,6 +53,13 @@ impl<T: Drop, O: Order<T> + Kinds<T>> OrderedRuns<T, O> {
         }
     }
 
+    /// For how many more there is room.
+    pub fn room(&self) -> usize
+        ensures { result ≡ self.now.room }
+    {
+        self.rest.room() - self.run.len()
+    }
+
     /// Makes room, so that the next `count` calls of `insert` answer `Ok`. `AllocError`: no memory, and nothing
     /// changes.
     pub fn make_room(&mut self, count: u64) -> Result<(), AllocError>

@@ -1,22 +1,23 @@
-use Rattle.std.proofs.Common.{arith, rules, of_calls, sym}
-use Rattle.std.proofs.lemmas.Fn.{always_returns_same}
+use Rattle.std.proofs.Common.{◌≡◌, ◌-◌, ◌∙◌, arith, length, sym}
 use Rattle.mp_names.specs.Names.{is_before}
 use Rattle.mp_ordered.proofs.Blocked.{point_is_count}
 use Rattle.mp_ordered.proofs.Placing.{placed_at, partitioned}
 use Rattle.mp_ordered.proofs.block.place_in.Goals as goal
 
-pub returns-clause-place : goal.returns-clause-place
-returns-clause-place g c =
+pub returns-then-ends_before-clause-place : goal.returns-then-ends_before-clause-place
+returns-then-ends_before-clause-place g c =
     let rank = g.O.Order.rank in
     let items = c.args.block.now.items in
     let x = c.args.item.now in
-    let point = c.partition_point.ensures.partitioned (λ y. is_before (rank y) (rank x)) (always_returns_same _ _ _ (λ a r f k. search (rules, of_calls))) (partitioned rank x items c.requires) in
-    placed_at rank x items c.partition_point.result (omega (arith, c.partition_point.ensures.bound, c.args.block.now.ok.0)) (λ k d l. point.0 k d (omega arith) l) (λ d l. point.1 c.partition_point.result d (omega arith) l)
+    let count : c.len.result ≡ length items = c.len.ensures ∙ c.args.block.now.ok.0 in
+    let some = c.ends_before.ensures.some c.if-ends_before.true in
+    placed_at rank x items c.len.result (omega (arith, count)) (λ k d l. partitioned rank x items c.requires k (length items - 1) d (omega (arith, count, l)) (omega (arith, some)) (c.ends_before.ensures.before c.if-ends_before.true d)) (λ d l. absurd (omega (arith, count, l)))
 
-pub returns-clause-count : goal.returns-clause-count
-returns-clause-count g c =
+pub returns-then-ends_before-clause-count : goal.returns-then-ends_before-clause-count
+returns-then-ends_before-clause-count g c =
     let rank = g.O.Order.rank in
     let items = c.args.block.now.items in
     let x = c.args.item.now in
-    let point = c.partition_point.ensures.partitioned (λ y. is_before (rank y) (rank x)) (always_returns_same _ _ _ (λ a r f k. search (rules, of_calls))) (partitioned rank x items c.requires) in
-    sym (point_is_count (λ y. is_before (rank y) (rank x)) items c.partition_point.result (omega (arith, c.partition_point.ensures.bound, c.args.block.now.ok.0)) point)
+    let count : c.len.result ≡ length items = c.len.ensures ∙ c.args.block.now.ok.0 in
+    let some = c.ends_before.ensures.some c.if-ends_before.true in
+    sym (point_is_count (λ y. is_before (rank y) (rank x)) items c.len.result (omega (arith, count)) (λ k d l m. partitioned rank x items c.requires k (length items - 1) d (omega (arith, count, l)) (omega (arith, some)) (c.ends_before.ensures.before c.if-ends_before.true d), λ k d l m. absurd (omega (arith, count, l, m))))

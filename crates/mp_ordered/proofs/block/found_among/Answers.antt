@@ -5,7 +5,7 @@ use Rattle.mp_names.specs.Names.{is_before}
 use Rattle.mp_ordered.specs.Blocks.{begins_before, items_of}
 use Rattle.mp_ordered.proofs.Blocked.{cut_there, parted_blocks}
 use Rattle.mp_ordered.proofs.Placing.{partitioned}
-use Rattle.mp_ordered.proofs.block.block_of.Goals as goal
+use Rattle.mp_ordered.proofs.block.found_among.Goals as goal
 
 pub returns-clause-place : goal.returns-clause-place
 returns-clause-place g c =
