@@ -11,6 +11,7 @@ ghost use Rattle.mp_stamps.specs.Counts.{AreZeroRows, IsCounted, IsFirstFor, Sam
 ghost use Rattle.mp_stamps.specs.Flow.{IsFirstTime, KeepsFrontiers};
 ghost use Rattle.mp_stamps.specs.Places.{places_of};
 
+use crate::hints::Hints;
 use crate::least::{first_in, has_moved};
 use crate::near::index_of;
 use crate::place::{PLACES, loc_at, place_of};
@@ -32,6 +33,7 @@ pub struct Counts {
     rows: Vec<Row>,
     // By the places of locations: the least time with a count other than 0.
     firsts: [Frontier; PLACES],
+    hints: Hints,
 }
 
 impl Model for Counts {
@@ -67,6 +69,7 @@ impl Counts {
             times: own,
             rows,
             firsts: [Frontier::Done; PLACES],
+            hints: Hints::new(),
         })
     }
 
@@ -87,7 +90,7 @@ impl Counts {
         if place >= self.rows.len() {
             return false;
         }
-        let near = self.rows[place].near();
+        let near = self.near(place, time);
         let Ok(index) = index_of(&self.times, near, time) else {
             return false;
         };
@@ -95,7 +98,19 @@ impl Counts {
         let before = self.firsts[place];
         let after = first_in(&self.times, &self.rows[place]);
         self.firsts[place] = after;
+        self.hints.note(time, index);
         has_moved(before, after)
+    }
+
+    // An index from which a time is looked for at a location.
+    fn near(&self, place: usize, time: Time) -> usize
+        requires { place < length self.now.rows }
+    {
+        let hint = self.hints.near(time);
+        match self.times.get(hint) {
+            Some(there) if *there == time => hint,
+            _ => self.rows[place].near(),
+        }
     }
 
     /// The count of a location at a time, 0 where none is kept.

@@ -7,6 +7,7 @@
 mod counts;
 mod flow;
 mod frontiers;
+mod hints;
 mod least;
 mod near;
 mod place;
