@@ -1,4 +1,6 @@
 -- The lemmas of this crate.
-mod Lists
+pub mod Lists
 pub mod Membership
+pub mod Ordered
+pub mod Queued
 pub mod Several

@@ -1,12 +1,14 @@
 -- Keys in order: one put at its place, and one taken out.
-use Rattle.std.proofs.Common.{◌≡◌, Bool, true, false, not, ◌||◌, cond, List, [], ◌∷◌, refl, sym, ap, filter}
+use Rattle.std.proofs.Common.{◌≡◌, ◌∙◌, IsPermutation, Bool, true, false, not, ◌||◌, cond, List, [], ◌∷◌, refl, sym, ap, filter}
+use Rattle.std.proofs.lemmas.Bool.{false≢true}
 use Rattle.std.proofs.lemmas.Cmp.{alike_right}
+use Rattle.std.proofs.lemmas.List.Sorted.{IsPermutation-cons, IsPermutation-middle, IsPermutation-refl, IsPermutation-sym, IsPermutation-trans}
 use Rattle.std.proofs.lemmas.Map.Keys.{sorted_head, sorted_tail}
 use Rattle.std.specs.BTreeSet.{insert_key}
 use Rattle.std.specs.Cmp.{IsTotalOrder}
 use Rattle.std.specs.List.{AllByRecursion, list_any}
 use Rattle.std.specs.List.Sorted.{IsStrictlySortedBy}
-use Rattle.std.specs.Ordering.{eq_by_cmp, is_eq, match_ordering}
+use Rattle.std.specs.Ordering.{eq_by_cmp, is_eq, match_ordering, ordering_reverse}
 use Rattle.std.specs.Set.{remove_key}
 use Rattle.std.specs.declared.cmp.Ordering.{Ordering}
 use Rattle.std.specs.declared.cmp.Ordering.TheVariants.{Less, Equal, Greater}
@@ -32,6 +34,45 @@ module _ {K : Type 0} {R : K → K → Ordering} (o : IsTotalOrder R) (q w : K) 
   pub any-insert_key : (xs : List K) → list_any (eq_by_cmp R q) (insert_key R xs w) ≡ (eq_by_cmp R q w || list_any (eq_by_cmp R q) xs)
   any-insert_key [] = refl
   any-insert_key (x ∷ xs) = any_placed x xs (insert_key R xs w) (R w x) refl (any-insert_key xs)
+
+module _ {K : Type 0} {R : K → K → Ordering} (o : IsTotalOrder R) (w : K) where
+  below_all : (x : K) (xs : List K) → R w x ≡ Less → AllByRecursion (λ y. R x y ≡ Less) xs → AllByRecursion (λ y. R w y ≡ Less) xs
+  below_all x [] e h = tt
+  below_all x (y ∷ ys) e h = (o.trans w x y e h.0, below_all x ys e h.1)
+
+  all_by : (P : K → Type 0) (x : K) (xs ys : List K) (r : Ordering) → AllByRecursion P (x ∷ xs) → P w → AllByRecursion P ys → AllByRecursion P (match_ordering r (w ∷ x ∷ xs) (x ∷ xs) (x ∷ ys))
+  all_by P x xs ys Less h p rest = (p, h)
+  all_by P x xs ys Equal h p rest = h
+  all_by P x xs ys Greater h p rest = (h.0, rest)
+
+  all_placed : (P : K → Type 0) (xs : List K) → AllByRecursion P xs → P w → AllByRecursion P (insert_key R xs w)
+  all_placed P [] h p = (p, tt)
+  all_placed P (x ∷ xs) h p = all_by P x xs (insert_key R xs w) (R w x) h p (all_placed P xs h.1 p)
+
+  ascend_by : (x : K) (xs : List K) (r : Ordering) → R w x ≡ r → IsStrictlySortedBy R (x ∷ xs) → IsStrictlySortedBy R (insert_key R xs w) → IsStrictlySortedBy R (match_ordering r (w ∷ x ∷ xs) (x ∷ xs) (x ∷ insert_key R xs w))
+  unfolding IsStrictlySortedBy
+  ascend_by x xs Less e s rest = ((e, below_all x xs e s.0), s)
+  ascend_by x xs Equal e s rest = s
+  ascend_by x xs Greater e s rest = (all_placed (λ y. R x y ≡ Less) xs s.0 (o.antisymm x w ∙ ap ordering_reverse e), rest)
+
+  -- ascending keys ascend with one more put at its place
+  pub ascend-insert_key : (xs : List K) → IsStrictlySortedBy R xs → IsStrictlySortedBy R (insert_key R xs w)
+  unfolding IsStrictlySortedBy
+  ascend-insert_key [] s = (tt, tt)
+  ascend-insert_key (x ∷ xs) s = ascend_by x xs (R w x) refl s (ascend-insert_key xs s.1)
+
+  permuted_by : (x : K) (xs ys : List K) (r : Ordering) → (is_eq r || list_any (eq_by_cmp R w) xs) ≡ false → (list_any (eq_by_cmp R w) xs ≡ false → IsPermutation (w ∷ xs) ys) → IsPermutation (w ∷ x ∷ xs) (match_ordering r (w ∷ x ∷ xs) (x ∷ xs) (x ∷ ys))
+  permuted_by x xs ys Less new rest = IsPermutation-refl (w ∷ x ∷ xs)
+  permuted_by x xs ys Equal new rest = absurd (false≢true (sym new))
+  permuted_by x xs ys Greater new rest =
+      IsPermutation-trans (w ∷ x ∷ xs) (x ∷ w ∷ xs) (x ∷ ys)
+      (IsPermutation-sym (x ∷ w ∷ xs) (w ∷ x ∷ xs) (IsPermutation-middle (x ∷ []) w xs))
+      (IsPermutation-cons x (w ∷ xs) ys (rest new))
+
+  -- a new key is one more
+  pub permuted-insert_key : (xs : List K) → list_any (eq_by_cmp R w) xs ≡ false → IsPermutation (w ∷ xs) (insert_key R xs w)
+  permuted-insert_key [] new = IsPermutation-refl (w ∷ [])
+  permuted-insert_key (x ∷ xs) new = permuted_by x xs (insert_key R xs w) (R w x) new (λ e. permuted-insert_key xs e)
 
 -- a filter that each element passes keeps the list
 filter_all : {X : Type 0} (p : X → Bool) (xs : List X) → AllByRecursion (λ x. p x ≡ true) xs → filter p xs ≡ xs

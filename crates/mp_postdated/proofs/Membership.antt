@@ -3,8 +3,7 @@ use Rattle.std.proofs.Common.{◌≡◌, ◌↔◌, ◌⊎◌, ℕ, ◌==◌, �
 use Rattle.std.proofs.lemmas.Bool.{and_from, and_parts, both_ways, eq-eqb, eqb-true, false_from_ne_true, not-true, not_from_false, or_cases, or_left, or_right}
 use Rattle.std.proofs.lemmas.Cmp.{nat_cmp_total, on_total, then_total}
 use Rattle.std.proofs.lemmas.List.Elements.{filter_agree}
-use Rattle.std.proofs.lemmas.List.Kept.{IsStrictlySortedBy-filter}
-use Rattle.std.proofs.lemmas.Map.Lookups.{CmpEqualImpliesEq, btree_set_from_contains, exact_pairs, exact_unsigned}
+use Rattle.std.proofs.lemmas.Map.Lookups.{CmpEqualImpliesEq, exact_pairs, exact_unsigned}
 use Rattle.std.proofs.lemmas.Map.Views.{any-filter_same, btree_set_contains_iff, tells_apart}
 use Rattle.std.specs.Cmp.{IsTotalOrder}
 use Rattle.std.specs.List.{list_any}
@@ -35,7 +34,7 @@ equal_then Greater s = refl
 equal_numbers : (t u : ℕ) → is_eq (nat_cmp t u) ≡ (u == t)
 equal_numbers t u = grind arith
 
-same_wake : (t k : ℕ) (w : ℕ × ℕ) → eq_by_cmp wake_cmp (t, k) w ≡ (w.0 == t && w.1 == k)
+pub same_wake : (t k : ℕ) (w : ℕ × ℕ) → eq_by_cmp wake_cmp (t, k) w ≡ (w.0 == t && w.1 == k)
 same_wake t k w = rw (equal_then (nat_cmp t w.0) (nat_cmp k w.1), equal_numbers t w.0, equal_numbers k w.1) refl
 
 pub same_bool : (a b : Bool) → (a ≡ true → b ≡ true) → (b ≡ true → a ≡ true) → a ≡ b
@@ -77,16 +76,3 @@ has-without_wake ws t k s j =
           let other : (s == t && j == k) ≡ false = false_from_ne_true _ (λ (e : (s == t && j == k) ≡ true). let both : ((s == t) ≡ true) × ((j == k) ≡ true) = and_parts _ _ e in h.1 (eqb-true s t both.0, eqb-true j k both.1)) in
           (has-by_search (without_wake ws t k) s j).0 (found ∙ and_from _ _ (not_from_false _ other) ((has-by_search ws s j).1 h.0))),
     )
-
--- a new wake taken out again leaves the wakes as they were
-pub without_wake-with_wake : (ws : List (ℕ × ℕ)) (t k : ℕ) → IsAscending ws → IsAscending (with_wake ws t k) → (Has ws t k → ⊥) → without_wake (with_wake ws t k) t k ≡ ws
-without_wake-with_wake ws t k s s' new =
-    btree_set_from_contains wake_cmp-total (record { keys = without_wake (with_wake ws t k) t k }) (record { keys = ws })
-    (IsStrictlySortedBy-filter wake_cmp (λ w. not (w.0 == t && w.1 == k)) (with_wake ws t k) s') s
-    (λ q. same_bool _ _
-    (λ e. let there : Has (with_wake ws t k) q.0 q.1 × (IsWake t k q → ⊥) = (has-without_wake (with_wake ws t k) t k q.0 q.1).0 ((has-by_search (without_wake (with_wake ws t k) t k) q.0 q.1).0 e) in
-    elim ((has-with_wake ws t k q.0 q.1).0 there.0) [ inl old ↦ (has-by_search ws q.0 q.1).1 old | inr same ↦ absurd (there.1 same) ])
-    (λ e. let old : Has ws q.0 q.1 = (has-by_search ws q.0 q.1).0 e in
-    (has-by_search (without_wake (with_wake ws t k) t k) q.0 q.1).1 ((has-without_wake (with_wake ws t k) t k q.0 q.1).1
-    ((has-with_wake ws t k q.0 q.1).1 (inl old), (λ (same : IsWake t k q). new (rw (← same.0, ← same.1) old))))))
-    wake_cmp-exact

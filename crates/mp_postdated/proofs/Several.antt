@@ -1,7 +1,7 @@
--- Wakes of one key at several times: which there are once they are added, or taken out.
-use Rattle.std.proofs.Common.{◌≡◌, ◌↔◌, ◌⊎◌, ℕ, ◌+◌, ◌<◌, ◌≤◌, List, [], ◌∷◌, ◌++◌, All, Contains, drop, get_or, length, take, sym, subst, inl, inr, ⊎_elim, arith}
-use Rattle.std.proofs.lemmas.List.{take_all, take_more, take-append-drop}
-use Rattle.std.proofs.lemmas.List.Elements.{All-contains, Contains-append_left, Contains-push, Contains-push_cases}
+-- Wakes of one key at several times: which there are once they are added.
+use Rattle.std.proofs.Common.{◌≡◌, ◌↔◌, ◌⊎◌, ℕ, ◌+◌, ◌<◌, ◌≤◌, List, [], ◌∷◌, ◌++◌, Contains, get_or, length, take, sym, subst, inl, inr, ⊎_elim, arith}
+use Rattle.std.proofs.lemmas.List.{take_all, take_more}
+use Rattle.std.proofs.lemmas.List.Elements.{Contains-append_left, Contains-push, Contains-push_cases}
 use Rattle.std.proofs.lemmas.Map.Lookups.{btree_set_from_contains}
 use Rattle.mp_postdated.proofs.Membership.{has-by_search, same_bool, wake_cmp-exact, wake_cmp-total}
 use Rattle.mp_postdated.specs.Wakes.{Has, IsAmongWakes, IsAscending, IsWake}
@@ -31,18 +31,9 @@ longer ts i t l =
           h)),
     )
 
--- the first times are times
-among_first : (ts : List ℕ) (i t : ℕ) → Contains (take i ts) t → Contains ts t
-among_first ts i t h = subst (λ (us : List ℕ). Contains us t) (take-append-drop i ts) (Contains-append_left (take i ts) (drop i ts) t h)
-
 -- the wakes ws with those of the key at the first times are vs
 pub record HasAdded (ts : List ℕ) (key i : ℕ) (ws vs : List (ℕ × ℕ)) : Type 0 where
   pub exact : (t k : ℕ) → Has vs t k ↔ (Has ws t k ⊎ IsAmongWakes (take i ts) key (t, k))
-  pub ascending : IsAscending vs
-
--- the wakes ws without those of the key at the first times are vs
-pub record HasTaken (ts : List ℕ) (key i : ℕ) (ws vs : List (ℕ × ℕ)) : Type 0 where
-  pub exact : (t k : ℕ) → Has vs t k ↔ (Has ws t k × (IsAmongWakes (take i ts) key (t, k) → ⊥))
   pub ascending : IsAscending vs
 
 module _ (ts : List ℕ) (key : ℕ) where
@@ -76,40 +67,3 @@ module _ (ts : List ℕ) (key : ℕ) where
 
   pub all_added : (i : ℕ) (ws vs : List (ℕ × ℕ)) → length ts ≤ i → HasAdded ts key i ws vs → (t k : ℕ) → Has vs t k ↔ (Has ws t k ⊎ IsAmongWakes ts key (t, k))
   all_added i ws vs l h = λ t k. subst (λ (us : List ℕ). Has vs t k ↔ (Has ws t k ⊎ IsAmongWakes us key (t, k))) (take_all i ts l) (h.exact t k)
-
-  pub old_kept : (i : ℕ) (ws vs : List (ℕ × ℕ)) → HasAdded ts key i ws vs → (t k : ℕ) → Has ws t k → Has vs t k
-  old_kept i ws vs h t k old = (h.exact t k).1 (inl old)
-
-  pub some_added : (i : ℕ) (ws vs : List (ℕ × ℕ)) → HasAdded ts key i ws vs → (t k : ℕ) → Has vs t k → Has ws t k ⊎ IsAmongWakes ts key (t, k)
-  some_added i ws vs h t k there = ⊎_elim (λ (old : Has ws t k). inl old) (λ (among : IsAmongWakes (take i ts) key (t, k)). inr (among_first ts i t among.0, among.1)) ((h.exact t k).0 there)
-
-  pub none_taken : (ws : List (ℕ × ℕ)) → IsAscending ws → HasTaken ts key 0 ws ws
-  none_taken ws a = record { exact = λ t k. ((λ h. (h, λ among. nothing t among.0)), (λ h. h.0)); ascending = a }
-
-  pub one_taken : (i : ℕ) (ws vs us : List (ℕ × ℕ)) → i < length ts → HasTaken ts key i ws vs → IsAscending us
-      → ((t k : ℕ) → Has us t k ↔ (Has vs t k × (IsWake (get_or ts i 0) key (t, k) → ⊥))) → HasTaken ts key (i + 1) ws us
-  one_taken i ws vs us l h a one = record {
-    exact = λ t k.
-        let more = longer ts i t l in (
-          (λ there.
-              let both = (one t k).0 there in
-              let before = (h.exact t k).0 both.0 in
-              (before.0, λ among. ⊎_elim (λ (first : Contains (take i ts) t). before.1 (first, among.1)) (λ (new : get_or ts i 0 ≡ t). both.1 (sym new, among.1)) (more.0 among.0))),
-          (λ stays.
-              (one t k).1
-              ((h.exact t k).1 (stays.0, λ among. stays.1 (more.1 (inl among.0), among.1)), λ new. stays.1 (more.1 (inr (sym new.0)), new.1))),
-        );
-    ascending = a;
-  }
-
-  pub all_taken : (i : ℕ) (ws vs : List (ℕ × ℕ)) → length ts ≤ i → HasTaken ts key i ws vs → (t k : ℕ) → Has vs t k ↔ (Has ws t k × (IsAmongWakes ts key (t, k) → ⊥))
-  all_taken i ws vs l h = λ t k. subst (λ (us : List ℕ). Has vs t k ↔ (Has ws t k × (IsAmongWakes us key (t, k) → ⊥))) (take_all i ts l) (h.exact t k)
-
-  -- wakes that were new are taken out again
-  pub taken_back : (ws vs us : List (ℕ × ℕ)) → IsAscending ws → IsAscending us → All (λ t. Has ws t key → ⊥) ts
-      → ((t k : ℕ) → Has ws t k → Has vs t k) → ((t k : ℕ) → Has vs t k → Has ws t k ⊎ IsAmongWakes ts key (t, k))
-      → ((t k : ℕ) → Has us t k ↔ (Has vs t k × (IsAmongWakes ts key (t, k) → ⊥))) → us ≡ ws
-  taken_back ws vs us a b new kept added taken =
-      same_wakes us ws b a
-      (λ t k h. let both = (taken t k).0 h in ⊎_elim (λ (old : Has ws t k). old) (λ (among : IsAmongWakes ts key (t, k)). absurd (both.1 among)) (added t k both.0))
-      (λ t k h. (taken t k).1 (kept t k h, λ among. All-contains (λ (u : ℕ). Has ws u key → ⊥) ts t new among.0 (subst (λ (l : ℕ). Has ws t l) among.1 h)))

@@ -3,6 +3,7 @@
 //! Post-dated wakes: at which times which keys are to be woken, as Megaphone's post-dated records.
 #![tactic(auto)]
 
+mod queue;
 mod wakes;
 
 pub use mp_model::Time;

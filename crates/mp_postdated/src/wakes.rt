@@ -1,162 +1,174 @@
-//! A set of wakes, in the order of their times and keys.
-ghost use Rattle.std.specs.Prelude.{◌≡◌, ◌↔◌, ◌⊎◌, ◌==◌, ◌<◌, ◌^◌, ℕ, [], All, drop, filter, length, slice_get, IfSome, IfNone, IsTrue, OnErr, OnOk};
+//! A set of wakes, and which of them comes first.
+ghost use Rattle.std.specs.Prelude.{◌≡◌, ◌↔◌, ◌⊎◌, ◌<◌, ◌≤◌, ◌+◌, ◌^◌, ℕ, [], IsPermutation, drop, length, slice_get, IfSome, IfNone, IsTrue, OnErr, OnOk};
 ghost use Rattle.std.specs.Bool.{OnFalse};
 ghost use Rattle.mp_postdated.specs.Wakes.{ComesNoLater, Has, IsAmongWakes, IsAscending, IsWake, with_wake, without_wake};
 
+use crate::queue::{Queue, drop_taken};
+use indexmap::IndexSet;
 use mp_model::Time;
 use std::alloc::{AllocError, Global};
-use std::collections::BTreeSet;
-use std::collections::btree_set::Iter;
+use std::cmp::Reverse;
+use std::collections::BinaryHeap;
 use std::marker::Model;
 
 /// The keys that are to be woken, each with a time, as Megaphone's post-dated records. Contracts see the pairs of a
 /// time and a key, each once, ascending by time and then by key.
-#[derive(Debug, Drop)]
+#[derive(Drop)]
 pub struct Wakes {
-    set: BTreeSet<(Time, u64)>,
+    // Those that are to come.
+    live: IndexSet<(Time, u64)>,
+    // Each of them, the earliest first, and some that were taken out behind it.
+    queue: Queue,
 }
 
 impl Model for Wakes {
-    ghost use Rattle.std.specs.Prelude.{ℕ, List};
+    ghost use Rattle.std.specs.Prelude.{◌-◌, min};
+    ghost use Rattle.std.specs.BinaryHeap.{heap_capacity, heap_items, heap_len};
+    ghost use Rattle.std.specs.HashSet.{spare};
+    ghost use Rattle.mp_postdated.specs.Wakes.{IsQueueOf, Postdated, ordered};
 
-    ghost Value = { List (ℕ × ℕ) };
+    ghost Value = { Postdated };
 
-    ghost use Rattle.mp_postdated.specs.Wakes.{IsAscending};
+    ghost view = { λ w. record { wakes = ordered w.live.keys; room = min (spare w.live) (heap_capacity w.queue - heap_len w.queue) } };
 
-    ghost view = { λ w. w.set.keys };
-
-    ghost invariant = { λ w. IsAscending w.set.keys };
+    ghost invariant = { λ w. IsQueueOf w.live.keys (heap_items w.queue) };
 }
 
 impl Wakes {
     /// No wake.
     pub fn new(alloc: Global) -> Wakes
-        ensures { result ≡ [] }
+        ensures { result.wakes ≡ [] }
     {
         Wakes {
-            set: BTreeSet::new(alloc),
+            live: IndexSet::new(alloc),
+            queue: BinaryHeap::new(alloc),
         }
+    }
+
+    /// Makes room, so that the next `count` wakes are added without memory. `AllocError`: no memory, and nothing else
+    /// changes.
+    pub fn make_room(&mut self, count: usize) -> Result<(), AllocError>
+        ensures room { OnOk result (count ≤ self.new.room) }
+        ensures no_less { self.old.room ≤ self.new.room }
+        ensures same { self.new.wakes ≡ self.old.wakes }
+        ensures ascending { IsAscending self.new.wakes }
+    {
+        self.live.reserve(count)?;
+        self.queue.reserve(count)
     }
 
     /// Adds the wake of a key at a time. One that is there already changes nothing. `AllocError`: no memory, and
     /// nothing changes.
     pub fn add(&mut self, time: Time, key: u64) -> Result<(), AllocError>
-        ensures added { OnOk result (self.new ≡ with_wake self.old time key) }
-        ensures exact { OnOk result ((t k : ℕ) → Has self.new t k ↔ (Has self.old t k ⊎ IsWake time key (t, k))) }
-        ensures ascending { IsAscending self.new }
-        ensures unchanged { OnErr result (self.new ≡ self.old) }
+        ensures added { OnOk result (self.new.wakes ≡ with_wake self.old.wakes time key) }
+        ensures exact { OnOk result ((t k : ℕ) → Has self.new.wakes t k ↔ (Has self.old.wakes t k ⊎ IsWake time key (t, k))) }
+        ensures ascending { IsAscending self.new.wakes }
+        ensures unchanged { OnErr result (self.new.wakes ≡ self.old.wakes) }
     {
-        self.set.insert((time, key))?;
+        self.make_room(1)?;
+        self.put(time, key);
         Ok(())
     }
 
-    /// Adds the wakes of a key at times at which it has none yet, or none of them. `AllocError`: no memory, and nothing
-    /// changes.
-    pub fn add_all(&mut self, key: u64, times: &[Time]) -> Result<(), AllocError>
-        requires { All (λ t. ¬ Has self.old t key) times.now }
-        ensures exact { OnOk result ((t k : ℕ) → Has self.new t k ↔ (Has self.old t k ⊎ IsAmongWakes times.now key (t, k))) }
-        ensures ascending { IsAscending self.new }
-        ensures unchanged { OnErr result (self.new ≡ self.old) }
+    // Adds the wake of a key at a time. There is room for it.
+    fn put(&mut self, time: Time, key: u64)
+        requires { 1 ≤ self.old.room }
+        ensures added { self.new.wakes ≡ with_wake self.old.wakes time key }
+        ensures exact { (t k : ℕ) → Has self.new.wakes t k ↔ (Has self.old.wakes t k ⊎ IsWake time key (t, k)) }
+        ensures ascending { IsAscending self.new.wakes }
+        ensures room { self.old.room ≤ self.new.room + 1 }
     {
-        let _ = &self.set;
-        if let Err(refused) = self.add_each(key, times) {
-            self.take_all(key, times);
-            return Err(refused);
+        let Ok(is_new) = self.live.insert((time, key)) else {
+            unreachable!()
+        };
+        if !is_new {
+            return;
         }
-        Ok(())
+        let Ok(()) = self.queue.push(Reverse((time, key))) else {
+            unreachable!()
+        };
+        drop_taken(&mut self.queue, &self.live);
     }
 
-    // Adds wakes until memory fails: some of them, then.
-    fn add_each(&mut self, key: u64, times: &[Time]) -> Result<(), AllocError>
-        ensures exact { OnOk result ((t k : ℕ) → Has self.new t k ↔ (Has self.old t k ⊎ IsAmongWakes times.now key (t, k))) }
-        ensures kept { (t k : ℕ) → Has self.old t k → Has self.new t k }
-        ensures added { (t k : ℕ) → Has self.new t k → (Has self.old t k ⊎ IsAmongWakes times.now key (t, k)) }
-        ensures ascending { IsAscending self.new }
+    /// Adds the wakes of a key at times. There is room for them. Takes no memory.
+    pub fn add_all(&mut self, key: u64, times: &[Time])
+        requires { length times.now ≤ self.old.room }
+        ensures exact { (t k : ℕ) → Has self.new.wakes t k ↔ (Has self.old.wakes t k ⊎ IsAmongWakes times.now key (t, k)) }
+        ensures ascending { IsAscending self.new.wakes }
     {
-        let _ = &self.set;
+        let _ = &self.live;
         for time in times {
-            self.add(*time, key)?;
-        }
-        Ok(())
-    }
-
-    /// Takes out the wakes of a key at these times, where they are there. Takes no memory.
-    pub fn take_all(&mut self, key: u64, times: &[Time])
-        ensures exact { (t k : ℕ) → Has self.new t k ↔ (Has self.old t k × (¬ IsAmongWakes times.now key (t, k))) }
-        ensures ascending { IsAscending self.new }
-    {
-        let _ = &self.set;
-        for time in times {
-            self.take_due(*time, key);
+            self.put(*time, key);
         }
     }
 
-    /// The number of keys that are to be woken at a time. Takes no memory.
-    pub fn count_at(&self, time: Time) -> usize
-        ensures number { result ≡ length (filter (λ w. w.0 == time) self.now) }
-        ensures few { result < 2 ^ 63 }
+    /// The wakes, in no particular order.
+    pub fn as_slice(&self) -> &[(Time, u64)]
+        ensures wakes { IsPermutation self.now.wakes result.now }
+        ensures ascending { IsAscending self.now.wakes }
+        ensures fits { length result.now < 2 ^ 63 }
     {
-        self.set.iter().filter(|wake| wake.0 == time).count()
-    }
-
-    /// The wakes, by time and then by key.
-    pub fn iter(&self) -> Iter<'_, (Time, u64)>
-        ensures rest { result ≡ self.now }
-        ensures ascending { IsAscending self.now }
-        ensures fits { length self.now < 2 ^ 63 }
-    {
-        self.set.iter()
+        self.live.as_slice()
     }
 
     /// The first wake by time and then by key; `None` exactly where there is none.
     pub fn least(&self) -> Option<(Time, u64)>
-        ensures first { result ≡ slice_get self.now 0 }
-        ensures there { IfSome result (λ w. Has self.now w.0 w.1) }
-        ensures least { IfSome result (λ w. (t k : ℕ) → Has self.now t k → ComesNoLater w (t, k)) }
-        ensures none { IfNone result (self.now ≡ []) }
+        ensures first { result ≡ slice_get self.now.wakes 0 }
+        ensures there { IfSome result (λ w. Has self.now.wakes w.0 w.1) }
+        ensures least { IfSome result (λ w. (t k : ℕ) → Has self.now.wakes t k → ComesNoLater w (t, k)) }
+        ensures none { IfNone result (self.now.wakes ≡ []) }
     {
-        self.set.first().copied()
+        match self.queue.peek() {
+            Some(first) => Some(first.0),
+            None => None,
+        }
     }
 
     /// Takes out the wake of a key at a time: whether it was there. Takes no memory.
     pub fn take_due(&mut self, time: Time, key: u64) -> bool
-        ensures there { IsTrue result ↔ Has self.old time key }
-        ensures taken { self.new ≡ without_wake self.old time key }
-        ensures exact { (t k : ℕ) → Has self.new t k ↔ (Has self.old t k × (¬ IsWake time key (t, k))) }
-        ensures unchanged { OnFalse result (self.new ≡ self.old) }
-        ensures ascending { IsAscending self.new }
+        ensures there { IsTrue result ↔ Has self.old.wakes time key }
+        ensures taken { self.new.wakes ≡ without_wake self.old.wakes time key }
+        ensures exact { (t k : ℕ) → Has self.new.wakes t k ↔ (Has self.old.wakes t k × (¬ IsWake time key (t, k))) }
+        ensures unchanged { OnFalse result (self.new.wakes ≡ self.old.wakes) }
+        ensures room { self.old.room ≤ self.new.room }
+        ensures ascending { IsAscending self.new.wakes }
     {
-        self.set.remove(&(time, key))
+        let was_there = self.live.swap_remove(&(time, key));
+        drop_taken(&mut self.queue, &self.live);
+        was_there
     }
 
     /// Takes out the first wake by time and then by key; `None` exactly where there is none. Takes no memory.
     pub fn pop_least(&mut self) -> Option<(Time, u64)>
-        ensures first { result ≡ slice_get self.old 0 }
-        ensures rest { self.new ≡ drop 1 self.old }
-        ensures ascending { IsAscending self.new }
+        ensures first { result ≡ slice_get self.old.wakes 0 }
+        ensures rest { self.new.wakes ≡ drop 1 self.old.wakes }
+        ensures ascending { IsAscending self.new.wakes }
     {
-        self.set.pop_first()
+        let _ = &self.live;
+        let (time, key) = self.least()?;
+        self.take_due(time, key);
+        Some((time, key))
     }
 
     /// Whether a key is to be woken at a time.
     pub fn has(&self, time: Time, key: u64) -> bool
-        ensures { IsTrue result ↔ Has self.now time key }
+        ensures { IsTrue result ↔ Has self.now.wakes time key }
     {
-        self.set.contains(&(time, key))
+        self.live.contains(&(time, key))
     }
 
     /// The number of wakes.
     pub fn len(&self) -> usize
-        ensures wakes { result ≡ length self.now }
-        ensures ascending { IsAscending self.now }
+        ensures wakes { result ≡ length self.now.wakes }
+        ensures ascending { IsAscending self.now.wakes }
     {
-        self.set.len()
+        self.live.len()
     }
 
     /// Whether there is no wake.
     pub fn is_empty(&self) -> bool
-        ensures { IsTrue result ↔ (self.now ≡ []) }
+        ensures { IsTrue result ↔ (self.now.wakes ≡ []) }
     {
-        self.set.is_empty()
+        self.live.is_empty()
     }
 }

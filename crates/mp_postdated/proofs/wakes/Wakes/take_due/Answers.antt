@@ -1,20 +1,24 @@
 -- The removal finds a wake just where it is there, and leaves the others.
-use Rattle.std.proofs.Common.{◌≡◌, ◌∙◌, ap}
-use Rattle.mp_postdated.proofs.Membership.{has-by_search, has-without_wake, remove_key-is_without_wake}
-use Rattle.mp_postdated.specs.Wakes.{without_wake}
+use Rattle.std.proofs.Common.{◌≡◌}
+use Rattle.mp_postdated.proofs.Membership.{has-without_wake}
+use Rattle.mp_postdated.proofs.Ordered.{has_out, ordered-ascends, ordered_found, ordered_out}
+use Rattle.mp_postdated.specs.Wakes.{ordered, without_wake}
 use Rattle.mp_postdated.proofs.wakes.Wakes.take_due.Goals as goal
 
+pub drop_taken-requires-clause-all : goal.drop_taken-requires-clause-all
+drop_taken-requires-clause-all c =
+    λ w there. c.self.invariant.all w ((has_out c.args.time c.args.key c.self.inside.live.keys c.swap_remove-was_there.new.self.keys c.swap_remove-was_there.ensures.updates.0 w.0 w.1).0 there).0
+
 pub returns-clause-there : goal.returns-clause-there
-returns-clause-there c = rw (c.remove.ensures.test, ← c.self.view_is) (has-by_search c.self.inside.set.keys c.args.time c.args.key)
+returns-clause-there c = rw (c.swap_remove-was_there.ensures.found, ← c.self.view_is) (ordered_found c.self.inside.live.keys c.args.time c.args.key)
 
 pub returns-clause-taken : goal.returns-clause-taken
-returns-clause-taken c =
-    c.remove.ensures.keys ∙ remove_key-is_without_wake c.self.inside.set.keys c.args.time c.args.key c.self.invariant
-    ∙ ap (λ ws. without_wake ws c.args.time c.args.key) c.self.view_is
+returns-clause-taken c = rw (← c.self.view_is) (ordered_out c.args.time c.args.key c.self.inside.live.keys c.swap_remove-was_there.new.self.keys c.swap_remove-was_there.ensures.updates.0)
 
 pub returns-clause-exact : goal.returns-clause-exact
 returns-clause-exact c =
-    let taken : c.remove.new.self.keys ≡ without_wake c.args.self.now c.args.time c.args.key =
-    c.remove.ensures.keys ∙ remove_key-is_without_wake c.self.inside.set.keys c.args.time c.args.key c.self.invariant
-    ∙ ap (λ ws. without_wake ws c.args.time c.args.key) c.self.view_is in
-    λ t k. rw taken (has-without_wake c.args.self.now c.args.time c.args.key t k)
+    let taken : ordered c.swap_remove-was_there.new.self.keys ≡ without_wake (ordered c.self.inside.live.keys) c.args.time c.args.key = ordered_out c.args.time c.args.key c.self.inside.live.keys c.swap_remove-was_there.new.self.keys c.swap_remove-was_there.ensures.updates.0 in
+    λ t k. rw (← c.self.view_is, taken) (has-without_wake (ordered c.self.inside.live.keys) c.args.time c.args.key t k)
+
+pub returns-clause-ascending : goal.returns-clause-ascending
+returns-clause-ascending c = ordered-ascends c.swap_remove-was_there.new.self.keys

@@ -1,0 +1,125 @@
+-- The queue of a set of wakes: what a removal of its first leaves, and that its first is the least.
+use Rattle.std.proofs.Common.{◌≡◌, ◌⊎◌, ℕ, zero, suc, ◌<◌, ◌≤◌, ◌+◌, Bool, true, false, not, List, [], ◌∷◌, Option, None, Some, IfSome, IsSome, OnSome, IsPermutation, Contains, cond, drop, length, get_or, slice_get, slice_index_or, refl, sym, ap, ◌∙◌, subst, inl, inr, ⊎_elim, arith}
+use Rattle.std.proofs.lemmas.Bool.{false≢true}
+use Rattle.std.proofs.lemmas.Cmp.{tied_itself}
+use Rattle.std.proofs.lemmas.List.Sorted.{Contains-permutation}
+use Rattle.std.proofs.lemmas.Map.Keys.{sorted_head}
+use Rattle.std.specs.BinaryHeap.{IsHeap, IsUpperBound, PopsGreatest, lt_by_cmp}
+use Rattle.std.specs.Bool.{OnFalse}
+use Rattle.std.specs.List.{AllByRecursion, list_any}
+use Rattle.std.specs.List.Sorted.{IsStrictlySortedBy}
+use Rattle.std.specs.Ordering.{eq_by_cmp, is_eq, is_lt}
+use Rattle.std.specs.Set.{remove_key}
+use Rattle.std.specs.declared.cmp.Ordering.TheVariants.{Less}
+use Rattle.std.specs.declared.cmp.Reverse.{Reverse}
+use Rattle.mp_postdated.proofs.Membership.{remove_key-is_without_wake, wake_cmp-total}
+use Rattle.mp_postdated.proofs.Ordered.{Finds, has-ordered, has_found, has_in, is_ordered, same_pair}
+use Rattle.mp_postdated.specs.Wakes.{AreQueued, BeginsLive, ComesNoLater, Has, IsAscending, IsWake, ordered, queue_cmp, reversed, wake_cmp, without_wake}
+
+nothing_in_nil : {X : Type 0} (x : X) → Contains [] x → ⊥
+nothing_in_nil x h = let l : h.0 < 0 = h.1 in omega arith
+
+cases_in : {X : Type 0} (x y : X) (xs : List X) → Contains (x ∷ xs) y → (x ≡ y) ⊎ Contains xs y
+cases_in x y xs h = at h.0 h.1 h.2
+  where
+    at : (k : ℕ) → k < length (x ∷ xs) → get_or (x ∷ xs) k y ≡ y → (x ≡ y) ⊎ Contains xs y
+    at zero l e = inl e
+    at (suc k) l e = inr (k, omega arith, e)
+
+first_of : {X : Type 0} (xs : List X) (x : X) → 0 < length xs → x ≡ slice_index_or xs 0 x → slice_get xs 0 ≡ Some x
+first_of [] x l e = absurd (omega arith)
+first_of (y ∷ ys) x l e = ap Some (sym e)
+
+none_of : {X : Type 0} (xs : List X) → length xs ≤ 0 → xs ≡ []
+none_of [] l = refl
+none_of (x ∷ xs) l = absurd (omega arith)
+
+module _ (live : List (ℕ × ℕ)) where
+  -- whether a search finds the first says whether it is live
+  pub begins_live : (queue : List (Reverse (ℕ × ℕ))) (r : Reverse (ℕ × ℕ)) (b : Bool) → 0 < length queue → r ≡ slice_index_or queue 0 r → b ≡ list_any (same_pair r.0) live → OnFalse (not b) (BeginsLive live queue)
+  begins_live queue r false l e f = tt
+  begins_live queue r true l e f = subst (λ (o : Option (Reverse (ℕ × ℕ))). IfSome o (λ p. Contains live p.0)) (sym (first_of queue r l e)) ((has_found live r.0.0 r.0.1).0 (sym f))
+
+  pub begins_taken : (queue : List (Reverse (ℕ × ℕ))) (r : Reverse (ℕ × ℕ)) (b : Bool) → 0 < length queue → r ≡ slice_index_or queue 0 r → b ≡ list_any (same_pair r.0) live → not b ≡ true → IfSome (slice_get queue 0) (λ p. Contains live p.0 → ⊥)
+  begins_taken queue r b l e f taken = subst (λ (o : Option (Reverse (ℕ × ℕ))). IfSome o (λ p. Contains live p.0 → ⊥)) (sym (first_of queue r l e))
+      (λ there. let found : b ≡ true = f ∙ (has_found live r.0.0 r.0.1).1 there in false≢true (ap not (sym found) ∙ taken))
+
+  -- what is live stays queued where the first, which isn't, goes
+  pub still_queued : (old new : List (Reverse (ℕ × ℕ))) (o : Option (Reverse (ℕ × ℕ))) → IsSome o → IfSome o (λ r. r ≡ slice_index_or old 0 r) → IfSome o (λ r. IsPermutation old (r ∷ new))
+      → IfSome (slice_get old 0) (λ p. Contains live p.0 → ⊥) → AreQueued live old → AreQueued live new
+  still_queued old new None some first moved taken all w there = absurd (false≢true some)
+  still_queued old new (Some r) some first moved taken all w there =
+      let queued = all w there in
+      ⊎_elim
+      (λ (e : r ≡ reversed w).
+      let not_live : Contains live r.0 → ⊥ = subst (λ (p : Option (Reverse (ℕ × ℕ))). IfSome p (λ s. Contains live s.0 → ⊥)) (first_of old r (omega (arith, queued.1)) first) taken in
+      absurd (not_live (subst (λ (s : Reverse (ℕ × ℕ)). Contains live s.0) (sym e) there)))
+      (λ (i : Contains new (reversed w)). i)
+      (cases_in r (reversed w) new (Contains-permutation old (r ∷ new) (reversed w) moved queued))
+
+  pub still_heap : (old new : List (Reverse (ℕ × ℕ))) (o : Option (Reverse (ℕ × ℕ))) → IsSome o → IfSome o (λ r. PopsGreatest queue_cmp old r new) → IsHeap queue_cmp old → IsHeap queue_cmp new
+  still_heap old new None some kept heap = absurd (false≢true some)
+  still_heap old new (Some r) some kept heap = (kept heap).0
+
+  pub shorter : (n m : ℕ) (o : Option (Reverse (ℕ × ℕ))) → IsSome o → OnSome o (n + 1 ≡ m) → n ≤ m
+  shorter n m None some e = absurd (false≢true some)
+  shorter n m (Some r) some e = omega arith
+
+  -- and so does what is new
+  pub more_queued : (more : List (ℕ × ℕ)) (t k : ℕ) (old new : List (Reverse (ℕ × ℕ))) → Finds true t k live more → IsPermutation (reversed (t, k) ∷ old) new → AreQueued live old → AreQueued more new
+  more_queued more t k old new f moved all w there =
+      Contains-permutation (reversed (t, k) ∷ old) new (reversed w) moved
+      (⊎_elim
+      (λ (i : Contains live w). let q = all w i in let l : q.0 < length old = q.1 in (suc q.0, omega arith, q.2))
+      (λ (same : IsWake t k w). subst (λ (v : ℕ × ℕ). Contains (reversed (t, k) ∷ old) (reversed v)) (λ i. (sym same.0 i, sym same.1 i)) (0, omega arith, refl))
+      ((has_in t k live more f w.0 w.1).0 there))
+
+  no_later : (v w : ℕ × ℕ) → is_lt (wake_cmp w v) ≡ false → ComesNoLater v w
+  no_later v w e = grind arith
+
+  bounded : (r : Reverse (ℕ × ℕ)) (queue : List (Reverse (ℕ × ℕ))) → AllByRecursion (λ y. lt_by_cmp queue_cmp r y ≡ false) queue → (w : ℕ × ℕ) → Contains queue (reversed w) → ComesNoLater r.0 w
+  bounded r [] a w h = absurd (nothing_in_nil (reversed w) h)
+  bounded r (x ∷ xs) a w h =
+      ⊎_elim
+      (λ (e : x ≡ reversed w). no_later r.0 w (subst (λ (y : Reverse (ℕ × ℕ)). lt_by_cmp queue_cmp r y ≡ false) e a.0))
+      (λ (i : Contains xs (reversed w)). bounded r xs a.1 w i)
+      (cases_in x (reversed w) xs h)
+
+  -- no live wake comes before the first in the queue
+  pub least : (queue : List (Reverse (ℕ × ℕ))) (r : Reverse (ℕ × ℕ)) → AreQueued live queue → IsUpperBound queue_cmp r queue → (t k : ℕ) → Has (ordered live) t k → ComesNoLater r.0 (t, k)
+  least queue r all bound t k h = bounded r queue bound (t, k) (all (t, k) ((has-ordered live t k).0 h))
+
+  pub there : (queue : List (Reverse (ℕ × ℕ))) (r : Reverse (ℕ × ℕ)) → BeginsLive live queue → 0 < length queue → r ≡ slice_index_or queue 0 r → Has (ordered live) r.0.0 r.0.1
+  there queue r begins l e = (has-ordered live r.0.0 r.0.1).1 (subst (λ (o : Option (Reverse (ℕ × ℕ))). IfSome o (λ p. Contains live p.0)) (first_of queue r l e) begins)
+
+  -- where the queue is empty nothing is live
+  pub none_live : (queue : List (Reverse (ℕ × ℕ))) → length queue ≤ 0 → AreQueued live queue → ordered live ≡ []
+  unfolding IsStrictlySortedBy
+  none_live queue l all =
+      let none : (w : ℕ × ℕ) → Contains live w → ⊥ = λ w h. nothing_in_nil (reversed w) (subst (λ (q : List (Reverse (ℕ × ℕ))). Contains q (reversed w)) (none_of queue l) (all w h)) in
+      is_ordered live [] tt (λ t k. ((λ h. absurd (none (t, k) h)), (λ h. absurd (nothing_in_nil (t, k) h))))
+
+after_head : (x : ℕ × ℕ) (xs : List (ℕ × ℕ)) (w : ℕ × ℕ) → AllByRecursion (λ y. wake_cmp x y ≡ Less) xs → Contains xs w → wake_cmp x w ≡ Less
+after_head x [] w a h = absurd (nothing_in_nil w h)
+after_head x (y ∷ ys) w a h = ⊎_elim (λ (e : y ≡ w). subst (λ (v : ℕ × ℕ). wake_cmp x v ≡ Less) e a.0) (λ (i : Contains ys w). after_head x ys w a.1 i) (cases_in y w ys h)
+
+not_both : (v w : ℕ × ℕ) → wake_cmp v w ≡ Less → ComesNoLater w v → ⊥
+not_both v w e n = grind arith
+
+-- of ascending wakes the one that no other comes before stands first
+pub first_is_least : (ws : List (ℕ × ℕ)) (w : ℕ × ℕ) → IsAscending ws → Has ws w.0 w.1 → ((t k : ℕ) → Has ws t k → ComesNoLater w (t, k)) → slice_get ws 0 ≡ Some w
+first_is_least [] w a h n = absurd (nothing_in_nil w h)
+first_is_least (x ∷ xs) w a h n =
+    ⊎_elim
+    (λ (e : x ≡ w). ap Some e)
+    (λ (i : Contains xs w). absurd (not_both x w (after_head x xs w (sorted_head wake_cmp x xs a) i) (n x.0 x.1 (0, omega arith, refl))))
+    (cases_in x w xs h)
+
+-- without the first of ascending wakes there are the others
+pub without_first : (ws : List (ℕ × ℕ)) (t k : ℕ) → IsAscending ws → Some (t, k) ≡ slice_get ws 0 → without_wake ws t k ≡ drop 1 ws
+without_first [] t k a e = refl
+without_first (x ∷ xs) t k a e =
+    let here : Some (t, k) ≡ Some x = e in
+    let first : (t, k) ≡ x = cc in
+    let same : eq_by_cmp wake_cmp (t, k) x ≡ true = subst (λ (w : ℕ × ℕ). eq_by_cmp wake_cmp (t, k) w ≡ true) first (ap is_eq (tied_itself wake_cmp-total (t, k))) in
+    sym (remove_key-is_without_wake (x ∷ xs) t k a) ∙ ap (λ b. cond b xs (x ∷ remove_key (eq_by_cmp wake_cmp (t, k)) xs)) same

@@ -1,0 +1,38 @@
+//! The queue of a set of wakes.
+ghost use Rattle.std.specs.Prelude.{◌≡◌, ◌≤◌, ◌<◌, ℕ, Contains, IfSome, slice_get};
+ghost use Rattle.std.specs.Bool.{OnFalse, OnTrue};
+ghost use Rattle.std.specs.BinaryHeap.{IsHeap, heap_capacity, heap_items, heap_len};
+ghost use Rattle.mp_postdated.specs.Wakes.{AreQueued, BeginsLive, IsQueueOf, queue_cmp};
+
+use indexmap::IndexSet;
+use mp_model::Time;
+use std::cmp::Reverse;
+use std::collections::BinaryHeap;
+
+/// Wakes, the earliest first.
+pub type Queue = BinaryHeap<Reverse<(Time, u64)>>;
+
+/// Takes wakes that aren't live any more off the front of a queue. Takes no memory.
+pub fn drop_taken(queue: &mut Queue, live: &IndexSet<(Time, u64)>)
+    requires heap { IsHeap queue_cmp (heap_items queue.old) }
+    requires all { AreQueued live.now.keys (heap_items queue.old) }
+    ensures queue { IsQueueOf live.now.keys (heap_items queue.new) }
+    ensures capacity { heap_capacity queue.new ≡ heap_capacity queue.old }
+    ensures len { heap_len queue.new ≤ heap_len queue.old }
+{
+    while begins_taken(queue, live) {
+        queue.pop();
+    }
+}
+
+// Whether the first wake in a queue, if there is one, isn't live.
+fn begins_taken(queue: &Queue, live: &IndexSet<(Time, u64)>) -> bool
+    ensures some { OnTrue result (0 < heap_len queue.now) }
+    ensures taken { OnTrue result (IfSome (slice_get (heap_items queue.now) 0) (λ r. ¬ Contains live.now.keys r.0)) }
+    ensures live { OnFalse result (BeginsLive live.now.keys (heap_items queue.now)) }
+{
+    match queue.peek() {
+        Some(first) => !live.contains(&first.0),
+        None => false,
+    }
+}
