@@ -7,6 +7,7 @@ pub mod Ingested
 pub mod Settled
 pub mod Sent
 pub mod Took
+pub mod Bundles
 pub mod Times
 pub mod Waking
 pub mod Given

@@ -47,16 +47,13 @@ module _ (o : Outline) (w : ℕ) (log : Log) (x : Name) where
     group_kept j u k e = pending_same o log new j u k (λ s. refl) (λ m. refl) (λ s. brought_kept j (o.bin_of k) s u) (any_other (is_record_of j u k) log.took x e)
 
 module _
-    (o : Outline) (w : ℕ) (log : Log) (ok : OutlineIsSound o) (good : LogIsLegal o w log) (j t k : ℕ) (g : Tag) (owed : IsOwedTo o w (Rec j t k g))
-    (fresh : has log.took (Rec j t k g) ≡ false) where
+    (o : Outline) (w : ℕ) (log : Log) (ok : OutlineIsSound o) (j t k : ℕ) (g : Tag) (owed : IsOwedTo o w (Rec j t k g))
+    (not_applied : has log.applied (Group j t k) ≡ false) where
   abbrev record_name : Name
   record_name = Rec j t k g
 
   abbrev group : Name
   group = Group j t k
-
-  not_applied : has log.applied group ≡ false
-  not_applied = false_from_ne_true (has log.applied group) (λ i. both_ways (has log.took record_name) fresh ((good.applied_ready group i).1 g owed.0.1))
 
   group_other : (y : Name) → same_name group y ≡ false → is_pending o (new o w log record_name) y ≡ is_pending o log y
   group_other (Group i u l) e = group_kept o w log record_name (λ n b s v. refl) i u l e
@@ -113,12 +110,20 @@ module _
     body OutRoute u = nothing _ _ (ap pos (held_same o w log record_name u o.rows))
     body OutMail u = nothing _ _ (mail_kept o w log record_name is_row u refl)
 
-    pub record_taken : AreChanges o w log (with_took log (Rec j t k g)) (record_taken_at j t waited)
-    record_taken = record {
+    pub taken_unapplied : AreChanges o w log (with_took log (Rec j t k g)) (record_taken_at j t waited)
+    taken_unapplied = record {
       sums = λ loc u. ap (λ (z : ℤ). cond (same_loc (Mail j) loc && t == u) (negsuc 0) (pos 0) +ℤ z) (sum_unless waited (Host j) t loc u) ∙ body loc u;
       once = once_unless waited (one_less (Mail j) t) (one_more (Host j) t) (λ e. cc);
       none_by_zero = not_zero_unless waited (one_less (Mail j) t) (one_more (Host j) t) (λ e. cc) (λ e. cc);
     }
+
+-- the group of a record that isn't taken isn't applied
+pub unapplied : (o : Outline) (w : ℕ) (log : Log) → LogIsLegal o w log → (j t k : ℕ) (g : Tag) → IsOwedTo o w (Rec j t k g) → has log.took (Rec j t k g) ≡ false → has log.applied (Group j t k) ≡ false
+unapplied o w log good j t k g owed fresh =
+    false_from_ne_true (has log.applied (Group j t k)) (λ i. both_ways (has log.took (Rec j t k g)) fresh ((good.applied_ready (Group j t k) i).1 g owed.0.1))
+
+pub record_taken : (o : Outline) (w : ℕ) (log : Log) → OutlineIsSound o → LogIsLegal o w log → (j t k : ℕ) (g : Tag) → IsOwedTo o w (Rec j t k g) → has log.took (Rec j t k g) ≡ false → (waited : Bool) → is_pending o log (Group j t k) ≡ waited → AreChanges o w log (with_took log (Rec j t k g)) (record_taken_at j t waited)
+record_taken o w log ok good j t k g owed fresh = taken_unapplied o w log ok j t k g owed (unapplied o w log good j t k g owed fresh)
 
 -- the time is that of the control record, or another
 one_note : (h noted old s : Bool) → (h ≡ true → old ≡ noted) → (h ≡ true → noted ≡ false → s ≡ false) → cond ((old || h) && not s) 1 0 ≡ cond (old && not s) 1 0 + cond (h && not noted) 1 0

@@ -4,10 +4,10 @@ use Rattle.std.specs.List.{sum_by}
 use Rattle.mp_names.specs.declared.locations.Loc.{Loc}
 use Rattle.mp_names.specs.declared.locations.Loc.TheVariants.{Ctl, CtlMail, Source, Route, Mail, Move, State, Host, OutRoute, OutMail}
 use Rattle.mp_names.specs.declared.names.Name.{Name}
-use Rattle.mp_names.specs.declared.names.Name.TheVariants.{Rec, Row}
+use Rattle.mp_names.specs.declared.names.Name.TheVariants.{Group, Rec, Row}
 use Rattle.mp_names.specs.declared.pointstamps.Change.{Change}
 use Rattle.mp_names.specs.Frontiers.{number_at}
-use Rattle.mp_names.specs.Logs.{Log, is_pending}
+use Rattle.mp_names.specs.Logs.{Log, is_pending, with_took}
 use Rattle.mp_names.specs.Outlines.{Outline, groups_of}
 use Rattle.mp_rows.specs.Entries.{change_at}
 
@@ -33,6 +33,10 @@ ingested_at t = one_less Source t ∷ one_more (Route 0) t ∷ []
 abbrev pub record_sent_at : ℕ → ℕ → List Change
 record_sent_at j t = one_less (Route j) t ∷ one_more (Mail j) t ∷ []
 
+-- so many records are sent to a host of their stage
+abbrev pub records_sent_at : ℕ → ℕ → ℕ → List Change
+records_sent_at j t n = change_at (Route j) t (neg_ℤ (pos n)) ∷ change_at (Mail j) t (pos n) ∷ []
+
 -- an answer row is sent to worker 0
 abbrev pub row_sent_at : ℕ → List Change
 row_sent_at t = one_less OutRoute t ∷ one_more OutMail t ∷ []
@@ -44,6 +48,10 @@ control_sent_at t = one_less Ctl t ∷ one_more CtlMail t ∷ []
 -- a record is taken: its group waits from now on, unless it waited before
 abbrev pub record_taken_at : ℕ → ℕ → Bool → List Change
 record_taken_at j t waited = one_less (Mail j) t ∷ (if waited then [] else one_more (Host j) t ∷ [])
+
+-- so many records are taken: so many groups wait from now on
+abbrev pub records_taken_at : ℕ → ℕ → ℕ → ℕ → List Change
+records_taken_at j t n groups = change_at (Mail j) t (neg_ℤ (pos n)) ∷ some_more (Host j) t groups
 
 -- an answer row is taken
 abbrev pub row_taken_at : ℕ → List Change
@@ -80,6 +88,16 @@ outputs_of o j t k = count_by (is_output t k) (given_by o j)
 -- a group is applied: it waits no longer, what it gives is the router's, and the key's groups at these times wait from now on
 abbrev pub applied_at : Outline → ℕ → ℕ → ℕ → List ℕ → List Change
 applied_at o j t k woken = one_less (Host j) t ∷ (some_more (location_after j o.stages) t (outputs_of o j t k) ++ map (one_more (Host j)) woken)
+
+-- the group of a record
+abbrev pub group_of : Name → Name
+group_of (Rec j t k g) = Group j t k
+group_of x = x
+
+-- how many groups wait once these records are taken, one after the other, and didn't before
+abbrev pub new_groups : Outline → Log → List Name → ℕ
+new_groups o log [] = 0
+new_groups o log (x ∷ xs) = cond (is_pending o log (group_of x)) 0 1 + new_groups o (with_took log x) xs
 
 -- Bins that move
 

@@ -1,13 +1,16 @@
 -- What each step of a worker adds to its contributions, for every outline and every log that has the step before it.
-use Rattle.std.specs.Prelude.{◌≡◌, ◌≢◌, ◌↔◌, ℕ, ◌+◌, ◌==◌, Bool, true, false, List, [], AllPairs, Contains, count_by}
+use Rattle.std.specs.Prelude.{◌≡◌, ◌≢◌, ◌↔◌, ℕ, ◌+◌, ◌<◌, ◌==◌, Bool, true, false, List, [], AllPairs, Contains, count_by, length}
+use Rattle.mp_names.specs.declared.names.Name.{Name}
 use Rattle.mp_names.specs.declared.names.Name.TheVariants.{Ctrl, Rec, Packet, Row, Group, Settled, Written}
 use Rattle.mp_names.specs.declared.names.Tag.{Tag}
 use Rattle.mp_names.specs.Keeping.{IsHeld, IsUnsettled, IsWaiting}
 use Rattle.mp_names.specs.Logs.{Log, LogIsLegal, is_noted, is_pending, with_applied, with_ingested, with_sent, with_settled, with_took}
-use Rattle.mp_names.specs.Names.{has, In, is_ctrl, is_rec, is_row}
-use Rattle.mp_names.specs.Outlines.{Outline, OutlineIsSound, control_at, IsOwedTo, share}
+use Rattle.mp_names.specs.Names.{has, In, Distinct, is_ctrl, is_rec, is_row}
+use Rattle.mp_names.specs.Outlines.{Outline, OutlineIsSound, control_at, IsOwedTo, share, time_of}
+use Rattle.mp_rows.specs.declared.lists.LogList.TheVariants.{Sent, Took}
 use Rattle.mp_rows.specs.Entries.{AreChanges}
-use Rattle.mp_count_laws.specs.Changes.{AreMore, applied_at, control_sent_at, control_taken_at, ingested_at, packet_sent_at, packet_taken_at, record_sent_at, record_taken_at, row_sent_at, row_taken_at, settled_at, waiting_at}
+use Rattle.mp_rows.specs.Lists.{with_names}
+use Rattle.mp_count_laws.specs.Changes.{AreMore, applied_at, control_sent_at, control_taken_at, ingested_at, new_groups, packet_sent_at, packet_taken_at, record_sent_at, record_taken_at, records_sent_at, records_taken_at, row_sent_at, row_taken_at, settled_at, waiting_at}
 
 -- an event of the share is ingested
 abbrev pub IngestedIsCounted : Type 0
@@ -28,6 +31,17 @@ SentRecordIsCounted =
     → (j t k : ℕ) (g : Tag)
     → IsHeld o w log (is_rec j) (Rec j t k g)
     → AreChanges o w log (with_sent log (Rec j t k g)) (record_sent_at j t)
+
+-- several records that are held are sent, of one stage and time
+abbrev pub SentRecordsAreCounted : Type 0
+SentRecordsAreCounted =
+    (o : Outline) (w : ℕ) (log : Log)
+    → OutlineIsSound o
+    → (j t : ℕ) (xs : List Name)
+    → 0 < length xs
+    → Distinct xs
+    → ((x : Name) → In x xs → (time_of o x ≡ t) × IsHeld o w log (is_rec j) x)
+    → AreChanges o w log (with_names Sent xs log) (records_sent_at j t (length xs))
 
 -- an answer row that is held is sent
 abbrev pub SentRowIsCounted : Type 0
@@ -59,6 +73,17 @@ TakenRecordIsCounted =
     → (waited : Bool)
     → is_pending o log (Group j t k) ≡ waited
     → AreChanges o w log (with_took log (Rec j t k g)) (record_taken_at j t waited)
+
+-- several records are taken, of one stage and time
+abbrev pub TakenRecordsAreCounted : Type 0
+TakenRecordsAreCounted =
+    (o : Outline) (w : ℕ) (log : Log)
+    → OutlineIsSound o
+    → LogIsLegal o w log
+    → (j t : ℕ) (xs : List Name)
+    → 0 < length xs
+    → ((x : Name) → In x xs → (is_rec j x ≡ true) × (time_of o x ≡ t) × IsOwedTo o w x × (has log.took x ≡ false))
+    → AreChanges o w log (with_names Took xs log) (records_taken_at j t (length xs) (new_groups o log xs))
 
 -- an answer row is taken
 abbrev pub TakenRowIsCounted : Type 0

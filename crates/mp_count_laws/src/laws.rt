@@ -1,5 +1,5 @@
 //! The changes of each kind of step, each law the contract of a function that does nothing.
-ghost use Rattle.mp_count_laws.specs.Laws.{AppliedGroupIsCounted, ComingGroupsAreNumbered, IngestedIsCounted, LeavingGroupsAreNumbered, SentControlIsCounted, SentPacketIsCounted, SentRecordIsCounted, SentRowIsCounted, SettledTimeIsCounted, TakenControlIsCounted, TakenPacketIsCounted, TakenRecordIsCounted, TakenRowIsCounted, WrittenTimeIsCounted};
+ghost use Rattle.mp_count_laws.specs.Laws.{AppliedGroupIsCounted, ComingGroupsAreNumbered, IngestedIsCounted, LeavingGroupsAreNumbered, SentControlIsCounted, SentPacketIsCounted, SentRecordIsCounted, SentRecordsAreCounted, SentRowIsCounted, SettledTimeIsCounted, TakenControlIsCounted, TakenPacketIsCounted, TakenRecordIsCounted, TakenRecordsAreCounted, TakenRowIsCounted, WrittenTimeIsCounted};
 ghost use Rattle.mp_count_laws.specs.Samples.{AuctionIsApplied};
 
 /// An event that is ingested is no longer to come; its record is at the router of stage 0.
@@ -11,6 +11,12 @@ pub fn ingested_events_are_counted()
 pub fn records_are_counted()
     ensures sent { SentRecordIsCounted }
     ensures taken { TakenRecordIsCounted }
+{}
+
+/// The same of several records of one stage and time, which are counted together.
+pub fn bundles_are_counted()
+    ensures sent { SentRecordsAreCounted }
+    ensures taken { TakenRecordsAreCounted }
 {}
 
 /// An answer row that is sent is on its way until it is taken.

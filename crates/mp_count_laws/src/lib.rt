@@ -7,7 +7,7 @@
 mod laws;
 
 pub use laws::{
-    a_step_is_there, applied_groups_are_counted, controls_are_counted, ingested_events_are_counted,
-    moved_groups_are_numbered, packets_are_counted, records_are_counted, rows_are_counted,
-    times_are_counted,
+    a_step_is_there, applied_groups_are_counted, bundles_are_counted, controls_are_counted,
+    ingested_events_are_counted, moved_groups_are_numbered, packets_are_counted,
+    records_are_counted, rows_are_counted, times_are_counted,
 };

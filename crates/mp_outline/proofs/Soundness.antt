@@ -134,6 +134,7 @@ module _ {Cell : Type 0} (q : QueryFacts Cell) (stages : HasStages q) (later : P
       record {
         some_worker = legal.shape.some_worker;
         some_stage = omega arith;
+        some_bundle = omega arith;
         controls_fit = controls_in_shape q nothing job legal;
         first_owners_fit = λ j b l m. mod-lt b legal.shape.some_worker;
         bins_fit = λ k. bin_is_inside k job.shape.bins legal.shape.bins;

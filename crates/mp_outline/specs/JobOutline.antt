@@ -3,6 +3,7 @@ use Rattle.std.specs.Prelude.{ℕ, zero, List, [], map, nat_lt, if◌then◌else
 use Rattle.std.specs.Option.{option_map_or}
 use Rattle.mp_names.specs.declared.names.Name.{Name}
 use Rattle.mp_names.specs.declared.names.Name.TheVariants.{Rec as RecName, Row as RowName}
+use Rattle.mp_names.specs.Limits.{most_in_bundle}
 use Rattle.mp_names.specs.Outlines.{Outline}
 use Rattle.mp_bins.specs.Bins.{bin_of_key}
 use Rattle.mp_bins.specs.Notes.{first_owner}
@@ -47,4 +48,5 @@ module _ {Cell : Type 0} where
     records = record_names q job;
     posts = posts_of q job.events;
     rows = row_names q job;
+    bundle = most_in_bundle;
   }

@@ -30,7 +30,7 @@ one_grows Applied x log =
 one_grows Settled x log =
     record { ingested = prefix_refl log.ingested; sent = prefix_refl log.sent; took = prefix_refl log.took; applied = prefix_refl log.applied; settled = (x ∷ [], refl) }
 
-telescoped : (new old more first second third : ℤ) → new ≡ old +ℤ more → old ≡ second -ℤ first → more ≡ third -ℤ second → new ≡ third -ℤ first
+pub telescoped : (new old more first second third : ℤ) → new ≡ old +ℤ more → old ≡ second -ℤ first → more ≡ third -ℤ second → new ≡ third -ℤ first
 telescoped new old more first second third e f g = omega (arith, ints)
 
 fewer : (new old more before size next : ℕ) → new ≤ old + more → more ≤ most_changes → old + most_changes * before ≤ most_changes * size → next ≡ suc size → new + most_changes * before ≤ most_changes * next

@@ -1,5 +1,6 @@
 pub mod Sums
 pub mod Kept
+pub mod Several
 pub mod Controls
 pub mod Nothing
 pub mod Sources

@@ -5,8 +5,10 @@
 
 mod lists;
 mod log;
+mod name_list;
 mod names;
 mod netting;
+mod new_names;
 mod opening;
 mod outlined;
 
@@ -15,5 +17,6 @@ pub use log::Log;
 pub use mp_job::{Job, Query, Time};
 pub use mp_model::Naming;
 pub use mp_names::{Change, Loc, Name, Pointstamp};
+pub use new_names::NewNames;
 pub use opening::opening_entries;
 pub use outlined::{OutlineOf, Outlined};

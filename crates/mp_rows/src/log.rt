@@ -1,17 +1,20 @@
 //! A log with the changes that it hasn't posted.
-ghost use Rattle.std.specs.Prelude.{◌≡◌, ◌==◌, ◌+◌, ◌-◌, ◌^◌, ◌<◌, ◌≤◌, IsOk, OnErr, OnOk, length, max};
+ghost use Rattle.std.specs.Prelude.{◌≡◌, ◌==◌, ◌+◌, ◌-◌, ◌^◌, ◌<◌, ◌≤◌, IsOk, List, OnErr, OnOk, length, map, max};
 ghost use Rattle.mp_names.specs.Laws.{log_size};
 ghost use Rattle.mp_names.specs.Logs.{Log as NamesLog, empty_log};
 ghost use Rattle.mp_names.specs.declared.names.Name.{Name};
 ghost use Rattle.mp_rows.specs.Entries.{AreChanges};
-ghost use Rattle.mp_rows.specs.Lists.{with_name};
+ghost use Rattle.mp_outline.specs.JobOutline.{name_of_record};
+ghost use Rattle.mp_rows.specs.Lists.{with_name, with_names};
 ghost use Rattle.mp_rows.specs.WorkerLog.{IsUnposted};
 
 use crate::Change;
 use crate::lists::LogList;
-use crate::names::{LogNames, no_names, one_more};
+use crate::names::{LogNames, no_names, one_more, several_more};
 use crate::netting::net_all;
+use crate::new_names::NewNames;
 use crate::outlined::Outlined;
+use mp_model::Rec;
 use mp_names::Name;
 use std::alloc::{AllocError, Global};
 use std::marker::{Model, PhantomData};
@@ -124,6 +127,64 @@ impl<O: Outlined> Log<O> {
         Ok(())
     }
 
+    /// Adds the names of records of a stage at the end of a list, at least one. The changes, each location and time once
+    /// and none by 0, are what that adds to the log's contributions. `AllocError`: no memory, and nothing changes; more
+    /// than 2^35 names, or 2^24 changes, count as that.
+    pub fn push_records(
+        &mut self,
+        list: LogList,
+        stage: u32,
+        recs: &[Rec],
+        changes: &[Change],
+    ) -> Result<(), AllocError>
+        requires some { 0 < length recs.now }
+        requires changes { AreChanges O.outline self.old.worker self.old.log
+            (with_names list (map (name_of_record stage) recs.now) self.old.log) changes.now }
+        ensures pushed { OnOk result (self.new ≡ record self.old {
+          log = with_names list (map (name_of_record stage) recs.now) self.old.log;
+          room_for_names = self.old.room_for_names - length recs.now;
+          room_for_changes = self.old.room_for_changes - length changes.now;
+        }) }
+        ensures unchanged { OnErr result (self.new ≡ self.old) }
+        ensures ready { length recs.now ≤ self.old.room_for_names → length changes.now ≤ self.old.room_for_changes → IsOk result }
+    {
+        self.push_all(list, NewNames::of_records(stage, recs), changes)
+    }
+
+    /// Adds names at the end of a list, all at once. The changes, each location and time once and none by 0, are what that
+    /// adds to the log's contributions. `AllocError`: no memory, and nothing changes; more than 2^35 names, or 2^24 changes,
+    /// count as that.
+    pub fn push_all(
+        &mut self,
+        list: LogList,
+        names: NewNames,
+        changes: &[Change],
+    ) -> Result<(), AllocError>
+        requires changes { AreChanges O.outline self.old.worker self.old.log (with_names list names self.old.log) changes.now }
+        ensures pushed { OnOk result (self.new ≡ record self.old {
+          log = with_names list names self.old.log;
+          room_for_names = self.old.room_for_names - length names;
+          room_for_changes = self.old.room_for_changes - length changes.now;
+        }) }
+        ensures unchanged { OnErr result (self.new ≡ self.old) }
+        ensures ready { length names ≤ self.old.room_for_names → length changes.now ≤ self.old.room_for_changes → IsOk result }
+    {
+        let count = names.count();
+        if count > MOST_NAMES - self.size || changes.len() as u64 > MOST_CHANGES {
+            return Err(AllocError);
+        }
+        self.changes.reserve(changes.len())?;
+        net_all(&mut self.changes, changes);
+        let before = mem::replace(&mut self.names, no_names());
+        self.names = several_more(before, list, names);
+        self.size += count;
+        self.ingested = ingested_with(self.ingested, list, count);
+        self.applied = applied_with(self.applied, list, count);
+        self.room_for_names = self.room_for_names.saturating_sub(count);
+        self.room_for_changes = self.room_for_changes.saturating_sub(changes.len() as u64);
+        Ok(())
+    }
+
     /// Makes room: the next `n` pushes with `n` changes in all then answer `Ok`. `AllocError`: no memory, and nothing
     /// changes; a number past what a log may have counts as that.
     pub fn make_room(&mut self, n: u64) -> Result<(), AllocError>
@@ -206,6 +267,30 @@ fn applied_after(applied: u64, list: LogList) -> u64
 {
     match list {
         LogList::Applied => applied + 1,
+        LogList::Ingested | LogList::Sent | LogList::Took | LogList::Settled => applied,
+    }
+}
+
+// How many names the list of ingested records has after so many more in this list.
+fn ingested_with(ingested: u64, list: LogList, count: u64) -> u64
+    requires { ingested + count < 2 ^ 64 }
+    ensures { (xs : List Name) (log : NamesLog) → ingested ≡ length log.ingested → count ≡ length xs
+        → result ≡ length (with_names list xs log).ingested }
+{
+    match list {
+        LogList::Ingested => ingested + count,
+        LogList::Sent | LogList::Took | LogList::Applied | LogList::Settled => ingested,
+    }
+}
+
+// How many names the list of applied groups has after so many more in this list.
+fn applied_with(applied: u64, list: LogList, count: u64) -> u64
+    requires { applied + count < 2 ^ 64 }
+    ensures { (xs : List Name) (log : NamesLog) → applied ≡ length log.applied → count ≡ length xs
+        → result ≡ length (with_names list xs log).applied }
+{
+    match list {
+        LogList::Applied => applied + count,
         LogList::Ingested | LogList::Sent | LogList::Took | LogList::Settled => applied,
     }
 }
