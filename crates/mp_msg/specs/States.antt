@@ -1,5 +1,6 @@
 -- What a bin has, and what it has just before a time.
 use Rattle.std.specs.Prelude.{◌≡◌, ◌≢◌, ◌↔◌, ◌<◌, ◌≤◌, ℕ, ◌==◌, cond, true, List, [], ◌∷◌, Contains, map}
+use Rattle.std.specs.BTreeMap.{insert_entry}
 use Rattle.std.specs.List.Sorted.{IsStrictlySortedBy}
 use Rattle.std.specs.Ordering.{nat_cmp}
 use Rattle.mp_names.specs.declared.names.Name.TheVariants.{Rec}
@@ -17,6 +18,11 @@ use Rattle.mp_postdated.specs.Wakes.{Has, IsAscending}
 pub record BinContent (Cell : Type 0) : Type 0 where
   pub cells : List (ℕ × Cell)
   pub wakes : List (ℕ × ℕ)
+
+-- the cells of a list by key, of each key the first
+abbrev pub by_key : {Cell : Type 0} → List (ℕ × Cell) → List (ℕ × Cell)
+by_key [] = []
+by_key (p ∷ ps) = insert_entry nat_cmp (by_key ps) p.0 p.1
 
 -- cells and wakes stand in their order, each key with one cell and each wake once
 pub record IsInOrder {Cell : Type 0} (s : BinContent Cell) : Type 0 where

@@ -1,10 +1,13 @@
 //! What names tell of the messages of every job of a query, each law the contract of a function that does nothing.
-ghost use Rattle.std.specs.Prelude.{◌≡◌, [], ◌∷◌};
+ghost use Rattle.std.specs.Prelude.{◌≡◌, List};
 ghost use Rattle.mp_names.specs.declared.names.Name.{Name};
+ghost use Rattle.mp_names.specs.Names.{In};
 ghost use Rattle.mp_names.specs.Outlines.{IsOwed, IsOwedBy, IsOwedTo};
+ghost use Rattle.mp_machine.specs.Messages.{IsMessage};
 ghost use Rattle.mp_model.specs.Facts.{JobFacts};
 ghost use Rattle.mp_outline.specs.JobOutline.{outline_of};
-ghost use Rattle.mp_msg.specs.Laws.{BodiesFollowNames, ControlsAreOwed, OwedRecordsAreThere, PacketsAreOwed, RecordsAreOwed, RecordsFollowNames, RowsAreOwed, RowsFollowNames, StatesFollowNames};
+ghost use Rattle.mp_msg.specs.Bundles.{HasOneSender};
+ghost use Rattle.mp_msg.specs.Laws.{BodiesAreMessages, BodiesFollowNames, BundlesFollowNames, ControlsAreOwed, OwedRecordsAreThere, PacketsAreOwed, RecordsAreOwed, RecordsFollowNames, RowsAreOwed, RowsFollowNames, StatesFollowNames};
 
 use crate::Msg;
 use mp_mailbox::Named;
@@ -20,20 +23,26 @@ pub fn messages_are_owed<Q: Query>()
     ensures there { (job : JobFacts) → OwedRecordsAreThere (Q.facts job.rules) job }
 {}
 
-/// Two messages of a job with one name hold the same, so one that a full mailbox hands back holds what it held.
+/// Two messages of a job with the same names hold the same, so one that a full mailbox hands back holds what it held.
 pub fn names_tell_contents<Q: Query>()
     ensures records { (job : JobFacts) → RecordsFollowNames (Q.facts job.rules) job }
+    ensures bundles { (job : JobFacts) → BundlesFollowNames (Q.facts job.rules) job }
     ensures rows { (job : JobFacts) → RowsFollowNames (Q.facts job.rules) job }
     ensures states { (job : JobFacts) → StatesFollowNames (Q.facts job.rules) job }
     ensures bodies { (job : JobFacts) → BodiesFollowNames (Q.facts job.rules) job }
 {}
 
-/// A message is called by one name. Where that has to be sent, the worker that the message goes from is the one that has
-/// to send it, and the worker that it goes to has to take it.
+/// What a message holds is called by the names of one message, which one worker sends, and each of them has to be sent.
+pub fn contents_are_messages<Q: Query>()
+    ensures { (job : JobFacts) → BodiesAreMessages (Q.facts job.rules) job }
+{}
+
+/// A message is called by its names. The worker that it goes from is the one that has to send them, and the worker that it
+/// goes to has to take them.
 pub fn messages_go_where_they_are_owed<Q: Query, J: Naming>()
-    ensures name { (m : Name) → ⟦<Msg<Q, J> as Named>⟧.names m ≡ m ∷ [] }
+    ensures names { (m : List Name) → ⟦<Msg<Q, J> as Named>⟧.names m ≡ m }
     ensures from { let o = outline_of (Q.facts J.job.rules) J.job in
-        (m : Name) → IsOwed o m → IsOwedBy o (⟦<Msg<Q, J> as Named>⟧.from m) m }
+        (m : List Name) (x : Name) → HasOneSender o m → In x m → IsOwed o x → IsOwedBy o (⟦<Msg<Q, J> as Named>⟧.from m) x }
     ensures to { let o = outline_of (Q.facts J.job.rules) J.job in
-        (m : Name) → IsOwed o m → IsOwedTo o (⟦<Msg<Q, J> as Named>⟧.to m) m }
+        (m : List Name) (x : Name) → IsMessage o m → In x m → IsOwed o x → IsOwedTo o (⟦<Msg<Q, J> as Named>⟧.to m) x }
 {}

@@ -1,13 +1,18 @@
 //! A message and what it holds.
-ghost use Rattle.std.specs.Prelude.{◌≡◌};
+ghost use Rattle.std.specs.Prelude.{◌≡◌, [], ◌∷◌, Some, length, slice_get};
+ghost use Rattle.mp_names.specs.declared.names.Name.{Name};
 ghost use Rattle.mp_names.specs.declared.names.Name.TheVariants.{Ctrl as CtrlName, Packet as PacketName, Row as RowName};
-ghost use Rattle.mp_outline.specs.JobOutline.{name_of_record};
-ghost use Rattle.mp_msg.specs.Bodies.{IsContentOf, name_of_body};
-ghost use Rattle.mp_msg.specs.Contents.{IsControlOf, IsPacketOf, IsRecordOf, IsRowOf};
+ghost use Rattle.mp_names.specs.Names.{In};
+ghost use Rattle.mp_names.specs.Outlines.{IsOwed};
+ghost use Rattle.mp_machine.specs.Messages.{IsMessage};
+ghost use Rattle.mp_outline.specs.JobOutline.{outline_of};
+ghost use Rattle.mp_msg.specs.Bodies.{IsContentOf, names_of_body};
+ghost use Rattle.mp_msg.specs.Bundles.{HasOneSender, IsBundle, names_in};
+ghost use Rattle.mp_msg.specs.Contents.{IsControlOf, IsPacketOf, IsRowOf};
 
-use crate::BinState;
+use crate::{BinState, Bundle, Names};
 use mp_mailbox::Named;
-use mp_model::{Fields, Naming, Query, Rec, Time};
+use mp_model::{Fields, Naming, Query, Time};
 use mp_names::{Control, Name, Tag};
 use std::marker::{Model, PhantomData};
 
@@ -20,11 +25,8 @@ pub enum Body<C: Drop> {
         to: u32,
         control: Control,
     },
-    /// A record of a stage.
-    Rec {
-        stage: u32,
-        rec: Rec,
-    },
+    /// Records of a stage.
+    Recs(Bundle),
     /// What a bin of a stage has just before it moves at this time.
     Packet {
         stage: u32,
@@ -40,7 +42,7 @@ pub enum Body<C: Drop> {
     },
 }
 
-/// A message of the job J of the query Q. Contracts see its name.
+/// A message of the job J of the query Q. Contracts see its names.
 #[derive(Drop)]
 pub struct Msg<Q: Query, J: Naming> {
     body: Body<Q::Cell>,
@@ -48,35 +50,35 @@ pub struct Msg<Q: Query, J: Naming> {
 }
 
 impl<Q: Query, J: Naming> Model for Msg<Q, J> {
+    ghost use Rattle.std.specs.Prelude.{List};
     ghost use Rattle.mp_names.specs.declared.names.Name.{Name};
-    ghost use Rattle.mp_msg.specs.Bodies.{IsContentOf, name_of_body};
+    ghost use Rattle.mp_msg.specs.Bodies.{IsContentOf, names_of_body};
 
-    ghost Value = { Name };
+    ghost Value = { List Name };
 
-    ghost view = { λ m. name_of_body m.body };
+    ghost view = { λ m. names_of_body m.body };
 
     ghost invariant = { λ m. IsContentOf (Q.facts J.job.rules) J.job m.body };
 }
 
 impl<Q: Query, J: Naming> Named for Msg<Q, J> {
-    ghost use Rattle.std.specs.Prelude.{[], ◌∷◌};
-    ghost use Rattle.mp_names.specs.Outlines.{receiver, sender};
     ghost use Rattle.mp_outline.specs.JobOutline.{outline_of};
+    ghost use Rattle.mp_msg.specs.Bundles.{receiver_of, sender_of};
 
     type Name = Name;
 
-    ghost names = { λ m. m ∷ [] };
+    ghost names = { λ m. m };
 
-    ghost from = { λ m. sender (outline_of (Q.facts J.job.rules) J.job) m };
+    ghost from = { λ m. sender_of (outline_of (Q.facts J.job.rules) J.job) m };
 
-    ghost to = { λ m. receiver (outline_of (Q.facts J.job.rules) J.job) m };
+    ghost to = { λ m. receiver_of (outline_of (Q.facts J.job.rules) J.job) m };
 }
 
 impl<Q: Query, J: Naming> Msg<Q, J> {
     /// A message that takes the control record at an index of the job's list to a worker.
     pub fn control(index: u32, to: u32, control: Control) -> Msg<Q, J>
         requires { IsControlOf J.job index to control }
-        ensures { result ≡ CtrlName index to }
+        ensures { result ≡ CtrlName index to ∷ [] }
     {
         Msg {
             body: Body::Ctrl { index, to, control },
@@ -87,7 +89,7 @@ impl<Q: Query, J: Naming> Msg<Q, J> {
     /// A message that takes what a bin has just before a move to its new owner.
     pub fn packet(stage: u32, bin: u32, time: Time, state: BinState<Q::Cell>) -> Msg<Q, J>
         requires { IsPacketOf (Q.facts J.job.rules) J.job stage bin time state }
-        ensures { result ≡ PacketName stage bin time }
+        ensures { result ≡ PacketName stage bin time ∷ [] }
     {
         Msg {
             body: Body::Packet {
@@ -100,13 +102,13 @@ impl<Q: Query, J: Naming> Msg<Q, J> {
         }
     }
 
-    /// A message that holds a record of this stage of the job.
-    pub fn rec(stage: u32, rec: Rec) -> Msg<Q, J>
-        requires { IsRecordOf (Q.facts J.job.rules) J.job stage rec }
-        ensures { result ≡ name_of_record stage rec }
+    /// A message that holds records of the job.
+    pub fn records(bundle: Bundle) -> Msg<Q, J>
+        requires { IsBundle (Q.facts J.job.rules) J.job bundle }
+        ensures { result ≡ names_in bundle }
     {
         Msg {
-            body: Body::Rec { stage, rec },
+            body: Body::Recs(bundle),
             of: PhantomData,
         }
     }
@@ -114,7 +116,7 @@ impl<Q: Query, J: Naming> Msg<Q, J> {
     /// A message that holds the answer row of this time and tag.
     pub fn row(time: Time, tag: Tag, fields: Fields) -> Msg<Q, J>
         requires { IsRowOf (Q.facts J.job.rules) J.job time tag fields }
-        ensures { result ≡ RowName time tag }
+        ensures { result ≡ RowName time tag ∷ [] }
     {
         Msg {
             body: Body::Row { time, tag, fields },
@@ -122,11 +124,17 @@ impl<Q: Query, J: Naming> Msg<Q, J> {
         }
     }
 
-    /// What the message is called in the workers' logs.
-    pub fn name(&self) -> Name
-        ensures { result ≡ self.now }
+    /// What the message is called in the workers' logs. Its names are those of one message, which one worker sends, and
+    /// each has to be sent.
+    pub fn names(&self) -> Names
+        ensures first { slice_get self.now 0 ≡ Some result.first }
+        ensures count { result.count ≡ length self.now }
+        ensures message { IsMessage (outline_of (Q.facts J.job.rules) J.job) self.now }
+        ensures sender { HasOneSender (outline_of (Q.facts J.job.rules) J.job) self.now }
+        ensures owed { (x : Name) → In x self.now → IsOwed (outline_of (Q.facts J.job.rules) J.job) x }
     {
-        match &self.body {
+        let first = match &self.body {
+            Body::Recs(bundle) => return bundle.names(),
             Body::Ctrl { index, to, .. } => Name::Ctrl {
                 index: *index,
                 to: *to,
@@ -141,22 +149,17 @@ impl<Q: Query, J: Naming> Msg<Q, J> {
                 bin: *bin,
                 time: *time,
             },
-            Body::Rec { stage, rec } => Name::Rec {
-                stage: *stage,
-                time: rec.time,
-                key: rec.key,
-                tag: rec.tag,
-            },
             Body::Row { time, tag, .. } => Name::Row {
                 time: *time,
                 tag: *tag,
             },
-        }
+        };
+        Names { first, count: 1 }
     }
 
-    /// What it holds: of the job, and under the message's name.
+    /// What it holds: of the job, and under the message's names.
     pub fn into_body(self) -> Body<Q::Cell>
-        ensures name { name_of_body result ≡ self }
+        ensures names { names_of_body result ≡ self }
         ensures content { IsContentOf (Q.facts J.job.rules) J.job result }
     {
         let Msg { body, of: _ } = self;

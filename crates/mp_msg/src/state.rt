@@ -1,29 +1,29 @@
 //! What a bin has.
 ghost use Rattle.std.specs.Prelude.{◌≡◌, []};
 
+use indexmap::IndexMap;
 use mp_postdated::Wakes;
 use std::alloc::Global;
-use std::collections::BTreeMap;
 use std::marker::Model;
 
-/// The state of a bin of a stage: the cells of its keys, by key, and the wakes of its keys. A key that has no cell has a
-/// fresh one. Contracts see the cells and the wakes as lists.
+/// The state of a bin of a stage: the cells of its keys and the wakes of its keys. A key that has no cell has a fresh one.
+/// Contracts see the cells by key, and the wakes by time and then by key.
 #[derive(Drop)]
 pub struct BinState<C: Drop> {
-    /// By key; none of them is fresh.
-    pub cells: BTreeMap<u64, C>,
-    /// By time, then by key.
+    /// None of them is fresh.
+    pub cells: IndexMap<u64, C>,
+    /// The times at which its keys are to be woken.
     pub wakes: Wakes,
 }
 
 impl<C: Drop> Model for BinState<C> {
-    ghost use Rattle.mp_msg.specs.States.{BinContent, IsInOrder};
+    ghost use Rattle.mp_msg.specs.States.{BinContent, IsInOrder, by_key};
 
     ghost Value = { BinContent C };
 
-    ghost view = { λ s. record { cells = s.cells.entries; wakes = s.wakes } };
+    ghost view = { λ s. record { cells = by_key s.cells.entries; wakes = s.wakes.wakes } };
 
-    ghost invariant = { λ s. IsInOrder (record { cells = s.cells.entries; wakes = s.wakes }) };
+    ghost invariant = { λ s. IsInOrder (record { cells = by_key s.cells.entries; wakes = s.wakes.wakes }) };
 }
 
 impl<C: Drop> BinState<C> {
@@ -33,7 +33,7 @@ impl<C: Drop> BinState<C> {
         ensures wakes { result.wakes ≡ [] }
     {
         BinState {
-            cells: BTreeMap::new(alloc),
+            cells: IndexMap::new(alloc),
             wakes: Wakes::new(alloc),
         }
     }

@@ -32,7 +32,7 @@ count_named f p q (x ∷ xs) h =
     omega arith
 
 -- a record that has to be sent is listed
-owed_listed : (o : Outline) (j : ℕ) (x : Name) → is_rec j x ≡ true → IsOwed o x → In x (o.records j)
+pub owed_listed : (o : Outline) (j : ℕ) (x : Name) → is_rec j x ≡ true → IsOwed o x → In x (o.records j)
 owed_listed o j (RecName i t k g) e h = subst (λ (n : ℕ). In (RecName i t k g) (o.records n)) (eqb-true i j e) h.1
 owed_listed o j (Ctrl i v) e h = absurd (false≢true e)
 owed_listed o j (Packet i b t) e h = absurd (false≢true e)
@@ -55,7 +55,7 @@ under_true false c e = absurd (false≢true e)
 
 module _ {Cell : Type 0} (q : QueryFacts Cell) (job : JobFacts) where
   -- a name that is listed is that of a record, which has to be sent
-  listed_owed : (j : ℕ) (x : Name) → In x (record_names q job j) → (is_rec j x ≡ true) × IsOwed (outline_of q job) x
+  pub listed_owed : (j : ℕ) (x : Name) → In x (record_names q job j) → (is_rec j x ≡ true) × IsOwed (outline_of q job) x
   listed_owed j x i =
       let a = record_named q job j x i in
       subst (λ (y : Name). (is_rec j y ≡ true) × IsOwed (outline_of q job) y) a.2 (eq-eqb j j refl, (a.3, subst (λ (y : Name). In y (record_names q job j)) (sym a.2) i))

@@ -1,6 +1,6 @@
 -- The first record held is the least that is unsent by the log.
 use Rattle.std.proofs.Common.{◌≡◌, ◌⊎◌, ℕ, ◌<◌, IsTrue, true, false, List, [], ◌∷◌, All, Contains, get_or, map, refl, sym, ap, subst, inl, inr, ⊎_elim, arith}
-use Rattle.std.specs.Prelude.{Some, slice_get}
+use Rattle.std.specs.Prelude.{IsSomeAnd, Some, slice_get}
 use Rattle.std.proofs.lemmas.Bool.{both_ways, false≢true, false_from_ne_true}
 use Rattle.std.proofs.lemmas.List.Elements.{All-contains, All-head, Contains-get_or}
 use Rattle.std.proofs.lemmas.Option.{none-some, same_Some}
@@ -65,7 +65,7 @@ none_before_first r rest order s i =
 
 module _ {Cell : Type 0} (q : QueryFacts Cell) (job : JobFacts) where
   -- of two records of a stage the name of the one that isn't before isn't less
-  not_less : (j : ℕ) (s r : Rec) → IsRecordOf q job j s → IsRecordOf q job j r → is_before (tag_rank s) (tag_rank r) ≡ false → Less (name_of_record j s) (name_of_record j r) → ⊥
+  pub not_less : (j : ℕ) (s r : Rec) → IsRecordOf q job j s → IsRecordOf q job j r → is_before (tag_rank s) (tag_rank r) ≡ false → Less (name_of_record j s) (name_of_record j r) → ⊥
   not_less j s r a b n h =
       ⊎_elim
       (λ (e : IsBefore (tag_rank s) (tag_rank r)). both_ways (is_before (tag_rank s) (tag_rank r)) n (is_before-from (tag_rank s) (tag_rank r) e))
@@ -91,7 +91,7 @@ module _ {Cell : Type 0} (q : QueryFacts Cell) (job : JobFacts) where
     only_first_may_go seen x m = subst (λ (y : Name). HasPassed (seen_at seen CtlMail) (time_of (outline_of q job) y)) (least_unique (IsUnsent q job w log j) x (name_of_record j r) m.0 first_least) m.1
 
 -- the first of a list
-starts : (xs : List Rec) (r : Rec) → slice_get xs 0 ≡ Some r → (rest : List Rec) × (r ∷ rest ≡ xs)
+pub starts : (xs : List Rec) (r : Rec) → slice_get xs 0 ≡ Some r → (rest : List Rec) × (r ∷ rest ≡ xs)
 starts [] r e = absurd (none-some r e)
 starts (x ∷ xs) r e = (xs, ap (λ (y : Rec). y ∷ xs) (sym (same_Some x r e)))
 
@@ -125,3 +125,7 @@ module _ (seen : Seen) (f : Frontier) (t : ℕ) (e : f ≡ seen_at seen CtlMail)
 
   pub not_passed : (HasPassed f t → IsTrue false) → HasPassed (seen_at seen CtlMail) t → ⊥
   not_passed h p = false≢true (h (subst (λ (g : Frontier). HasPassed g t) (sym e) p))
+
+-- what holds of the first record and its name
+pub first_is : (items : List Rec) (r : Rec) (x : Name) (j : ℕ) → slice_get items 0 ≡ Some r → (P : Rec → Type 0) → IsSomeAnd (slice_get items 0) (λ s. (name_of_record j s ≡ x) × P s) → (name_of_record j r ≡ x) × P r
+first_is items r x j first P h = subst (λ o. IsSomeAnd o (λ s. (name_of_record j s ≡ x) × P s)) first h

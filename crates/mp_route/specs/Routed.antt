@@ -1,5 +1,5 @@
 -- What contracts see of a router, and which of its records is free to go.
-use Rattle.std.specs.Prelude.{◌≡◌, ℕ, ◌+◌, ◌==◌, false, List, [], ◌∷◌, All, IsSomeAnd, count_by, slice_get}
+use Rattle.std.specs.Prelude.{◌≡◌, ℕ, ◌==◌, false, List, [], ◌∷◌, All, IsSomeAnd, count_by, slice_get}
 use Rattle.mp_names.specs.declared.locations.Loc.TheVariants.{CtlMail}
 use Rattle.mp_names.specs.declared.names.Name.{Name}
 use Rattle.mp_names.specs.Frontiers.{HasPassed}
@@ -7,7 +7,6 @@ use Rattle.mp_names.specs.Names.{is_before}
 use Rattle.mp_stamps.specs.declared.seen.Seen.{Seen}
 use Rattle.mp_stamps.specs.Seen.{seen_at}
 use Rattle.mp_model.specs.declared.record.Rec.{Rec}
-use Rattle.mp_ordered.specs.InOrder.{put_in_order}
 use Rattle.mp_outline.specs.JobOutline.{name_of_record}
 
 -- the stage; the records held, by time and tag; and how many more there is room for
@@ -35,10 +34,3 @@ IsLeastHeld h x = IsFirstAnd h x (λ r. All (λ s. is_before (tag_rank s) (tag_r
 -- how many records of a time are held
 abbrev pub held_at : Routed → ℕ → ℕ
 held_at h t = count_by (λ r. r.time == t) h.held
-
--- The record was the first one held, and is gone; put back at its place it would be the first again
-pub record GivesUp (old : Routed) (r : Rec) (new : Routed) : Type 0 where
-  pub first : old.held ≡ r ∷ new.held
-  pub back : put_in_order tag_rank r new.held ≡ old.held
-  pub stage : new.stage ≡ old.stage
-  pub room : new.room ≡ old.room + 1

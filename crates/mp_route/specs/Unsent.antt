@@ -6,12 +6,17 @@ use Rattle.mp_names.specs.Frontiers.{HasPassed}
 use Rattle.mp_names.specs.Keeping.{IsHeld}
 use Rattle.mp_names.specs.Logs.{Log}
 use Rattle.mp_names.specs.Names.{Distinct, In, IsLeast, is_rec}
-use Rattle.mp_names.specs.Outlines.{time_of}
+use Rattle.mp_names.specs.Outlines.{owner_at, time_of}
+use Rattle.mp_bins.specs.Notes.{Notes, owner_at as noted_owner}
 use Rattle.mp_stamps.specs.declared.seen.Seen.{Seen}
 use Rattle.mp_stamps.specs.Seen.{seen_at}
 use Rattle.mp_model.specs.Facts.{JobFacts, QueryFacts}
 use Rattle.mp_outline.specs.JobOutline.{name_of_record, outline_of}
 use Rattle.mp_route.specs.Routed.{Routed}
+
+-- the log with these names sent
+abbrev pub with_all_sent : Log → List Name → Log
+with_all_sent log xs = record log { sent = log.sent ++ xs }
 
 -- the names of the records held
 abbrev pub names_held : Routed → List Name
@@ -39,3 +44,9 @@ module _ {Cell : Type 0} (q : QueryFacts Cell) (job : JobFacts) (w : ℕ) where
   -- the name is the least that is unsent by the log, and the frontier of control records on their way that was seen has passed its time
   abbrev pub MayGo : Log → ℕ → Seen → Name → Type 0
   MayGo log j seen x = IsLeast (IsUnsent log j) x × HasPassed (seen_at seen CtlMail) (time_of (outline_of q job) x)
+
+module _ {Cell : Type 0} (q : QueryFacts Cell) (job : JobFacts) where
+  -- every control record whose time the frontier of control records on their way has passed is noted: up to there the owners are the job's
+  pub record OwnersAreKnown (notes : Notes) (seen : Seen) (stage : ℕ) : Type 0 where
+    pub shape : notes.shape ≡ job.shape
+    pub owners : (t b : ℕ) → HasPassed (seen_at seen CtlMail) t → noted_owner notes stage b t ≡ owner_at (outline_of q job) stage b t

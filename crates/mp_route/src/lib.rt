@@ -4,6 +4,7 @@
 //! they are once every control record that decides who owns them has come.
 #![tactic(auto)]
 
+mod along;
 mod by_tag;
 mod laws;
 mod router;

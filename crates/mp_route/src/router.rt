@@ -1,15 +1,21 @@
 //! The records that a worker has to send on.
-ghost use Rattle.std.specs.Prelude.{◌≡◌, ◌≤◌, ◌<◌, ◌+◌, ◌∷◌, [], ℕ, List, IfSome, IfNone, IsOk, OnErr, OnOk};
+ghost use Rattle.std.specs.Prelude.{◌≡◌, ◌≤◌, ◌<◌, ◌+◌, ◌++◌, ◌∷◌, [], ℕ, All, List, IfSome, IfNone, IsOk, OnErr, OnOk, length};
 ghost use Rattle.mp_names.specs.declared.names.Name.{Name};
-ghost use Rattle.mp_names.specs.Logs.{Log, empty_log, with_sent};
+ghost use Rattle.mp_names.specs.Logs.{Log, LogIsLegal, empty_log};
+ghost use Rattle.mp_bins.specs.Bins.{IsBinCount};
 ghost use Rattle.mp_ordered.specs.InOrder.{IsInOrder, put_in_order};
-ghost use Rattle.mp_outline.specs.JobOutline.{name_of_record};
+ghost use Rattle.mp_outline.specs.JobOutline.{name_of_record, outline_of};
+ghost use Rattle.mp_msg.specs.Bundles.{IsBundle, names_in};
 ghost use Rattle.mp_msg.specs.Contents.{IsRecordOf};
-ghost use Rattle.mp_route.specs.Routed.{GivesUp, IsFree, IsLeastHeld, tag_rank};
-ghost use Rattle.mp_route.specs.Unsent.{HoldsAllBut, HoldsOneMore, HoldsUnsent, MayGo};
+ghost use Rattle.mp_route.specs.Routed.{IsFree, IsLeastHeld, tag_rank};
+ghost use Rattle.mp_route.specs.Sending.{IfNoneSent, IfSent, IsBundleOf};
+ghost use Rattle.mp_route.specs.Unsent.{HoldsAllBut, HoldsOneMore, HoldsUnsent, MayGo, OwnersAreKnown, with_all_sent};
 
+use crate::along::{along_with, take_along};
 use crate::by_tag::ByTag;
+use mp_bins::Owners;
 use mp_model::{Naming, Query, Rec};
+use mp_msg::Bundle;
 use mp_names::{Loc, Name};
 use mp_ordered::OrderedBlocks;
 use mp_stamps::{Seen, passed};
@@ -108,24 +114,64 @@ impl<Q: Query, J: Naming> Router<Q, J> {
         })
     }
 
-    /// Gives up the record whose name is `next_free`, and `None` exactly where that is. It leaves its room, so `hold`
-    /// takes it back to its place.
-    pub fn send_one(&mut self, seen: &Seen) -> Option<Rec>
-        ensures some { IfSome result (λ r. GivesUp self.old r self.new) }
-        ensures free { IfSome result (λ r. IsFree self.old seen.now (name_of_record self.old.stage r)) }
-        ensures content { IfSome result (λ r. IsRecordOf (Q.facts J.job.rules) J.job self.old.stage r) }
-        ensures none { IfNone result ((x : Name) → IsFree self.old seen.now x → ⊥) }
-        ensures unchanged { IfNone result (self.new ≡ self.old) }
-        ensures may_go { IfSome result (λ r. (w : ℕ) (log : Log) → let q = Q.facts J.job.rules in
+    /// Gives up the record whose name is `next_free`, and `None` exactly where that is. With it go the held records of its
+    /// time whose bin has the same owner, in the order of tags, the first 64 in all. Held records of that time with another
+    /// owner are looked at and stay. The bundle leaves its room, so `give_back` takes it back. `AllocError`: no memory, and
+    /// nothing changes.
+    pub fn send_some(
+        &mut self,
+        alloc: Global,
+        seen: &Seen,
+        owners: &Owners,
+        bins: u32,
+    ) -> Result<Option<Bundle>, AllocError>
+        requires bins { IsBinCount bins × (bins ≡ J.job.shape.bins) }
+        requires owners { OwnersAreKnown (Q.facts J.job.rules) J.job owners.now seen.now self.old.stage }
+        requires held { let q = Q.facts J.job.rules in
+            (w : ℕ) × (log : Log) × LogIsLegal (outline_of q J.job) w log × HoldsUnsent q J.job w log self.old }
+        ensures content { IfSent result (λ b. IsBundle (Q.facts J.job.rules) J.job b) }
+        ensures stage { IfSent result (λ b. b.stage ≡ self.old.stage) }
+        ensures may_go { IfSent result (λ b. (w : ℕ) (log : Log) → let q = Q.facts J.job.rules in
             HoldsUnsent q J.job w log self.old
-            → MayGo q J.job w log self.old.stage seen.now (name_of_record self.old.stage r)) }
-        ensures unsent { IfSome result (λ r. (w : ℕ) (log : Log) → let q = Q.facts J.job.rules in
-            HoldsUnsent q J.job w log self.old
-            → HoldsUnsent q J.job w (with_sent log (name_of_record self.old.stage r)) self.new) }
-        ensures none_may { IfNone result ((w : ℕ) (log : Log) (x : Name) → let q = Q.facts J.job.rules in
+            → (x : Name) × IsBundleOf q J.job w log self.old.stage x b × MayGo q J.job w log self.old.stage seen.now x) }
+        ensures all_but { IfSent result (λ b. (w : ℕ) (log : Log) → let q = Q.facts J.job.rules in
+            HoldsUnsent q J.job w log self.old → HoldsAllBut q J.job w log (names_in b) self.new) }
+        ensures unsent { IfSent result (λ b. (w : ℕ) (log : Log) → let q = Q.facts J.job.rules in
+            HoldsUnsent q J.job w log self.old → HoldsUnsent q J.job w (with_all_sent log (names_in b)) self.new) }
+        ensures room { IfSent result (λ b. self.old.room + length b.recs ≤ self.new.room) }
+        ensures same_stage { self.new.stage ≡ self.old.stage }
+        ensures none { IfNoneSent result ((x : Name) → IsFree self.old seen.now x → ⊥) }
+        ensures none_may { IfNoneSent result ((w : ℕ) (log : Log) (x : Name) → let q = Q.facts J.job.rules in
             HoldsUnsent q J.job w log self.old → MayGo q J.job w log self.old.stage seen.now x → ⊥) }
+        ensures unchanged { IfNoneSent result (self.new ≡ self.old) }
+        ensures refused { OnErr result (self.new ≡ self.old) }
     {
-        self.next_free(seen)?;
-        self.held.pop_first()
+        let Some(_name) = self.next_free(seen) else {
+            return Ok(None);
+        };
+        let Some(first) = self.held.first() else {
+            unreachable!()
+        };
+        let along = along_with(first, self.stage, owners, bins);
+        let recs = take_along(&mut self.held, alloc, owners, along)?;
+        Ok(Some(Bundle::new(self.stage, recs)))
+    }
+
+    /// Takes back a bundle that this router gave up, for which it has room. Takes no memory.
+    pub fn give_back(&mut self, bundle: Bundle)
+        requires content { All (IsRecordOf (Q.facts J.job.rules) J.job self.old.stage) bundle.recs }
+        requires stage { bundle.stage ≡ self.old.stage }
+        requires room { length bundle.recs ≤ self.old.room }
+        ensures in_turn { (w : ℕ) (log : Log) (rest : List Name) → let q = Q.facts J.job.rules in
+            HoldsAllBut q J.job w log (names_in bundle ++ rest) self.old → HoldsAllBut q J.job w log rest self.new }
+        ensures stage { self.new.stage ≡ self.old.stage }
+        ensures room { self.old.room ≤ self.new.room + length bundle.recs }
+    {
+        let mut recs = bundle.into_recs();
+        while let Some(rec) = recs.pop() {
+            let Ok(()) = self.hold(rec) else {
+                unreachable!()
+            };
+        }
     }
 }

@@ -1,5 +1,5 @@
 //! Jobs of the tests' query.
-ghost use Rattle.std.specs.Prelude.{◌≡◌, ◌≤◌, IfOk, length};
+ghost use Rattle.std.specs.Prelude.{◌≡◌, ◌≤◌, [], IfOk, length};
 ghost use Rattle.mp_names.specs.Limits.{most_controls, most_events};
 ghost use Rattle.mp_job.specs.Legal.{ShapeIsLegal};
 ghost use Rattle.mp_samples.specs.Jobs.{one_move, three_workers};
@@ -24,7 +24,8 @@ pub fn job_of_bids(
     requires times { length times.now ≤ most_events }
     requires shape { ShapeIsLegal shape }
     requires stages { shape.stages ≡ 1 }
-    ensures { IfOk result (λ job. job.shape ≡ shape) }
+    ensures shape { IfOk result (λ job. job.shape ≡ shape) }
+    ensures controls { IfOk result (λ job. job.controls ≡ []) }
 {
     let events = bids_at(alloc, times)?;
     Job::new(alloc, WakingBids {}, events, Vec::new(alloc), shape)

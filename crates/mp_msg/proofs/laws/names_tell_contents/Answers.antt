@@ -1,5 +1,5 @@
 use Rattle.mp_msg.proofs.States.{states_follow_names}
-use Rattle.mp_msg.proofs.Telling.{bodies_follow_names, records_follow_names, rows_follow_names}
+use Rattle.mp_msg.proofs.Telling.{bodies_follow_names, bundles_follow_names, records_follow_names, rows_follow_names}
 use Rattle.mp_msg.proofs.laws.names_tell_contents.Goals as goal
 
 pub returns-clause-records : goal.returns-clause-records
@@ -13,3 +13,6 @@ returns-clause-states g c = λ job. states_follow_names (g.Q.Query.facts job.rul
 
 pub returns-clause-bodies : goal.returns-clause-bodies
 returns-clause-bodies g c = λ job. bodies_follow_names (g.Q.Query.facts job.rules) job
+
+pub returns-clause-bundles : goal.returns-clause-bundles
+returns-clause-bundles g c = λ job. bundles_follow_names (g.Q.Query.facts job.rules) job

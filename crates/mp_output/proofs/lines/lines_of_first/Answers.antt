@@ -16,7 +16,7 @@ returns-then-left-len c =
     let line : Output → List ℕ = λ r. line_of (place_of r, r.value) in
     let front = items_of (take i bs) in
     let inside : left ≤ length (get_or bs i b).items = omega (arith, c.if-left-len.true, c.len.ensures, b.ok.0, ap (λ v. length v.items) c.block-item.is) in
-    let rows = sym (items_upto bs i left b c.loop-block-test.true inside) ∙ ap (λ n. take n (items_of bs)) c.loop-block.invariant.left ∙ ap (λ r. take c.args.count r) c.as_blocks-block-items.ensures in
+    let rows = sym (items_upto bs i left b c.loop-block-test.true inside) ∙ ap (λ n. take n (items_of bs)) c.loop-block.invariant.left ∙ ap (λ r. take c.args.count r) c.as_blocks-block-items.ensures.items in
     c.in_ok-put_lines.ensures
     ∙ ap (λ l. l ++ lines_of (take left b.items)) c.loop-block.invariant.lines
     ∙ ap (λ v. lines_of front ++ lines_of (take left v.items)) c.block-item.is
