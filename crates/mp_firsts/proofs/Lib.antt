@@ -1,0 +1,5 @@
+pub mod Earlier
+pub mod Among
+pub mod Climbing
+pub mod Roots
+pub mod OfStates

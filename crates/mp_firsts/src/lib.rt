@@ -1,0 +1,9 @@
+//! Layer: the parts of a worker.
+//!
+//! The first of many wakes, kept while they change.
+#![tactic(auto)]
+
+mod firsts;
+
+pub use firsts::{Firsts, earlier_of};
+pub use mp_model::Time;
