@@ -1,18 +1,13 @@
 -- What a host is once the first group is applied to the state of its key's bin.
-use Rattle.std.proofs.Common.{◌≡◌, ◌≢◌, ◌↔◌, ◌⊎◌, ℕ, zero, suc, ◌<◌, ◌==◌, Bool, true, cond, Option, None, Some, List, [], ◌∷◌, ◌++◌, All, Contains, IsSome, drop, filter, get_or, not, position, set, take, sym, ap, ◌∙◌, subst, ⊎_elim, refl, arith}
+use Rattle.std.proofs.Common.{◌≡◌, ◌≢◌, ◌↔◌, ◌⊎◌, ℕ, suc, ◌==◌, Bool, true, cond, Option, None, Some, List, ◌∷◌, ◌++◌, All, Contains, IsSome, drop, filter, get_or, not, position, set, take, sym, ap, ◌∙◌, subst, ⊎_elim, refl}
 use Rattle.std.proofs.lemmas.Bool.{and_parts, eqb-true}
 use Rattle.std.proofs.lemmas.List.{set_split}
-use Rattle.std.proofs.lemmas.List.Elements.{All-contains, All-cons, All-contains_itself, All-get_or, All-nil, All-set, All-weaker}
+use Rattle.std.proofs.lemmas.List.Elements.{All-contains, All-get_or, All-set}
 use Rattle.mp_bins.specs.Bins.{bin_of_key}
-use Rattle.mp_names.specs.Limits.{last_time}
 use Rattle.mp_model.specs.declared.record.Rec.{Rec}
 use Rattle.mp_model.specs.Entry.{Entry}
 use Rattle.mp_model.specs.Facts.{JobFacts, QueryFacts}
-use Rattle.mp_model.specs.Legal.{EventsAreLegal}
-use Rattle.mp_model.specs.QueryLaws.{LaterStagesPostNothing, PostsAreLater, RecordIsLegal, RisesWithin}
-use Rattle.mp_model.specs.Stages.{input_records, stage_records}
-use Rattle.mp_model.proofs.LegalRecords.{input_records_legal}
-use Rattle.mp_model.proofs.Lists.{All-flat_map}
+use Rattle.mp_model.specs.Stages.{stage_records}
 use Rattle.mp_job.proofs.Members.{Contains-filter, Contains-flat_map}
 use Rattle.mp_outline.proofs.Found.{found}
 use Rattle.mp_msg.specs.Contents.{IsRecordOf}
@@ -30,33 +25,6 @@ use Rattle.mp_host.proofs.Places.{IsFirstAt, around, no_place, place_is}
 pub group_is : {Cell : Type 0} (h : Hosted Cell) (t k : ℕ) (e : Entry) (woken : Bool) (recs : List Rec)
     → e ≡ record { time = t; key = k; woken = woken; recs = recs } → woken ≡ has_wake_at h t k → recs ≡ records_of h t k → e ≡ group_here h t k
 group_is h t k e woken recs is a b = is ∙ rw (a, b) refl
-
--- posts
-
--- times that rise are above their bound
-rises_above : (low high : ℕ) (ts : List ℕ) → RisesWithin low high ts → All (λ u. low < u) ts
-rises_above low high [] h = All-nil (λ (u : ℕ). low < u)
-rises_above low high (u ∷ us) h =
-    let low_first : low < u = h.0 in
-    All-cons (λ (v : ℕ). low < v) u us low_first (All-weaker (λ (v : ℕ). u < v) (λ (v : ℕ). low < v) (λ v m. omega arith) us (rises_above u high us h.2))
-
-module _ {Cell : Type 0} (q : QueryFacts Cell) (later : PostsAreLater q) (nothing : LaterStagesPostNothing q) (job : JobFacts) (legal : EventsAreLegal job.events) where
-  -- the posts of a record of a stage are later than it
-  posts_after : (j : ℕ) (r : Rec) → Contains (stage_records q job.events j) r → All (λ u. r.time < u) (q.posts j r)
-  posts_after zero r i =
-      rises_above r.time last_time (q.posts 0 r) (later r (All-contains RecordIsLegal (input_records q job.events) r (input_records_legal q job.events legal) i))
-  posts_after (suc j) r i = rw (nothing j r) (All-nil (λ (u : ℕ). r.time < u))
-
-  -- so those of a group are later than it
-  pub group_posts_after : (h : Hosted Cell) (t k : ℕ) → All (IsRecordOf q job h.stage) h.records → All (λ u. t < u) (posts_here q h t k)
-  group_posts_after h t k content =
-      All-flat_map (λ (u : ℕ). t < u) (q.posts h.stage) (records_of h t k)
-      (All-weaker (Contains (records_of h t k)) (λ (r : Rec). All (λ u. t < u) (q.posts h.stage r))
-      (λ r i.
-      let there = Contains-filter (is_of t k) h.records r i in
-      let at = (from_is_of t k r there.1).0 in
-      subst (λ (s : ℕ). All (λ u. s < u) (q.posts h.stage r)) at (posts_after h.stage r (All-contains (IsRecordOf q job h.stage) h.records r content there.0).1))
-      (records_of h t k) (All-contains_itself (records_of h t k)))
 
 -- the state of the key's bin
 

@@ -1,18 +1,22 @@
 -- What a host keeps to as it changes, where a call succeeds and where it is refused.
-use Rattle.std.proofs.Common.{◌≡◌, ◌<◌, ◌≤◌, ◌==◌, ℕ, zero, suc, Bool, true, false, cond, Option, None, Some, IfNone, IsOk, List, [], ◌∷◌, All, arith}
+use Rattle.std.proofs.Common.{◌≡◌, ◌<◌, ◌≤◌, ◌==◌, ◌+◌, ◌++◌, ◌∙◌, ℕ, zero, suc, add-one, refl, sym, Bool, true, false, cond, Option, None, Some, IfNone, IsOk, List, [], ◌∷◌, All, arith}
 use Rattle.std.specs.List.Sorted.{IsStrictlySortedBy}
 use Rattle.std.specs.Ordering.{nat_cmp}
 use Rattle.std.specs.Result.{OnErr, OnOk}
 use Rattle.std.specs.declared.cmp.Ordering.{Ordering}
 use Rattle.std.specs.declared.result.Result.{Result}
 use Rattle.std.specs.declared.result.Result.TheVariants.{Ok, Err}
+use Rattle.std.proofs.lemmas.Bool.{eq-eqb, ne_eqb}
+use Rattle.std.proofs.lemmas.List.{append-nil}
 use Rattle.std.proofs.lemmas.List.Elements.{All-append, All-cons, All-contains, All-nil, All-weaker}
 use Rattle.mp_bins.specs.Notes.{first_owner}
 use Rattle.mp_model.specs.declared.record.Rec.{Rec}
 use Rattle.mp_model.specs.Facts.{JobFacts, QueryFacts}
 use Rattle.mp_job.specs.Legal.{JobIsLegal}
 use Rattle.mp_job.proofs.Members.{nothing_in_nil}
+use Rattle.mp_msg.proofs.States.{same_content}
 use Rattle.mp_msg.specs.Contents.{IsRecordOf}
+use Rattle.mp_msg.specs.States.{BinContent}
 use Rattle.mp_ordered.specs.InOrder.{IsInOrder, put_in_order}
 use Rattle.mp_ordered.proofs.Placing.{put_all, put_keeps}
 use Rattle.mp_postdated.specs.Wakes.{wake_cmp}
@@ -96,6 +100,19 @@ module _ {Cell : Type 0} (q : QueryFacts Cell) (job : JobFacts) (j w : ℕ) wher
   pub first_fit : (n : ℕ) → n ≤ job.shape.bins → All (MayBeHeld q job j) (first_held job w n)
   first_fit zero l = All-nil (MayBeHeld q job j)
   first_fit (suc b) l = All-append (MayBeHeld q job j) (first_held job w b) _ (first_fit b (omega arith)) (one_or_none b (omega arith) (first_owner job.shape b == w))
+
+-- one bin more
+module _ {Cell : Type 0} (job : JobFacts) (w b : ℕ) (held : List (Held Cell)) (was : held ≡ first_held job w b) where
+  pub one_first : (s : BinContent Cell) → s.cells ≡ [] → s.wakes ≡ [] → first_owner job.shape b ≡ w → held ++ record { bin = b; since = None; state = s } ∷ [] ≡ first_held job w (b + 1)
+  one_first s cells wakes e =
+      let own : (first_owner job.shape b == w) ≡ true = eq-eqb (first_owner job.shape b) w e in
+      let none : s ≡ empty_state = same_content s empty_state cells wakes in
+      rw (add-one, own, was, none) refl
+
+  pub other_first : (first_owner job.shape b ≡ w → ⊥) → held ≡ first_held job w (b + 1)
+  other_first e =
+      let other : (first_owner job.shape b == w) ≡ false = ne_eqb (first_owner job.shape b) w e in
+      rw (add-one, other) (was ∙ sym (append-nil (first_held job w b)))
 
 -- so a new host keeps to what a host keeps to
 pub new_hosted : {Cell : Type 0} (q : QueryFacts Cell) (job its : JobFacts) (h : Hosted Cell) → its ≡ job → JobIsLegal q job → h.stage < job.shape.stages → h.worker < job.shape.workers → IsNew job h → IsHosted q job its h

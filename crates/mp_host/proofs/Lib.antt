@@ -14,3 +14,7 @@ mod Present
 pub mod Tallied
 pub mod Grouped
 pub mod Moved
+pub mod Several
+mod Within
+pub mod Spanned
+pub mod FirstWakes

@@ -1,26 +1,20 @@
--- Groups that come by time are told by numbers of their times.
-use Rattle.std.proofs.Common.{◌≡◌, ◌≢◌, ◌⊎◌, ℕ, ◌+◌, ◌<◌, ◌≤◌, ◌==◌, Bool, true, false, cond, List, [], ◌∷◌, ◌++◌, All, Contains, count_by, filter, fold, length, map, sym, ap, ◌∙◌, subst, inl, inr, ⊎_elim, refl, append_assoc, arith}
+-- Groups are told by numbers of their times.
+use Rattle.std.proofs.Common.{◌≡◌, ◌≢◌, ℕ, ◌+◌, ◌<◌, ◌≤◌, ◌==◌, nat_lt, Bool, true, false, cond, IsPermutation, List, [], ◌∷◌, ◌++◌, All, AllPairs, Contains, count_by, drop, filter, fold, get_or, length, take, sym, ap, ◌∙◌, subst, refl, append_assoc, arith}
 use Rattle.std.specs.List.{sum_by}
-use Rattle.std.specs.Ordering.{nat_cmp, ordering_then}
-use Rattle.std.specs.declared.cmp.Ordering.TheVariants.{Less as Below}
-use Rattle.std.proofs.lemmas.Bool.{both_ways, eq-eqb, eqb-true}
-use Rattle.std.proofs.lemmas.List.{append-nil, length-append, length-map, length_push, map-append}
-use Rattle.std.proofs.lemmas.List.Elements.{All-cons, All-contains, All-from_recursion, All-head, All-nil, All-tail, All-weaker, Contains-append_cases, Contains-append_left, Contains-append_right, filter-append}
-use Rattle.std.proofs.lemmas.List.Sums.{fold_push, sum_by-cons, sum_by_push}
-use Rattle.std.proofs.lemmas.Map.Keys.{sorted_head, sorted_tail}
-use Rattle.mp_model.specs.Ascending.{ascending}
-use Rattle.mp_job.proofs.Ascents.{Rises, ascending-Contains}
-use Rattle.mp_job.proofs.Members.{nothing_in_nil, Contains-cases, Contains-here, Contains-later, Contains-filter, Contains-map, map-Contains}
+use Rattle.std.proofs.lemmas.Bool.{eqb-true}
+use Rattle.std.proofs.lemmas.List.{append-nil, length-map, length_push, length-take, take_more, take-append-drop}
+use Rattle.std.proofs.lemmas.List.Elements.{All-cons, All-head, All-nil, All-tail, All-weaker, Contains-append_left, filter-append}
+use Rattle.std.proofs.lemmas.List.Sorted.{Contains-permutation, IsPermutation-sym, sum_by-IsPermutation}
+use Rattle.std.proofs.lemmas.List.Sums.{fold_push, length-filter, sum_by-cons, sum_by_push}
+use Rattle.mp_model.specs.Ascending.{ascending, placed}
+use Rattle.mp_job.proofs.Ascents.{Contains-ascending, Rises, Rises-ascending, ascending-Contains}
+use Rattle.mp_job.proofs.Members.{Contains-filter, Contains-map, map-Contains}
 use Rattle.mp_outline.proofs.Found.{found, found_there}
-use Rattle.mp_outline.proofs.Pairs.{AllPairs-Pairs, Pairs, Pairs-filter}
-use Rattle.mp_postdated.specs.Wakes.{IsAscending, wake_cmp}
+use Rattle.mp_outline.proofs.Pairs.{AllPairs-Pairs, Pairs}
 use Rattle.mp_host_laws.specs.Moving.{AreNumbersOf}
 use Rattle.mp_host.proofs.Enough.{filter_length}
-use Rattle.mp_host.specs.Numbers.{numbers_of, with_one}
+use Rattle.mp_host.specs.Numbers.{numbers_of, times, with_one}
 use Rattle.mp_host.proofs.Woken.{length_within, rising_once}
-
-abbrev times : List (ℕ × ℕ) → List ℕ
-times ns = map (λ n. n.0) ns
 
 -- the number of a time, or nothing
 abbrev number_at : ℕ → ℕ × ℕ → ℕ
@@ -28,171 +22,125 @@ number_at t n = cond (n.0 == t) n.1 0
 
 -- one more
 
-one_of_one : (b : Bool) (n : ℕ × ℕ) (t s : ℕ) → (n.0 == t) ≡ b → sum_by (number_at s) (cond b ((n.0, n.1 + 1) ∷ []) (n ∷ (t, 1) ∷ [])) ≡ number_at s n + cond (t == s) 1 0
-one_of_one true n t s e = rw (eqb-true n.0 t e) (added (t == s) n.1)
-  where
-    added : (b : Bool) (m : ℕ) → 0 + cond b (m + 1) 0 ≡ cond b m 0 + cond b 1 0
-    added true m = omega arith
-    added false m = omega arith
-one_of_one false n t s e = omega arith
+one_added : (b : Bool) (m : ℕ) → cond b (m + 1) 0 ≡ cond b m 0 + cond b 1 0
+one_added true m = omega arith
+one_added false m = omega arith
+
+sum_by_place : (later here : Bool) (n : ℕ × ℕ) (ns ms : List (ℕ × ℕ)) (t s : ℕ) → (t == n.0) ≡ here → sum_by (number_at s) ms ≡ sum_by (number_at s) ns + cond (t == s) 1 0
+    → sum_by (number_at s) (cond later ((t, 1) ∷ n ∷ ns) (cond here ((n.0, n.1 + 1) ∷ ns) (n ∷ ms))) ≡ sum_by (number_at s) (n ∷ ns) + cond (t == s) 1 0
+sum_by_place true here n ns ms t s e rest = let first = sum_by-cons (number_at s) (t, 1) (n ∷ ns) in omega arith
+sum_by_place false true n ns ms t s e rest =
+    let first = sum_by-cons (number_at s) (n.0, n.1 + 1) ns in
+    let was = sum_by-cons (number_at s) n ns in
+    let same : t ≡ n.0 = eqb-true t n.0 e in
+    let one : cond (n.0 == s) (n.1 + 1) 0 ≡ cond (n.0 == s) n.1 0 + cond (t == s) 1 0 = rw same (one_added (n.0 == s) n.1) in
+    omega arith
+sum_by_place false false n ns ms t s e rest =
+    let first = sum_by-cons (number_at s) n ms in
+    let was = sum_by-cons (number_at s) n ns in
+    omega arith
 
 sum_one : (ns : List (ℕ × ℕ)) (t s : ℕ) → sum_by (number_at s) (with_one ns t) ≡ sum_by (number_at s) ns + cond (t == s) 1 0
 sum_one [] t s = refl
-sum_one (n ∷ []) t s = one_of_one (n.0 == t) n t s refl ∙ omega arith
-sum_one (n ∷ m ∷ ns) t s =
-    let rest = sum_one (m ∷ ns) t s in
-    let first = sum_by-cons (number_at s) n (with_one (m ∷ ns) t) in
-    let was = sum_by-cons (number_at s) n (m ∷ ns) in
-    omega arith
+sum_one (n ∷ ns) t s = sum_by_place (nat_lt t n.0) (t == n.0) n ns (with_one ns t) t s refl (sum_one ns t s)
 
 -- what holds of each number holds of them with one more, where it holds of one more and of 1
 module _ (P Q : ℕ → Type 0) (keep : (n : ℕ) → P n → Q n) (more : (n : ℕ) → P n → Q (n + 1)) (new : Q 1) where
   abbrev Of : (ℕ → Type 0) → ℕ × ℕ → Type 0
   Of R n = R n.1
 
-  one_each : (b : Bool) (n : ℕ × ℕ) (t : ℕ) → P n.1 → All (Of Q) (cond b ((n.0, n.1 + 1) ∷ []) (n ∷ (t, 1) ∷ []))
-  one_each true n t p = All-cons (Of Q) (n.0, n.1 + 1) [] (more n.1 p) (All-nil (Of Q))
-  one_each false n t p = All-cons (Of Q) n ((t, 1) ∷ []) (keep n.1 p) (All-cons (Of Q) (t, 1) [] new (All-nil (Of Q)))
+  each_by_place : (later here : Bool) (n : ℕ × ℕ) (ns ms : List (ℕ × ℕ)) (t : ℕ) → P n.1 → All (Of Q) ns → All (Of Q) ms → All (Of Q) (cond later ((t, 1) ∷ n ∷ ns) (cond here ((n.0, n.1 + 1) ∷ ns) (n ∷ ms)))
+  each_by_place true here n ns ms t p all rest = All-cons (Of Q) (t, 1) (n ∷ ns) new (All-cons (Of Q) n ns (keep n.1 p) all)
+  each_by_place false true n ns ms t p all rest = All-cons (Of Q) (n.0, n.1 + 1) ns (more n.1 p) all
+  each_by_place false false n ns ms t p all rest = All-cons (Of Q) n ms (keep n.1 p) rest
 
   each_one : (ns : List (ℕ × ℕ)) (t : ℕ) → All (Of P) ns → All (Of Q) (with_one ns t)
   each_one [] t h = All-cons (Of Q) (t, 1) [] new (All-nil (Of Q))
-  each_one (n ∷ []) t h = one_each (n.0 == t) n t (All-head (Of P) n [] h)
-  each_one (n ∷ m ∷ ns) t h = All-cons (Of Q) n (with_one (m ∷ ns) t) (keep n.1 (All-head (Of P) n (m ∷ ns) h)) (each_one (m ∷ ns) t (All-tail (Of P) n (m ∷ ns) h))
-
--- the times are those that were there, and this one
-one_time : (b : Bool) (n : ℕ × ℕ) (t u : ℕ) → Contains (times (cond b ((n.0, n.1 + 1) ∷ []) (n ∷ (t, 1) ∷ []))) u → Contains (times (n ∷ [])) u ⊎ (t ≡ u)
-one_time true n t u i = inl i
-one_time false n t u i =
-    ⊎_elim
-    (λ (e : n.0 ≡ u). inl (subst (Contains (n.0 ∷ [])) e (Contains-here n.0 [])))
-    (λ (j : Contains (t ∷ []) u). ⊎_elim (λ (e : t ≡ u). inr e) (λ (k : Contains [] u). absurd (nothing_in_nil u k)) (Contains-cases t u [] j))
-    (Contains-cases n.0 u (t ∷ []) i)
-
-times_one : (ns : List (ℕ × ℕ)) (t u : ℕ) → Contains (times (with_one ns t)) u → Contains (times ns) u ⊎ (t ≡ u)
-times_one [] t u i = ⊎_elim (λ (e : t ≡ u). inr e) (λ (k : Contains [] u). absurd (nothing_in_nil u k)) (Contains-cases t u [] i)
-times_one (n ∷ []) t u i = one_time (n.0 == t) n t u i
-times_one (n ∷ m ∷ ns) t u i =
-    ⊎_elim
-    (λ (e : n.0 ≡ u). inl (subst (Contains (n.0 ∷ times (m ∷ ns))) e (Contains-here n.0 (times (m ∷ ns)))))
-    (λ (j : Contains (times (with_one (m ∷ ns) t)) u).
-    ⊎_elim
-    (λ (k : Contains (times (m ∷ ns)) u). inl (Contains-later n.0 u (times (m ∷ ns)) k))
-    (λ (e : t ≡ u). inr e)
-    (times_one (m ∷ ns) t u j))
-    (Contains-cases n.0 u (times (with_one (m ∷ ns) t)) i)
-
--- they rise, where this one is no earlier than the others
-abbrev NoLater : List (ℕ × ℕ) → ℕ → Type 0
-NoLater ns t = (u : ℕ) → Contains (times ns) u → u ≤ t
-
-rise_last : (b : Bool) (n : ℕ × ℕ) (t : ℕ) → (n.0 == t) ≡ b → n.0 ≤ t → Rises (times (cond b ((n.0, n.1 + 1) ∷ []) (n ∷ (t, 1) ∷ [])))
-rise_last true n t e l = ((λ u i. absurd (nothing_in_nil u i)), tt)
-rise_last false n t e l = (
-  (λ u i. ⊎_elim (λ (f : t ≡ u). let apart : n.0 ≢ t = other in omega arith) (λ (k : Contains [] u). absurd (nothing_in_nil u k)) (Contains-cases t u [] i)),
-  ((λ u i. absurd (nothing_in_nil u i)), tt),
-)
-  where
-    other : n.0 ≢ t
-    other f = both_ways (n.0 == t) e (eq-eqb n.0 t f)
-
-rise_one : (ns : List (ℕ × ℕ)) (t : ℕ) → Rises (times ns) → NoLater ns t → Rises (times (with_one ns t))
-rise_one [] t r l = ((λ u i. absurd (nothing_in_nil u i)), tt)
-rise_one (n ∷ []) t r l = rise_last (n.0 == t) n t refl (l n.0 (Contains-here n.0 []))
-rise_one (n ∷ m ∷ ns) t r l = (
-  (λ u i.
-      ⊎_elim
-      (λ (k : Contains (times (m ∷ ns)) u). r.0 u k)
-      (λ (e : t ≡ u).
-      let next : n.0 < m.0 = r.0 m.0 (Contains-here m.0 (times ns)) in
-      let last : m.0 ≤ t = l m.0 (Contains-later n.0 m.0 (times (m ∷ ns)) (Contains-here m.0 (times ns))) in
-      omega arith)
-      (times_one (m ∷ ns) t u i)),
-  rise_one (m ∷ ns) t r.1 (λ u i. l u (Contains-later n.0 u (times (m ∷ ns)) i)),
-)
+  each_one (n ∷ ns) t h =
+      let rest = All-tail (Of P) n ns h in
+      each_by_place (nat_lt t n.0) (t == n.0) n ns (with_one ns t) t (All-head (Of P) n ns h) (All-weaker (Of P) (Of Q) (λ m p. keep m.1 p) ns rest) (each_one ns t rest)
 
 -- What numbers tell of groups
 record Tells (gs ns : List (ℕ × ℕ)) : Type 0 where
   numbers : (t : ℕ) → sum_by (number_at t) ns ≡ count_by (λ g. g.0 == t) gs
-  rise : Rises (times ns)
   some : All (λ n. n.1 ≢ 0) ns
   few : All (λ n. n.1 ≤ length gs) ns
-  among : (t : ℕ) → Contains (times ns) t → Contains (times gs) t
 
 none_told : Tells [] []
 none_told = record {
   numbers = λ t. refl;
-  rise = tt;
   some = All-nil (λ (n : ℕ × ℕ). n.1 ≢ 0);
   few = All-nil (λ (n : ℕ × ℕ). n.1 ≤ 0);
-  among = λ t i. i;
 }
 
 count_push : (t : ℕ) (gs : List (ℕ × ℕ)) (w : ℕ × ℕ) → count_by (λ g. g.0 == t) (gs ++ w ∷ []) ≡ count_by (λ g. g.0 == t) gs + cond (w.0 == t) 1 0
 count_push t gs w = sum_by_push (λ (g : ℕ × ℕ). cond (g.0 == t) 1 0) gs w
 
-one_told : (gs ns : List (ℕ × ℕ)) (w : ℕ × ℕ) → Tells gs ns → NoLater gs w.0 → Tells (gs ++ w ∷ []) (with_one ns w.0)
-one_told gs ns w told later =
+one_told : (gs ns : List (ℕ × ℕ)) (w : ℕ × ℕ) → Tells gs ns → Tells (gs ++ w ∷ []) (with_one ns w.0)
+one_told gs ns w told =
     let longer = length_push gs w in
     record {
       numbers = λ t. sum_one ns w.0 t ∙ (ap (λ (n : ℕ). n + cond (w.0 == t) 1 0) (told.numbers t) ∙ sym (count_push t gs w));
-      rise = rise_one ns w.0 told.rise (λ u i. later u (told.among u i));
       some = each_one (λ n. n ≢ 0) (λ n. n ≢ 0) (λ n h. h) (λ n h e. omega arith) (λ e. omega arith) ns w.0 told.some;
       few = each_one (λ n. n ≤ length gs) (λ n. n ≤ length (gs ++ w ∷ [])) (λ n h. omega arith) (λ n h. omega arith) (omega arith) ns w.0 told.few;
-      among = λ t i.
-          ⊎_elim
-          (λ (k : Contains (times ns) t). in_front t (told.among t k))
-          (λ (e : w.0 ≡ t). subst (Contains (times (gs ++ w ∷ []))) e at_end)
-          (times_one ns w.0 t i);
     }
-  where
-    in_front : (t : ℕ) → Contains (times gs) t → Contains (times (gs ++ w ∷ [])) t
-    in_front t i = rw map-append (Contains-append_left (times gs) (w.0 ∷ []) t i)
-
-    at_end : Contains (times (gs ++ w ∷ [])) w.0
-    at_end = rw map-append (Contains-append_right (times gs) (w.0 ∷ []) w.0 (Contains-here w.0 []))
 
 pub numbers_push : (gs : List (ℕ × ℕ)) (w : ℕ × ℕ) → numbers_of (gs ++ w ∷ []) ≡ with_one (numbers_of gs) w.0
 numbers_push gs w = fold_push (λ ns g. with_one ns g.0) [] gs w
 
--- groups by time
-abbrev pub ByTime : List (ℕ × ℕ) → Type 0
-ByTime gs = Pairs (λ v w. v.0 ≤ w.0) gs
-
-told_on : (before gs ns : List (ℕ × ℕ)) → Tells before ns → ((w : ℕ × ℕ) → Contains gs w → NoLater before w.0) → ByTime gs → Tells (before ++ gs) (fold (λ ms w. with_one ms w.0) ns gs)
-told_on before [] ns told later order = rw append-nil told
-told_on before (w ∷ gs) ns told later order =
+told_on : (before gs ns : List (ℕ × ℕ)) → Tells before ns → Tells (before ++ gs) (fold (λ ms w. with_one ms w.0) ns gs)
+told_on before [] ns told = rw append-nil told
+told_on before (w ∷ gs) ns told =
     subst (λ (hs : List (ℕ × ℕ)). Tells hs (fold (λ ms v. with_one ms v.0) (with_one ns w.0) gs)) (append_assoc before (w ∷ []) gs)
-    (told_on (before ++ w ∷ []) gs (with_one ns w.0) (one_told before ns w told (later w (Contains-here w gs)))
-    (λ v i u j.
-    ⊎_elim
-    (λ (k : Contains (times before) u). later v (Contains-later w v gs i) u k)
-    (λ (k : Contains (w.0 ∷ []) u). let first : w.0 ≤ v.0 = order.0 v i in ⊎_elim (λ (e : w.0 ≡ u). omega arith) (λ (l : Contains [] u). absurd (nothing_in_nil u l)) (Contains-cases w.0 u [] k))
-    (Contains-append_cases (times before) (w.0 ∷ []) u (rw map-append at j)))
-    order.1)
+    (told_on (before ++ w ∷ []) gs (with_one ns w.0) (one_told before ns w told))
 
-told_all : (gs : List (ℕ × ℕ)) → ByTime gs → Tells gs (numbers_of gs)
-told_all gs order = told_on [] gs [] none_told (λ w i u j. absurd (nothing_in_nil u j)) order
+told_all : (gs : List (ℕ × ℕ)) → Tells gs (numbers_of gs)
+told_all gs = told_on [] gs [] none_told
+
+-- their times are those of the groups, ascending and each once
+
+times_by_place : (later here : Bool) (n : ℕ × ℕ) (ns ms : List (ℕ × ℕ)) (t : ℕ) → times ms ≡ placed (times ns) t
+    → times (cond later ((t, 1) ∷ n ∷ ns) (cond here ((n.0, n.1 + 1) ∷ ns) (n ∷ ms))) ≡ cond later (t ∷ n.0 ∷ times ns) (cond here (n.0 ∷ times ns) (n.0 ∷ placed (times ns) t))
+times_by_place true here n ns ms t rest = refl
+times_by_place false true n ns ms t rest = refl
+times_by_place false false n ns ms t rest = ap (λ (ts : List ℕ). n.0 ∷ ts) rest
+
+times_one : (ns : List (ℕ × ℕ)) (t : ℕ) → times (with_one ns t) ≡ placed (times ns) t
+times_one [] t = refl
+times_one (n ∷ ns) t = times_by_place (nat_lt t n.0) (t == n.0) n ns (with_one ns t) t (times_one ns t)
+
+times_on : (gs ns : List (ℕ × ℕ)) → times (fold (λ ms w. with_one ms w.0) ns gs) ≡ fold placed (times ns) (times gs)
+times_on [] ns = refl
+times_on (w ∷ gs) ns = times_on gs (with_one ns w.0) ∙ ap (λ (ts : List ℕ). fold placed ts (times gs)) (times_one ns w.0)
+
+times_are : (gs : List (ℕ × ℕ)) → times (numbers_of gs) ≡ ascending (times gs)
+times_are gs = times_on gs []
+
+numbers_rise : (gs : List (ℕ × ℕ)) → Rises (times (numbers_of gs))
+numbers_rise gs = subst Rises (sym (times_are gs)) (Rises-ascending (times gs))
+
+by_time : (ns : List (ℕ × ℕ)) → Rises (times ns) → Pairs (λ m n. m.0 < n.0) ns
+by_time [] r = tt
+by_time (n ∷ ns) r = ((λ m i. r.0 m.0 (map-Contains (λ (k : ℕ × ℕ). k.0) ns m.0 (found_there (λ (k : ℕ × ℕ). k.0 ≡ m.0) ns m i refl))), by_time ns r.1)
+
+pub numbers_by_time : (gs : List (ℕ × ℕ)) → AllPairs (λ m n. m.0 < n.0) (numbers_of gs)
+numbers_by_time gs = AllPairs-Pairs (λ (m n : ℕ × ℕ). m.0 < n.0) (numbers_of gs) (by_time (numbers_of gs) (numbers_rise gs))
 
 -- so they are the numbers of the groups
-pub numbers_are : (gs : List (ℕ × ℕ)) → ByTime gs → AreNumbersOf gs (numbers_of gs)
-numbers_are gs order =
-    let told = told_all gs order in
+pub numbers_are : (gs : List (ℕ × ℕ)) → AreNumbersOf gs (numbers_of gs)
+numbers_are gs =
+    let told = told_all gs in
     record {
       numbers = told.numbers;
-      once = AllPairs-Pairs (λ (m n : ℕ × ℕ). m.0 ≢ n.0) (numbers_of gs) (apart (numbers_of gs) told.rise);
+      once = λ i j d l m e. let less = numbers_by_time gs i j d l m in omega arith;
       none_is_zero = told.some;
     }
-  where
-    apart : (ns : List (ℕ × ℕ)) → Rises (times ns) → Pairs (λ m n. m.0 ≢ n.0) ns
-    apart [] r = tt
-    apart (n ∷ ns) r = ((λ m i e. let less : n.0 < m.0 = r.0 m.0 (map-Contains (λ (k : ℕ × ℕ). k.0) ns m.0 (found_there (λ (k : ℕ × ℕ). k.0 ≡ m.0) ns m i refl)) in omega arith), apart ns r.1)
 
 -- they are no more than the times of wakes that the groups are among
-numbers_within : (gs ws : List (ℕ × ℕ)) → ByTime gs → ((w : ℕ × ℕ) → Contains gs w → Contains ws w) → length (numbers_of gs) ≤ length (ascending (times ws))
-numbers_within gs ws order among =
-    let told = told_all gs order in
+numbers_within : (gs ws : List (ℕ × ℕ)) → ((w : ℕ × ℕ) → Contains gs w → Contains ws w) → length (numbers_of gs) ≤ length (ascending (times ws))
+numbers_within gs ws among =
     let same = length-map (numbers_of gs) (λ (n : ℕ × ℕ). n.0) in
-    let within = length_within (times (numbers_of gs)) (ascending (times ws)) (rising_once (times (numbers_of gs)) told.rise) (λ t i. ascending-Contains (times ws) t (there t (told.among t i))) in
+    let within = length_within (times (numbers_of gs)) (ascending (times ws)) (rising_once (times (numbers_of gs)) (numbers_rise gs)) (λ t i. ascending-Contains (times ws) t (there t (Contains-ascending (times gs) t (subst (λ (ts : List ℕ). Contains ts t) (times_are gs) i)))) in
     omega arith
   where
     there : (t : ℕ) → Contains (times gs) t → Contains (times ws) t
@@ -200,38 +148,59 @@ numbers_within gs ws order among =
         let a = found (λ (w : ℕ × ℕ). w.0 ≡ t) gs (Contains-map (λ (w : ℕ × ℕ). w.0) gs t i) in
         map-Contains (λ (w : ℕ × ℕ). w.0) ws t (found_there (λ (w : ℕ × ℕ). w.0 ≡ t) ws a.0 (among a.0 a.1) a.2)
 
--- wakes in order come by time, and so do those in front that pass a test
-wakes_by_time : (ws : List (ℕ × ℕ)) → IsAscending ws → ByTime ws
-wakes_by_time [] h = tt
-wakes_by_time (w ∷ ws) h =
-    let below = All-from_recursion (λ (v : ℕ × ℕ). wake_cmp w v ≡ Below) ws (sorted_head wake_cmp w ws h) in
-    ((λ v i. no_less w.0 v.0 w.1 v.1 (All-contains (λ (u : ℕ × ℕ). wake_cmp w u ≡ Below) ws v below i)), wakes_by_time ws (sorted_tail wake_cmp w ws h))
-  where
-    no_less : (a b c d : ℕ) → ordering_then (nat_cmp a b) (nat_cmp c d) ≡ Below → a ≤ b
-    no_less a b c d e = grind arith
+-- of fewer groups than a number each number is less than it
+pub numbers_below : (p : ℕ × ℕ → Bool) (ws : List (ℕ × ℕ)) (top : ℕ) → length ws < top → All (λ n. n.1 < top) (numbers_of (filter p ws))
+numbers_below p ws top l =
+    let told = told_all (filter p ws) in
+    let kept = filter_length p ws in
+    All-weaker (λ (n : ℕ × ℕ). n.1 ≤ length (filter p ws)) (λ (n : ℕ × ℕ). n.1 < top) (λ n few. omega arith) (numbers_of (filter p ws)) told.few
 
-front_by_time : (front rest : List (ℕ × ℕ)) → ByTime (front ++ rest) → ByTime front
-front_by_time [] rest h = tt
-front_by_time (w ∷ front) rest h = ((λ v i. h.0 v (Contains-append_left front rest v i)), front_by_time front rest h.1)
+module _ (p : ℕ × ℕ → Bool) where
+  filter_more : (ws : List (ℕ × ℕ)) (i : ℕ) (w d : ℕ × ℕ) → i < length ws → w ≡ get_or ws i d → filter p (take (i + 1) ws) ≡ filter p (take i ws) ++ cond (p w) (w ∷ []) []
+  filter_more ws i w d l is =
+      ap (filter p) (take_more ws i d l ∙ ap (λ (v : ℕ × ℕ). take i ws ++ v ∷ []) (sym is)) ∙ filter-append p (take i ws) (w ∷ [])
 
-pub passing_by_time : (p : ℕ × ℕ → Bool) (ws front rest : List (ℕ × ℕ)) → IsAscending ws → ws ≡ front ++ rest → ByTime (filter p front)
-passing_by_time p ws front rest h e = Pairs-filter (λ (v w : ℕ × ℕ). v.0 ≤ w.0) p front (front_by_time front rest (subst ByTime e (wakes_by_time ws h)))
+  -- one more group that passes is told, and one that doesn't isn't
+  pub passing_told : (ws : List (ℕ × ℕ)) (i : ℕ) (w d : ℕ × ℕ) → i < length ws → w ≡ get_or ws i d → p w ≡ true → numbers_of (filter p (take (i + 1) ws)) ≡ with_one (numbers_of (filter p (take i ws))) w.0
+  passing_told ws i w d l is e =
+      ap numbers_of (filter_more ws i w d l is ∙ ap (λ b. filter p (take i ws) ++ cond b (w ∷ []) []) e) ∙ numbers_push (filter p (take i ws)) w
 
--- of fewer wakes than a number each number is less than it
-pub numbers_below : (p : ℕ × ℕ → Bool) (ws front rest : List (ℕ × ℕ)) (top : ℕ) → IsAscending ws → ws ≡ front ++ rest → length ws < top → All (λ n. n.1 < top) (numbers_of (filter p front))
-numbers_below p ws front rest top h e l =
-    let told = told_all (filter p front) (passing_by_time p ws front rest h e) in
-    let kept = filter_length p front in
-    let all = ap (λ (vs : List (ℕ × ℕ)). length vs) e ∙ length-append front rest in
-    All-weaker (λ (n : ℕ × ℕ). n.1 ≤ length (filter p front)) (λ (n : ℕ × ℕ). n.1 < top) (λ n few. omega arith) (numbers_of (filter p front)) told.few
+  pub failing_told : (ws : List (ℕ × ℕ)) (i : ℕ) (w d : ℕ × ℕ) → i < length ws → w ≡ get_or ws i d → p w ≡ false → numbers_of (filter p (take (i + 1) ws)) ≡ numbers_of (filter p (take i ws))
+  failing_told ws i w d l is e =
+      ap numbers_of (filter_more ws i w d l is ∙ (ap (λ b. filter p (take i ws) ++ cond b (w ∷ []) []) e ∙ append-nil (filter p (take i ws))))
 
--- where there is room for a number for each time of wakes there is room for the next one
-pub room_for_one : (p : ℕ × ℕ → Bool) (ws front rest : List (ℕ × ℕ)) (w : ℕ × ℕ) → IsAscending ws → ws ≡ front ++ w ∷ rest → p w ≡ true
-    → length (with_one (numbers_of (filter p front)) w.0) ≤ length (ascending (times ws))
-room_for_one p ws front rest w h e passes =
-    let longer : ws ≡ front ++ w ∷ [] ++ rest = e ∙ sym (append_assoc front (w ∷ []) rest) in
-    let one : filter p (front ++ w ∷ []) ≡ filter p front ++ w ∷ [] = rw (filter-append p front (w ∷ []), passes) refl in
-    let order = passing_by_time p ws (front ++ w ∷ []) rest h longer in
-    let within = numbers_within (filter p (front ++ w ∷ [])) ws order (λ v i. subst (λ (vs : List (ℕ × ℕ)). Contains vs v) (sym longer) (Contains-append_left (front ++ w ∷ []) rest v (Contains-filter p (front ++ w ∷ []) v i).0)) in
-    let same = ap (λ (gs : List (ℕ × ℕ)). length (numbers_of gs)) one ∙ ap (λ (ns : List (ℕ × ℕ)). length ns) (numbers_push (filter p front) w) in
-    omega arith
+  -- where there is room for a number for each time of wakes there is room for the next one
+  pub room_for_one : (all ws : List (ℕ × ℕ)) (i : ℕ) (w d : ℕ × ℕ) → IsPermutation all ws → i < length ws → w ≡ get_or ws i d → p w ≡ true
+      → length (with_one (numbers_of (filter p (take i ws))) w.0) ≤ length (ascending (times all))
+  room_for_one all ws i w d same l is e =
+      let among : (v : ℕ × ℕ) → Contains (filter p (take (i + 1) ws)) v → Contains all v = λ v j.
+      Contains-permutation ws all v (IsPermutation-sym all ws same) (subst (λ (vs : List (ℕ × ℕ)). Contains vs v) (take-append-drop (i + 1) ws) (Contains-append_left (take (i + 1) ws) (drop (i + 1) ws) v (Contains-filter p (take (i + 1) ws) v j).0)) in
+      let within = numbers_within (filter p (take (i + 1) ws)) all among in
+      let told = ap (λ (ns : List (ℕ × ℕ)). length ns) (passing_told ws i w d l is e) in
+      omega arith
+
+  -- of the first of fewer groups than a number each number is less than it
+  pub first_below : (ws : List (ℕ × ℕ)) (i top : ℕ) → length ws < top → All (λ n. n.1 < top) (numbers_of (filter p (take i ws)))
+  first_below ws i top l = let few = length-take i ws in numbers_below p (take i ws) top (omega arith)
+
+  count_filtered : (q : ℕ × ℕ → Bool) (ws : List (ℕ × ℕ)) → count_by q (filter p ws) ≡ sum_by (λ w. cond (p w) (cond (q w) 1 0) 0) ws
+  count_filtered q [] = refl
+  count_filtered q (w ∷ ws) =
+      let rest = count_filtered q ws in
+      let whole = sum_by-cons (λ (v : ℕ × ℕ). cond (p v) (cond (q v) 1 0) 0) w ws in
+      by (p w) rest ∙ sym whole
+    where
+      by : (b : Bool) → count_by q (filter p ws) ≡ sum_by (λ v. cond (p v) (cond (q v) 1 0) 0) ws → count_by q (cond b (w ∷ filter p ws) (filter p ws)) ≡ cond b (cond (q w) 1 0) 0 + sum_by (λ v. cond (p v) (cond (q v) 1 0) 0) ws
+      by true e = let first = sum_by-cons (λ (v : ℕ × ℕ). cond (q v) 1 0) w (filter p ws) in omega arith
+      by false e = omega arith
+
+  -- numbers don't tell in which order the groups came
+  pub told_in_order : (all ws ns : List (ℕ × ℕ)) → IsPermutation all ws → AreNumbersOf (filter p ws) ns → AreNumbersOf (filter p all) ns
+  told_in_order all ws ns same told = record {
+    numbers = λ t. told.numbers t ∙ (count_filtered (λ g. g.0 == t) ws ∙ (sum_by-IsPermutation (λ w. cond (p w) (cond (w.0 == t) 1 0) 0) all ws same ∙ sym (count_filtered (λ g. g.0 == t) all)));
+    once = told.once;
+    none_is_zero = told.none_is_zero;
+  }
+
+  pub passing_alike : (all ws : List (ℕ × ℕ)) → IsPermutation all ws → length (filter p ws) ≡ length (filter p all)
+  passing_alike all ws same = length-filter p ws ∙ (sum_by-IsPermutation (λ w. cond (p w) 1 0) all ws same ∙ sym (length-filter p all))

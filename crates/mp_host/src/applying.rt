@@ -12,9 +12,9 @@ ghost use Rattle.mp_host_laws.specs.HostOf.{HostMatchesLogAndSeen, OwnersAreCurr
 ghost use Rattle.mp_host.specs.Ready.{IsReadyHere};
 ghost use Rattle.mp_host.specs.Telling.{AppliesGroup, IfDid};
 
+use crate::firsts::renew;
 use crate::groups::first_records;
 use crate::posts::posts_of;
-use crate::states::first_wake;
 use crate::stepping::step_state;
 use crate::{Applied, Host};
 use mp_bins::Owners;
@@ -141,10 +141,11 @@ impl<'a, Q: Query, J: Naming> Host<'a, Q, J> {
         let count = recs.len();
         let group = Group::new(time, key, woken, recs);
         let one = &mut self.held[at];
+        let bin = one.bin;
         let query = self.job.query();
         let outputs = step_state(alloc, query, self.stage, &mut one.state, &group, posts)?;
         self.records.drop_first(count);
-        self.first_wake = first_wake(&self.held);
+        renew(&mut self.firsts, &self.held, &self.spans, bin);
         Ok(outputs)
     }
 }

@@ -1,12 +1,11 @@
 //! The cells of keys.
-ghost use Rattle.std.specs.Prelude.{◌≡◌, ◌≢◌, ◌==◌, ◌⊎◌, ℕ, Some, true, cond, IfOk, OnErr, OnOk};
-ghost use Rattle.std.specs.BTreeMap.{IsOrdered, get};
-ghost use Rattle.std.specs.Ordering.{nat_cmp};
+ghost use Rattle.std.specs.Prelude.{◌≡◌, ◌≢◌, ◌==◌, ◌⊎◌, ℕ, Some, nat_eq, true, cond, IfOk, OnErr, OnOk};
+ghost use Rattle.indexmap.specs.IndexMap.{get};
 ghost use Rattle.mp_host.specs.Cells.{cell_of};
 
+use indexmap::IndexMap;
 use mp_model::{Group, Query, Value};
 use std::alloc::{AllocError, Global};
-use std::collections::BTreeMap;
 
 /// Applies a group to the cell of its key, which is fresh where there is none: the outputs, in order. A cell that is fresh
 /// then isn't kept. `AllocError`: no memory, and each cell stays as it was.
@@ -14,7 +13,7 @@ pub fn step_in<Q: Query>(
     alloc: Global,
     query: &Q,
     stage: u32,
-    cells: &mut BTreeMap<u64, Q::Cell>,
+    cells: &mut IndexMap<u64, Q::Cell>,
     group: &Group,
 ) -> Result<Vec<Value>, AllocError>
     requires fits { let q = Q.facts (Q.rules query.now) in
@@ -23,19 +22,18 @@ pub fn step_in<Q: Query>(
         OnOk result ((l : ℕ) → cell_of (q.fresh stage) cells.new l
         ≡ cond (l == group.now.key) (q.step stage (cell_of (q.fresh stage) cells.old group.now.key) group.now) (cell_of (q.fresh stage) cells.old l)) }
     ensures kept { let q = Q.facts (Q.rules query.now) in
-        OnOk result ((l : ℕ) (c : Q.Cell) → get nat_cmp cells.new l ≡ Some c
-        → (get nat_cmp cells.old l ≡ Some c) ⊎ ((l ≡ group.now.key) × (c ≢ q.fresh stage))) }
+        OnOk result ((l : ℕ) (c : Q.Cell) → get nat_eq cells.new l ≡ Some c
+        → (get nat_eq cells.old l ≡ Some c) ⊎ ((l ≡ group.now.key) × (c ≢ q.fresh stage))) }
     ensures outputs { let q = Q.facts (Q.rules query.now) in
         IfOk result (λ v. v.items ≡ q.gives stage (cell_of (q.fresh stage) cells.old group.now.key) group.now) }
     ensures unchanged { OnErr result (cells.new.entries ≡ cells.old.entries) }
-    ensures ordered { IsOrdered nat_cmp cells.new }
 {
     let key = group.key();
     match cells.get_mut(&key) {
         Some(cell) => {
             let outputs = query.step(alloc, stage, cell, group)?;
             if query.is_fresh(stage, cell) {
-                cells.remove(&key);
+                cells.swap_remove(&key);
             }
             Ok(outputs)
         }
@@ -55,7 +53,7 @@ pub fn most_in<Q: Query>(
     alloc: Global,
     query: &Q,
     stage: u32,
-    cells: &BTreeMap<u64, Q::Cell>,
+    cells: &IndexMap<u64, Q::Cell>,
     group: &Group,
 ) -> u64
     requires fits { let q = Q.facts (Q.rules query.now) in

@@ -1,19 +1,22 @@
 //! The host of a stage on a worker.
-ghost use Rattle.std.specs.Prelude.{◌≡◌, ◌≤◌, ◌<◌, ◌+◌, IfOk, IsOk, OnErr, OnOk};
+ghost use Rattle.std.specs.Prelude.{◌≡◌, ◌≤◌, ◌<◌, ◌+◌, IfOk, IsOk, OnErr, OnOk, length};
 ghost use Rattle.mp_names.specs.Logs.{empty_log};
 ghost use Rattle.mp_job.specs.Legal.{JobIsLegal};
 ghost use Rattle.mp_msg.specs.Contents.{IsRecordOf};
 ghost use Rattle.mp_host_laws.specs.Applying.{IsReceived};
-ghost use Rattle.mp_host_laws.specs.Hosted.{IsNew, first_held, first_wake_of};
+ghost use Rattle.mp_host_laws.specs.Hosted.{IsNew, first_held};
 ghost use Rattle.mp_host_laws.specs.HostOf.{IsHostOf};
+ghost use Rattle.mp_host.specs.FirstWakes.{AreFirsts};
+ghost use Rattle.mp_host.specs.Spans.{AreSpans, bins_of};
 ghost use Rattle.mp_host.specs.Telling.{TakesRecord};
 
 use crate::order::ByGroup;
-use crate::states::first_wake;
+use crate::spans::{Spans, spans_of};
 use mp_bins::first_owner;
+use mp_firsts::Firsts;
 use mp_host_laws::Held;
 use mp_job::Job;
-use mp_model::{Naming, Query, Rec, Time};
+use mp_model::{Naming, Query, Rec};
 use mp_msg::BinState;
 use mp_ordered::OrderedRuns;
 use std::alloc::{AllocError, Global};
@@ -29,10 +32,14 @@ pub struct Host<'a, Q: Query, J: Naming> {
     pub(crate) records: OrderedRuns<Rec, ByGroup>,
     // The states of bins in hand, each as the packet that brought it left it and the groups applied since.
     pub(crate) held: Vec<Held<Q::Cell>>,
-    // The first of their wakes. Kept, since each look at what is ready asks it.
-    pub(crate) first_wake: Option<(Time, u64)>,
+    // Where those of each bin stand.
+    pub(crate) spans: Spans,
+    // The first wake of those of each bin. Kept, since each look at what is ready asks the first of all.
+    pub(crate) firsts: Firsts,
     pub(crate) of: PhantomData<J>,
-    ghost first_kept: { first_wake ≡ first_wake_of held.items },
+    ghost firsts_kept: { AreFirsts job.now.shape.bins firsts held.items },
+    ghost spans_kept: { AreSpans spans (bins_of held.items) },
+    ghost each_bin: { length spans ≡ job.now.shape.bins },
 }
 
 impl<'a, Q: Query, J: Naming> Model for Host<'a, Q, J> {
@@ -66,19 +73,22 @@ impl<'a, Q: Query, J: Naming> Host<'a, Q, J> {
         ensures held { IfOk result (λ h. IsHostOf (Q.facts J.job.rules) J.job empty_log h) }
     {
         let held = first_held::<Q>(alloc, worker, job)?;
-        let first_wake = first_wake(&held);
+        let bins = job.shape().bins;
+        let spans = spans_of(alloc, bins, &held)?;
+        let firsts = Firsts::new(alloc, bins as usize)?;
         Ok(Host {
             job,
             stage,
             worker,
             records: OrderedRuns::new(alloc),
             held,
-            first_wake,
+            spans,
+            firsts,
             of: PhantomData,
         })
     }
 
-    /// Makes room, so that the next `count` calls of `receive` answer `Ok`, and the next one of `install` too.
+    /// Makes room, so that bundles of `count` records in all are received, and the next packet is installed.
     /// `AllocError`: no memory, and nothing is held that wasn't.
     pub fn make_room(&mut self, count: u64) -> Result<(), AllocError>
         ensures room { OnOk result (count ≤ self.new.room) }
@@ -90,9 +100,9 @@ impl<'a, Q: Query, J: Naming> Host<'a, Q, J> {
         self.records.make_room(count)
     }
 
-    /// Keeps a record of the stage until its group is applied. `AllocError`: no memory, never where there is room, and
-    /// nothing changes.
-    pub fn receive(&mut self, rec: Rec) -> Result<(), AllocError>
+    // Keeps a record of the stage until its group is applied. `AllocError`: no memory, never where there is room, and
+    // nothing changes.
+    pub(crate) fn keep(&mut self, rec: Rec) -> Result<(), AllocError>
         requires { IsRecordOf (Q.facts J.job.rules) J.job self.old.stage rec }
         ensures received { OnOk result (IsReceived rec self.old self.new) }
         ensures held { OnOk result (TakesRecord (Q.facts J.job.rules) J.job rec self.old self.new) }

@@ -11,8 +11,8 @@ ghost use Rattle.mp_host.specs.Moves.{GetsBack, GivesUp, NothingLeaves, TakesPac
 ghost use Rattle.mp_host.specs.Waiting.{waits_beside};
 
 use crate::Host;
+use crate::firsts::renew;
 use crate::numbers::add_one;
-use crate::states::{first_wake, place_before};
 use mp_host_laws::Held;
 use mp_model::{Naming, Query, Time};
 use mp_msg::BinState;
@@ -35,8 +35,9 @@ impl<'a, Q: Query, J: Naming> Host<'a, Q, J> {
         ensures few { IfOk result (λ v. All (λ n. n.1 < 2 ^ 63) v.items) }
         ensures denotes { StandsInOrder (Q.facts J.job.rules) J.job self.now }
     {
+        let _ = &self.job;
         let mut numbers = Vec::new(alloc);
-        let Some(at) = place_before(&self.held, bin, u128::from(time)) else {
+        let Some(at) = self.place_before(bin, u128::from(time)) else {
             return Ok(numbers);
         };
         self.count_waiting(&self.held[at].state.wakes, at, at + 1, &mut numbers)?;
@@ -53,9 +54,10 @@ impl<'a, Q: Query, J: Naming> Host<'a, Q, J> {
         ensures held { IfSome result (λ one. (log : Log) → GivesUp (Q.facts J.job.rules) J.job log bin time one self.old self.new) }
         ensures here { IfNone result ((log : Log) → NothingLeaves (Q.facts J.job.rules) J.job log self.old bin time) }
     {
-        let at = place_before(&self.held, bin, u128::from(time))?;
+        let at = self.place_before(bin, u128::from(time))?;
         let one = self.held.remove(at);
-        self.first_wake = first_wake(&self.held);
+        self.spans.close_up(at);
+        renew(&mut self.firsts, &self.held, &self.spans, one.bin);
         Some(one)
     }
 
@@ -66,8 +68,7 @@ impl<'a, Q: Query, J: Naming> Host<'a, Q, J> {
         ensures put { IsPutIn one self.old self.new }
         ensures held { (before : Hosted Q.Cell) (log : Log) (bin time : ℕ) → GetsBack (Q.facts J.job.rules) J.job log bin time one before self.old self.new }
     {
-        let _ = self.held.push(one);
-        self.first_wake = first_wake(&self.held);
+        self.hold(one);
     }
 
     /// How many groups of each time begin to wait once the state is installed: those of its wakes that don't wait already.
@@ -91,12 +92,24 @@ impl<'a, Q: Query, J: Naming> Host<'a, Q, J> {
         ensures put { IsPutIn (brought bin time state) self.old self.new }
         ensures held { (log : Log) → TakesPacket (Q.facts J.job.rules) J.job log bin time state self.old self.new }
     {
-        let _ = self.held.push(Held {
+        let _ = &self.job;
+        self.hold(Held {
             bin,
             since: Some(time),
             state,
         });
-        self.first_wake = first_wake(&self.held);
+    }
+
+    // Takes a state in hand, behind the others.
+    fn hold(&mut self, one: Held<Q::Cell>)
+        requires room { 1 ≤ self.old.room_for_bins }
+        requires fits { MayBeHeld (Q.facts J.job.rules) J.job self.old.stage one }
+        ensures { IsPutIn one self.old self.new }
+    {
+        let bin = one.bin;
+        self.spans.widen(bin, self.held.len());
+        let _ = self.held.push(one);
+        renew(&mut self.firsts, &self.held, &self.spans, bin);
     }
 
     // How many of the wakes there are of each time whose groups wait neither by a record here nor by a wake of a state that
@@ -112,11 +125,11 @@ impl<'a, Q: Query, J: Naming> Host<'a, Q, J> {
         requires from { from ≤ to }
         requires to { to ≤ length self.now.held }
         requires empty { numbers.old.items ≡ [] }
-        ensures told { OnOk result (AreNumbersOf (filter (λ w. not (waits_beside self.now from to w.0 w.1)) wakes.now) numbers.new.items) }
+        ensures told { OnOk result (AreNumbersOf (filter (λ w. not (waits_beside self.now from to w.0 w.1)) wakes.now.wakes) numbers.new.items) }
         ensures few { OnOk result (All (λ n. n.1 < 2 ^ 63) numbers.new.items) }
-        ensures never_refused_with_room { length (ascending (map (λ w. w.0) wakes.now)) ≤ vec_capacity numbers.old → IsOk result }
+        ensures never_refused_with_room { length (ascending (map (λ w. w.0) wakes.now.wakes)) ≤ vec_capacity numbers.old → IsOk result }
     {
-        for wake in wakes.iter() {
+        for wake in wakes.as_slice() {
             if !self.waits_beside(from, to, wake.0, wake.1) {
                 add_one(numbers, wake.0)?;
             }

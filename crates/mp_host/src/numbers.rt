@@ -1,24 +1,29 @@
 //! Numbers of groups by time.
-ghost use Rattle.std.specs.Prelude.{◌≡◌, ◌≤◌, ◌<◌, ◌^◌, ◌-◌, All, IsOk, OnOk, length};
+ghost use Rattle.std.specs.Prelude.{◌≡◌, ◌≤◌, ◌<◌, ◌^◌, ◌-◌, All, AllPairs, IsOk, OnOk, length, nat_lt};
 ghost use Rattle.std.specs.Vec.{vec_capacity};
 ghost use Rattle.mp_host.specs.Numbers.{with_one};
 
 use mp_model::Time;
 use std::alloc::AllocError;
 
-/// Adds one to the number that stands last, where it is of this time; else puts a new number behind the others.
+/// Adds one to the number of a time among numbers by time; where there is none puts a new number at its place.
 /// `AllocError`: no memory, never where there is room.
 pub fn add_one(numbers: &mut Vec<(Time, u64)>, time: Time) -> Result<(), AllocError>
-    requires { All (λ n. n.1 < 2 ^ 64 - 1) numbers.old.items }
+    requires few { All (λ n. n.1 < 2 ^ 64 - 1) numbers.old.items }
+    requires by_time { AllPairs (λ m n. m.0 < n.0) numbers.old.items }
     ensures added { OnOk result (numbers.new.items ≡ with_one numbers.old.items time) }
     ensures capacity { vec_capacity numbers.old ≤ vec_capacity numbers.new }
     ensures never_refused_with_room { length (with_one numbers.old.items time) ≤ vec_capacity numbers.old → IsOk result }
 {
-    let count = numbers.len();
-    if count > 0 && numbers[count - 1].0 == time {
-        numbers[count - 1].1 += 1;
+    let at = numbers.partition_point(
+        |number: &(Time, u64)| -> bool
+            ensures { result ≡ nat_lt number.now.0 time }
+        { number.0 < time },
+    );
+    if at < numbers.len() && numbers[at].0 == time {
+        numbers[at].1 += 1;
         return Ok(());
     }
-    numbers.push((time, 1))?;
+    numbers.insert(at, (time, 1))?;
     Ok(())
 }

@@ -3,14 +3,15 @@ ghost use Rattle.std.specs.Prelude.{◌≡◌, ◌==◌, ◌↔◌, ℕ, suc, So
 ghost use Rattle.mp_names.specs.Logs.{Log};
 ghost use Rattle.mp_bins.specs.Bins.{bin_of_key};
 ghost use Rattle.mp_bins.specs.Notes.{owner_at};
-ghost use Rattle.mp_host_laws.specs.Hosted.{first_group, is_held_before};
+ghost use Rattle.mp_host_laws.specs.Hosted.{first_group, first_wake_of, is_held_before};
 ghost use Rattle.mp_host_laws.specs.HostOf.{HostMatchesLogAndSeen, IsReadyAt, OwnersAreCurrent};
 ghost use Rattle.mp_host.specs.Hosts.{IsHosted};
 ghost use Rattle.mp_host.specs.Ready.{IsReadyHere};
 
 use crate::Host;
-use crate::states::{earlier_of, place_before};
+use crate::states::place_before;
 use mp_bins::{Owners, bin_of};
+use mp_firsts::earlier_of;
 use mp_model::{Naming, Query, Time};
 use mp_names::Loc;
 use mp_stamps::{Seen, passed};
@@ -53,7 +54,14 @@ impl<'a, Q: Query, J: Naming> Host<'a, Q, J> {
             Some(rec) => Some((rec.time, rec.key)),
             None => None,
         };
-        earlier_of(record, self.first_wake)
+        earlier_of(record, self.first_wake())
+    }
+
+    // The first wake of the states in hand, by time and then by key.
+    fn first_wake(&self) -> Option<(Time, u64)>
+        ensures { result ≡ first_wake_of self.now.held }
+    {
+        self.firsts.first()
     }
 
     // Whether the bin of a key is this worker's at a time, by what was noted.
@@ -70,6 +78,13 @@ impl<'a, Q: Query, J: Naming> Host<'a, Q, J> {
         ensures { result ≡ position (is_held_before (bin_of_key key J.job.shape.bins) (suc time)) self.now.held }
     {
         let bin = bin_of(key, self.job.shape().bins);
-        place_before(&self.held, bin, u128::from(time) + 1)
+        self.place_before(bin, u128::from(time) + 1)
+    }
+
+    // Where the first state of a bin stands that began before a time.
+    pub(crate) fn place_before(&self, bin: u32, time: u128) -> Option<usize>
+        ensures { result ≡ position (is_held_before bin time) self.now.held }
+    {
+        place_before(&self.held, self.spans.of(bin), bin, time)
     }
 }

@@ -1,14 +1,28 @@
 //! The states of bins in hand: which of them has a bin at a time, and which wakes they have.
 ghost use Rattle.std.specs.Prelude.{◌≡◌, ◌==◌, ◌&&◌, position};
 ghost use Rattle.std.specs.List.{list_any};
-ghost use Rattle.mp_host_laws.specs.Hosted.{began_before, earlier_of, first_wake_of, has_wake_in, is_held_before, is_wake};
+ghost use Rattle.mp_host_laws.specs.Hosted.{began_before, has_wake_in, is_held_before, is_wake};
+ghost use Rattle.mp_host.specs.Spans.{IsSpanOf, bins_of};
 
+use crate::spans::Span;
 use mp_host_laws::Held;
 use mp_model::Time;
 use mp_postdated::Wakes;
 
-/// Where the first state of a bin stands that began before a time.
-pub fn place_before<C: Drop>(held: &[Held<C>], bin: u32, time: u128) -> Option<usize>
+/// Where the first state of a bin, whose span is this, stands that began before a time.
+pub fn place_before<C: Drop>(held: &[Held<C>], span: Span, bin: u32, time: u128) -> Option<usize>
+    requires { IsSpanOf span bin (bins_of held.now) }
+    ensures { result ≡ position (is_held_before bin time) held.now }
+{
+    let part = span.among(held.len());
+    match first_before(&held[part.from..part.to], bin, time) {
+        Some(place) => Some(part.from + place),
+        None => None,
+    }
+}
+
+// The same over all of some states.
+fn first_before<C: Drop>(held: &[Held<C>], bin: u32, time: u128) -> Option<usize>
     ensures { result ≡ position (is_held_before bin time) held.now }
 {
     held.iter()
@@ -25,8 +39,17 @@ fn began_before(since: Option<Time>, time: u128) -> bool
     }
 }
 
-/// Whether a state of this bin has the wake of a key at a time.
-pub fn has_wake<C: Drop>(held: &[Held<C>], bin: u32, time: Time, key: u64) -> bool
+/// Whether a state of this bin, whose span is this, has the wake of a key at a time.
+pub fn has_wake<C: Drop>(held: &[Held<C>], span: Span, bin: u32, time: Time, key: u64) -> bool
+    requires { IsSpanOf span bin (bins_of held.now) }
+    ensures { result ≡ list_any (λ s. s.bin == bin && has_wake_in time key s) held.now }
+{
+    let part = span.among(held.len());
+    any_has_wake(&held[part.from..part.to], bin, time, key)
+}
+
+// The same over all of some states.
+fn any_has_wake<C: Drop>(held: &[Held<C>], bin: u32, time: Time, key: u64) -> bool
     ensures { result ≡ list_any (λ s. s.bin == bin && has_wake_in time key s) held.now }
 {
     held.iter().any(|one| has_wake_of(one, bin, time, key))
@@ -41,31 +64,7 @@ fn has_wake_of<C: Drop>(one: &Held<C>, bin: u32, time: Time, key: u64) -> bool
 
 /// Whether a key has a wake at a time.
 pub fn is_woken(wakes: &Wakes, time: Time, key: u64) -> bool
-    ensures { result ≡ list_any (is_wake time key) wakes.now }
+    ensures { result ≡ list_any (is_wake time key) wakes.now.wakes }
 {
     wakes.has(time, key)
-}
-
-/// The first wake of the states, by time and then by key.
-pub fn first_wake<C: Drop>(held: &[Held<C>]) -> Option<(Time, u64)>
-    ensures { result ≡ first_wake_of held.now }
-{
-    let mut first = None;
-    for one in held {
-        first = earlier_of(first, one.state.wakes.least());
-    }
-    first
-}
-
-/// Of two groups, each a time and a key, the first by time and then by key.
-pub fn earlier_of(one: Option<(Time, u64)>, other: Option<(Time, u64)>) -> Option<(Time, u64)>
-    ensures { result ≡ earlier_of one other }
-{
-    let Some(first) = one else {
-        return other;
-    };
-    match other {
-        Some(second) if second.0 < first.0 || second.0 == first.0 && second.1 < first.1 => other,
-        _ => one,
-    }
 }

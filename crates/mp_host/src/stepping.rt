@@ -1,15 +1,11 @@
 //! What a group makes of the state of its key's bin.
-ghost use Rattle.std.specs.Prelude.{◌≡◌, ◌≢◌, ◌<◌, ◌↔◌, ◌⊎◌, ◌==◌, ℕ, true, cond, not, filter, All, Contains, IfOk, OnErr, OnOk};
-ghost use Rattle.std.specs.List.{list_any};
+ghost use Rattle.std.specs.Prelude.{◌≡◌, ◌≢◌, ◌↔◌, ◌⊎◌, ◌==◌, ℕ, true, cond, Contains, IfOk, OnErr, OnOk};
 ghost use Rattle.mp_msg.specs.States.{IsInOrder, cell_in};
 ghost use Rattle.mp_postdated.specs.Wakes.{Has, IsWake};
-ghost use Rattle.mp_host_laws.specs.Hosted.{is_wake};
 
 use crate::cells::{most_in, step_in};
-use crate::states::is_woken;
 use mp_model::{Group, Query, Time, Value};
 use mp_msg::BinState;
-use mp_postdated::Wakes;
 use std::alloc::{AllocError, Global};
 
 /// Applies a group to the state of its key's bin: the outputs, in order. Its wake is used up, the times that its records
@@ -24,7 +20,6 @@ pub fn step_state<Q: Query>(
 ) -> Result<Vec<Value>, AllocError>
     requires fits { let q = Q.facts (Q.rules query.now) in
         q.fits stage (cell_in (q.fresh stage) state.old.cells group.now.key) group.now ≡ true }
-    requires later { All (λ t. group.now.time < t) posts.now }
     ensures wakes { OnOk result ((t k : ℕ) → Has state.new.wakes t k
         ↔ ((Has state.old.wakes t k × (IsWake group.now.time group.now.key (t, k) → ⊥)) ⊎ ((k ≡ group.now.key) × Contains posts.now t))) }
     ensures cells { let q = Q.facts (Q.rules query.now) in
@@ -38,19 +33,12 @@ pub fn step_state<Q: Query>(
     ensures unchanged { OnErr result (state.new ≡ state.old) }
     ensures in_order { IsInOrder state.new }
 {
+    state.wakes.make_room(posts.len())?;
+    let outputs = step_in(alloc, query, stage, &mut state.cells, group)?;
     let key = group.key();
-    let wakes = not_woken(alloc, &state.wakes, key, posts)?;
-    state.wakes.add_all(key, wakes.as_slice())?;
-    match step_in(alloc, query, stage, &mut state.cells, group) {
-        Ok(outputs) => {
-            state.wakes.take_due(group.time(), key);
-            Ok(outputs)
-        }
-        Err(refused) => {
-            state.wakes.take_all(key, wakes.as_slice());
-            Err(refused)
-        }
-    }
+    state.wakes.take_due(group.time(), key);
+    state.wakes.add_all(key, posts);
+    Ok(outputs)
 }
 
 /// No fewer than the outputs that a group of a key of the state's bin will give.
@@ -67,20 +55,4 @@ pub fn most_of_state<Q: Query>(
         result ≡ q.most stage (cell_in (q.fresh stage) state.now.cells group.now.key) group.now }
 {
     most_in(alloc, query, stage, &state.cells, group)
-}
-
-// Those of the times at which a key has no wake.
-fn not_woken(
-    alloc: Global,
-    wakes: &Wakes,
-    key: u64,
-    times: &[Time],
-) -> Result<Vec<Time>, AllocError>
-    ensures { IfOk result (λ v. v.items ≡ filter (λ t. not (list_any (is_wake t key) wakes.now)) times.now) }
-{
-    times
-        .iter()
-        .copied()
-        .filter(|time| !is_woken(wakes, *time, key))
-        .collect(alloc)
 }

@@ -47,6 +47,8 @@ impl<'a, Q: Query, J: Naming> Host<'a, Q, J> {
         ensures { result ≡ is_woken_beside self.now from to time key }
     {
         let bin = bin_of(key, self.job.shape().bins);
-        has_wake(&self.held[..from], bin, time, key) || has_wake(&self.held[to..], bin, time, key)
+        let span = self.spans.of(bin);
+        has_wake(&self.held[..from], span, bin, time, key)
+            || has_wake(&self.held[to..], span.behind(to), bin, time, key)
     }
 }

@@ -1,5 +1,5 @@
 -- A packet that leaves a worker: that it may, and what it changes.
-use Rattle.std.proofs.Common.{◌≡◌, ℕ, ◌<◌, ◌+◌, ◌==◌, List, sym, ap, ◌∙◌, subst}
+use Rattle.std.proofs.Common.{◌≡◌, ℕ, ◌<◌, ◌+◌, ◌==◌, List, [], ◌∷◌, sym, ap, ◌∙◌, subst}
 use Rattle.std.proofs.lemmas.Bool.{and_parts, eqb-true}
 use Rattle.mp_names.specs.declared.names.Name.TheVariants.{Packet}
 use Rattle.mp_names.specs.Logs.{Log, LogIsLegal, with_sent}
@@ -75,7 +75,7 @@ same_packet : {Cell : Type 0} (i j b c t u : ℕ) (s r : BinContent Cell) → Pa
 same_packet i j b c t u s r e = cc
 
 -- a packet of the same name holds the same state
-pub state_back : {Cell : Type 0} (q : QueryFacts Cell) (job : JobFacts) (i j b c t u : ℕ) (s r : BinContent Cell) → IsPacketOf q job i b t s → IsPacketOf q job j c u r → Packet i b t ≡ Packet j c u → s ≡ r
+pub state_back : {Cell : Type 0} (q : QueryFacts Cell) (job : JobFacts) (i j b c t u : ℕ) (s r : BinContent Cell) → IsPacketOf q job i b t s → IsPacketOf q job j c u r → Packet i b t ∷ [] ≡ Packet j c u ∷ [] → s ≡ r
 state_back q job i j b c t u s r comes was named = same_packet i j b c t u s r (bodies_follow_names q job (PacketBody i b t s) (PacketBody j c u r) comes was named)
 
 -- so the bin with it is what it was

@@ -1,93 +1,115 @@
 -- What a worker takes: that it is owed to it, what it changes at the counts, and that the parts hold it.
-use Rattle.std.proofs.Common.{◌≡◌, ◌∷◌, ℕ, Bool, true, false, cond, List, [], take, refl, sym, ap, ◌∙◌, subst}
+use Rattle.std.proofs.Common.{◌≡◌, ◌<◌, ◌≤◌, ◌==◌, ◌∷◌, ℕ, Bool, true, false, cond, if◌then◌else◌, List, [], All, Contains, get_or, length, map, neg_ℤ, pos, take, refl, sym, ap, ◌∙◌, subst, arith}
+use Rattle.std.proofs.lemmas.Bool.{eq-eqb}
+use Rattle.std.proofs.lemmas.List.{length-map}
+use Rattle.std.proofs.lemmas.List.Elements.{All-get_or, Contains-get_or}
 use Rattle.mp_names.specs.declared.controls.Control.{Control}
 use Rattle.mp_names.specs.declared.locations.Loc.TheVariants.{Host, Mail}
 use Rattle.mp_names.specs.declared.names.Name.{Name}
-use Rattle.mp_names.specs.declared.names.Name.TheVariants.{Ctrl, Group, Packet, Row}
+use Rattle.mp_names.specs.declared.names.Name.TheVariants.{Ctrl, Row}
 use Rattle.mp_names.specs.declared.names.Tag.{Tag}
+use Rattle.mp_names.specs.declared.pointstamps.Change.{Change}
 use Rattle.mp_names.specs.Controls.{control_of}
-use Rattle.mp_names.specs.Names.{has}
-use Rattle.mp_names.specs.Outlines.{IsOwed, IsOwedTo, OutlineIsSound, receiver}
-use Rattle.mp_names.specs.Logs.{Log, LogIsLegal, is_pending, with_took}
+use Rattle.mp_names.specs.Names.{has, In, is_rec}
+use Rattle.mp_names.specs.Outlines.{IsOwedTo, Outline, OutlineIsSound, receiver, time_of}
+use Rattle.mp_names.specs.Logs.{Log, LogIsLegal, with_took}
+use Rattle.mp_names.proofs.Lists.{In_here}
 use Rattle.mp_bins.specs.Notes.{Notes, with_note}
-use Rattle.mp_model.specs.declared.fields.Field.{Field}
 use Rattle.mp_model.specs.declared.record.Output.{Output}
 use Rattle.mp_model.specs.declared.record.Rec.{Rec}
 use Rattle.mp_model.specs.Facts.{JobFacts, QueryFacts}
 use Rattle.mp_outline.specs.JobOutline.{name_of_record, outline_of}
-use Rattle.mp_rows.specs.Entries.{AreChanges}
-use Rattle.mp_count_laws.specs.Changes.{one_less, one_more, record_taken_at}
-use Rattle.mp_count_laws.proofs.Took.{record_taken as taken_is_counted}
-use Rattle.mp_msg.specs.Contents.{IsControlOf, IsPacketOf, IsRecordOf, IsRowOf}
-use Rattle.mp_msg.specs.States.{BinContent}
-use Rattle.mp_msg.proofs.Owed.{controls_are_owed, packets_are_owed, records_are_owed, rows_are_owed}
+use Rattle.mp_outline.proofs.Named.{In_named, named_In}
+use Rattle.mp_rows.specs.Entries.{AreChanges, change_at}
+use Rattle.mp_count_laws.specs.Changes.{new_groups, records_taken_at}
+use Rattle.mp_count_laws.proofs.Bundles.{records_taken}
+use Rattle.mp_msg.specs.Bundles.{Bundled, IsBundle, names_in}
+use Rattle.mp_msg.specs.Contents.{IsRecordOf}
 use Rattle.mp_host_laws.specs.Hosted.{Hosted}
 use Rattle.mp_host_laws.specs.HostOf.{IsHostOf}
-use Rattle.mp_host_laws.specs.Applying.{IsReceived}
-use Rattle.mp_host.specs.Telling.{TakesRecord}
+use Rattle.mp_host.specs.Receiving.{AreToCome, TakesRecords}
 use Rattle.mp_handoff.specs.MoversState.{MoversState}
 use Rattle.mp_output.specs.Holding.{HoldsUnwritten}
-use Rattle.mp_worker_invariant.specs.Kept.{with_host, with_movers, with_notes, with_unwritten}
+use Rattle.mp_worker_invariant.specs.Kept.{AreOwedAndNew, with_all_took, with_host, with_movers, with_notes, with_unwritten}
 use Rattle.mp_worker_invariant.specs.Parts.{AreMoversAt, ArePartsOf, IsHostAt, Parts}
 use Rattle.mp_worker_invariant.proofs.Standing.{steps}
-
--- What is owed
-
-module _ {Cell : Type 0} (q : QueryFacts Cell) (job : JobFacts) (w : ℕ) (x : Name) (comes : receiver (outline_of q job) x ≡ w) where
-  -- a control record that comes here is owed to this worker
-  pub control_owed : (i v : ℕ) (c : Control) → IsControlOf job i v c → Ctrl i v ≡ x → IsOwedTo (outline_of q job) w x
-  control_owed i v c content is = (subst (λ (y : Name). IsOwed (outline_of q job) y) is (controls_are_owed q job i v c content), comes)
-
-  -- so is a record
-  pub record_owed : (j : ℕ) (r : Rec) → IsRecordOf q job j r → name_of_record j r ≡ x → IsOwedTo (outline_of q job) w x
-  record_owed j r content is = (subst (λ (y : Name). IsOwed (outline_of q job) y) is (records_are_owed q job j r content), comes)
-
-  -- and the state of a bin that moves
-  pub packet_owed : (j b t : ℕ) (s : BinContent Cell) → IsPacketOf q job j b t s → Packet j b t ≡ x → IsOwedTo (outline_of q job) w x
-  packet_owed j b t s content is = (subst (λ (y : Name). IsOwed (outline_of q job) y) is (packets_are_owed q job j b t s content), comes)
-
-  -- and an answer row
-  pub row_owed : (t : ℕ) (g : Tag) (fields : List Field) → IsRowOf q job t g fields → Row t g ≡ x → IsOwedTo (outline_of q job) w x
-  row_owed t g fields content is = (subst (λ (y : Name). IsOwed (outline_of q job) y) is (rows_are_owed q job t g fields content), comes)
 
 -- a control record that comes here is this worker's
 pub control_here : {Cell : Type 0} (q : QueryFacts Cell) (job : JobFacts) (i v w : ℕ) (x : Name) → Ctrl i v ≡ x → receiver (outline_of q job) x ≡ w → Ctrl i w ≡ x
 control_here q job i v w x is comes = ap (λ (u : ℕ). Ctrl i u) (sym (ap (λ (y : Name). receiver (outline_of q job) y) is ∙ comes)) ∙ is
 
--- A record
+-- The only name of a message that is owed to this worker and new to it
+module _ (o : Outline) (w : ℕ) (log : Log) (x : Name) (xs : List Name) (is : x ∷ [] ≡ xs) (new : AreOwedAndNew o w log xs) where
+  listed : In x xs
+  listed = subst (In x) is (In_here x [])
 
--- what a record that is taken adds to the counts: the second change only where its group didn't wait
-changes_shown : (j t : ℕ) (waited : Bool) (n : ℕ) → n ≡ cond waited 1 2 → take n (one_less (Mail j) t ∷ one_more (Host j) t ∷ []) ≡ record_taken_at j t waited
-changes_shown j t true n e = rw e refl
-changes_shown j t false n e = rw e refl
+  pub only_owed : IsOwedTo o w x
+  only_owed = (new.1 x listed).0
 
-module _ {Cell : Type 0} (q : QueryFacts Cell) (job : JobFacts) (w : ℕ) (log : Log) (j : ℕ) (r : Rec) (old : Hosted Cell) (at : IsHostAt q job w log j old) (legal : LogIsLegal (outline_of q job) w log) (x : Name) (is : x ≡ name_of_record j r) (fresh : has log.took x ≡ false) where
-  -- the host's worker is this one
-  its_log : LogIsLegal (outline_of q job) old.worker log
-  its_log = subst (λ (v : ℕ). LogIsLegal (outline_of q job) v log) (sym at.1) legal
+  pub only_new : has log.took x ≡ false
+  only_new = (new.1 x listed).1
 
-  named_fresh : has log.took (name_of_record j r) ≡ false
-  named_fresh = subst (λ (y : Name). has log.took y ≡ false) is fresh
+-- Records that came together
 
-  pub record_changes : OutlineIsSound (outline_of q job) → IsOwedTo (outline_of q job) w x
-      → (waited : Bool) → ((l : Log) → IsHostOf q job l old → LogIsLegal (outline_of q job) old.worker l → waited ≡ is_pending (outline_of q job) l (Group old.stage r.time r.key))
-      → (n : ℕ) → n ≡ cond waited 1 2
-      → AreChanges (outline_of q job) w log (with_took log x) (take n (one_less (Mail j) r.time ∷ one_more (Host j) r.time ∷ []))
-  record_changes sound owed waited told n count =
-      let o = outline_of q job in
-      let pends = sym (told log at.2 its_log) in
-      let known = subst (λ (i : ℕ). is_pending o log (Group i r.time r.key) ≡ waited) at.0 pends in
-      let mine = subst (λ (y : Name). IsOwedTo o w y) is owed in
-      rw (is, changes_shown j r.time waited n count) (taken_is_counted o w log sound legal j r.time r.key r.tag mine named_fresh waited known)
+-- what they add to the counts: the second change only where a group begins to wait
+changes_shown : (first second : Change) (none : Bool) (n : ℕ) → n ≡ cond none 1 2 → take n (first ∷ second ∷ []) ≡ first ∷ (if none then [] else second ∷ [])
+changes_shown first second true n e = rw e refl
+changes_shown first second false n e = rw e refl
 
-  pub record_held : (new : Hosted Cell) → IsReceived r old new → TakesRecord q job r old new → IsHostAt q job w (with_took log x) j new
-  record_held new received takes =
-      let fresh_there = subst (λ (i : ℕ). has log.took (name_of_record i r) ≡ false) (sym at.0) named_fresh in
-      let holds = takes log at.2 its_log fresh_there in (
-        received.stage ∙ at.0,
-        received.worker ∙ at.1,
-        rw is (subst (λ (i : ℕ). IsHostOf q job (with_took log (name_of_record i r)) new) at.0 holds),
-      )
+module _ {Cell : Type 0} (q : QueryFacts Cell) (job : JobFacts) (b : Bundled) (bundle : IsBundle q job b) where
+  -- each of their names is that of a record of their stage
+  pub each_is_record : (x : Name) → In x (names_in b) → is_rec b.stage x ≡ true
+  each_is_record x i = let a = In_named (name_of_record b.stage) b.recs x i in subst (λ (y : Name). is_rec b.stage y ≡ true) a.2 (eq-eqb b.stage b.stage refl)
+
+  -- there are some, and no more than travel together
+  pub some_records : 0 < length b.recs
+  some_records = let some = bundle.message.some in omega (arith, length-map b.recs (name_of_record b.stage), some)
+
+  pub few_records : length b.recs ≤ 64
+  few_records = let few = bundle.message.few in omega (arith, length-map b.recs (name_of_record b.stage), few)
+
+  -- the job has their stage
+  pub stage_below : b.stage < job.shape.stages
+  stage_below = below b.recs some_records bundle.records
+    where
+      below : (rs : List Rec) → 0 < length rs → All (IsRecordOf q job b.stage) rs → b.stage < job.shape.stages
+      below [] some all = absurd (omega arith)
+      below (r ∷ rs) some all = (All-get_or (IsRecordOf q job b.stage) (r ∷ rs) 0 r some all).0
+
+  -- their time is that of the first
+  time_is : (r : Rec) → r ≡ get_or b.recs 0 r → (x : Name) → In x (names_in b) → time_of (outline_of q job) x ≡ r.time
+  time_is r at x i =
+      let here = named_In (name_of_record b.stage) b.recs r (subst (Contains b.recs) (sym at) (Contains-get_or b.recs 0 r some_records)) in
+      (bundle.message.together (name_of_record b.stage r) x here i).0
+
+  module _ (w : ℕ) (log : Log) (new : AreOwedAndNew (outline_of q job) w log (names_in b)) (legal : LogIsLegal (outline_of q job) w log) (old : Hosted Cell) (at : IsHostAt q job w log b.stage old) where
+    -- the host's worker is this one
+    its_log : LogIsLegal (outline_of q job) old.worker log
+    its_log = subst (λ (v : ℕ). LogIsLegal (outline_of q job) v log) (sym at.1) legal
+
+    come : AreToCome (outline_of q job) log old.worker (names_in b)
+    come = subst (λ (v : ℕ). AreToCome (outline_of q job) log v (names_in b)) (sym at.1) (record { once = new.0; owed = λ x i. (new.1 x i).0; fresh = λ x i. (new.1 x i).1 })
+
+    pub records_changes : OutlineIsSound (outline_of q job) → (r : Rec) → r ≡ get_or b.recs 0 r
+        → (groups : ℕ) → ((l : Log) → IsHostOf q job l old → LogIsLegal (outline_of q job) old.worker l → AreToCome (outline_of q job) l old.worker (names_in b) → groups ≡ new_groups (outline_of q job) l (names_in b))
+        → (n : ℕ) → n ≡ cond (groups == 0) 1 2
+        → AreChanges (outline_of q job) w log (with_all_took log (names_in b))
+        (take n (change_at (Mail b.stage) r.time (neg_ℤ (pos (length b.recs))) ∷ change_at (Host b.stage) r.time (pos groups) ∷ []))
+    records_changes sound r first groups told n count =
+        let o = outline_of q job in
+        let xs = names_in b in
+        let many = length-map b.recs (name_of_record b.stage) in
+        let begun = told log at.2 its_log come in
+        let all = records_taken o w log sound legal b.stage r.time xs bundle.message.some (λ x i. (each_is_record x i, time_is r first x i, (new.1 x i).0, (new.1 x i).1)) in
+        let shown = changes_shown (change_at (Mail b.stage) r.time (neg_ℤ (pos (length b.recs)))) (change_at (Host b.stage) r.time (pos groups)) (groups == 0) n count in
+        rw shown
+        (subst (λ (m : ℕ). AreChanges o w log (with_all_took log xs) (records_taken_at b.stage r.time (length b.recs) m)) (sym begun)
+        (subst (λ (m : ℕ). AreChanges o w log (with_all_took log xs) (records_taken_at b.stage r.time m (new_groups o log xs))) many all))
+
+    pub records_held : (new : Hosted Cell) → new.stage ≡ old.stage → new.worker ≡ old.worker → TakesRecords q job b.recs old new → IsHostAt q job w (with_all_took log (names_in b)) b.stage new
+    records_held new stage worker takes =
+        let there = subst (λ (i : ℕ). AreToCome (outline_of q job) log old.worker (map (name_of_record i) b.recs)) (sym at.0) come in
+        (stage ∙ at.0, worker ∙ at.1, subst (λ (i : ℕ). IsHostOf q job (with_all_took log (map (name_of_record i) b.recs)) new) at.0 (takes log at.2 its_log there))
 
 -- The parts
 
@@ -103,10 +125,10 @@ module _ {Cell : Type 0} {q : QueryFacts Cell} {job : JobFacts} {p : Parts Cell}
       (subst (λ (d : Control). AreMoversAt q job p.number (with_took p.log (Ctrl i p.number)) d.stage m) of_job at) in
       rw of_job taken
 
-  -- a record is
-  pub record_taken : (j : ℕ) (r : Rec) (x : Name) → x ≡ name_of_record j r → IsOwedTo (outline_of q job) p.number x → has p.log.took x ≡ false
-      → (h : Hosted Cell) → IsHostAt q job p.number (with_took p.log x) j h → ArePartsOf q job (with_host p (with_took p.log x) j h)
-  record_taken j r x is owed fresh h holds = rw is ((steps sound are).receive j r.time r.key r.tag h (rw is at owed) (rw is at fresh) (rw is at holds))
+  -- records that came together are
+  pub records_taken_here : (b : Bundled) → IsBundle q job b → AreOwedAndNew (outline_of q job) p.number p.log (names_in b)
+      → (h : Hosted Cell) → IsHostAt q job p.number (with_all_took p.log (names_in b)) b.stage h → ArePartsOf q job (with_host p (with_all_took p.log (names_in b)) b.stage h)
+  records_taken_here b bundle new h holds = (steps sound are).receive b.stage (names_in b) h new (each_is_record q job b bundle) holds
 
   -- an answer row is
   pub row_taken : (t : ℕ) (g : Tag) (x : Name) → x ≡ Row t g → IsOwedTo (outline_of q job) p.number x → has p.log.took x ≡ false

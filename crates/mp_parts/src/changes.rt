@@ -1,6 +1,7 @@
 //! One more, one less, or so many more, at a pointstamp.
-ghost use Rattle.std.specs.Prelude.{◌≡◌, ◌≤◌, ◌<◌, ◌+◌, ◌^◌, ◌++◌, IsOk, vec_len};
+ghost use Rattle.std.specs.Prelude.{◌≡◌, ◌≤◌, ◌<◌, ◌+◌, ◌^◌, ◌++◌, IsOk, neg_ℤ, pos, vec_len};
 ghost use Rattle.std.specs.Vec.{vec_capacity};
+ghost use Rattle.mp_rows.specs.Entries.{change_at};
 ghost use Rattle.mp_count_laws.specs.Changes.{one_less, one_more, some_more};
 
 use mp_names::{Change, Loc, Pointstamp, Time};
@@ -23,6 +24,28 @@ pub fn one_less(loc: Loc, time: Time) -> Change
     Change {
         at: Pointstamp { loc, time },
         by: -1,
+    }
+}
+
+/// So many more are outstanding at a location and time.
+pub fn many_more(loc: Loc, time: Time, count: usize) -> Change
+    requires { count < 2 ^ 63 }
+    ensures { result ≡ change_at loc time (pos count) }
+{
+    Change {
+        at: Pointstamp { loc, time },
+        by: count as i64,
+    }
+}
+
+/// So many less are outstanding at a location and time.
+pub fn many_less(loc: Loc, time: Time, count: usize) -> Change
+    requires { count < 2 ^ 63 }
+    ensures { result ≡ change_at loc time (neg_ℤ (pos count)) }
+{
+    Change {
+        at: Pointstamp { loc, time },
+        by: -(count as i64),
     }
 }
 

@@ -11,7 +11,7 @@ mod onward;
 mod room;
 mod tally;
 
-pub use changes::{one_less, one_more, push_more};
+pub use changes::{many_less, many_more, one_less, one_more, push_more};
 pub use cursor::place_after;
 pub use leaving::changes_of_leaving;
 pub use onward::{hold_records, hold_rows, location_after, make_room_onward};

@@ -1,5 +1,5 @@
 -- Each step of a worker keeps its parts what its log says.
-use Rattle.std.proofs.Common.{◌≡◌, ℕ, suc, ◌<◌, ◌==◌, true, false, List, [], length, get_or, set, refl, sym, ap, ◌∙◌, subst, ⊎_elim, arith}
+use Rattle.std.proofs.Common.{◌≡◌, ℕ, suc, ◌<◌, ◌==◌, true, false, List, [], ◌∷◌, ◌++◌, length, get_or, set, refl, sym, ap, ◌∙◌, subst, ⊎_elim, append_assoc, append-nil, arith}
 use Rattle.std.proofs.lemmas.Bool.{false≢true, cases_eq, eqb-true, false_from_ne_true}
 use Rattle.std.proofs.lemmas.List.{length-set, get_or-set_same, get_or-set_other}
 use Rattle.mp_names.specs.declared.kinds.Kind.{Kind}
@@ -11,26 +11,32 @@ use Rattle.mp_names.specs.Controls.{control_of}
 use Rattle.mp_names.specs.Frontiers.{HasPassed, HasReached}
 use Rattle.mp_names.specs.Keeping.{IsUnsettled}
 use Rattle.mp_names.specs.Names.{has, In, IsLeast, is_ctrl, is_packet, is_rec, is_row}
-use Rattle.mp_names.specs.Outlines.{IsOwedBy, IsOwedTo, OutlineIsSound}
+use Rattle.mp_names.specs.Outlines.{IsOwedBy, IsOwedTo, Outline, OutlineIsSound}
 use Rattle.mp_names.specs.Logs.{Log, LogIsLegal, with_applied, with_ingested, with_sent, with_settled, with_took}
+use Rattle.mp_names.proofs.Lists.{In_here, In_later}
+use Rattle.mp_machine.specs.Messages.{bundle_of}
 use Rattle.mp_machine.specs.Steps.{logged}
 use Rattle.mp_machine.proofs.Keeps.{logged_grows}
+use Rattle.mp_machine.proofs.Messages.{bundle_held}
 use Rattle.mp_stamps.specs.Seen.{SeenIsDone, seen_at}
 use Rattle.mp_bins.specs.Notes.{Notes, with_note}
 use Rattle.mp_model.specs.Facts.{JobFacts, QueryFacts}
 use Rattle.mp_outline.specs.JobOutline.{outline_of}
 use Rattle.mp_route.specs.Routed.{Routed}
+use Rattle.mp_route.specs.Unsent.{HoldsUnsent, MayGo, with_all_sent}
+use Rattle.mp_output.specs.Holding.{HoldsUnwritten}
 use Rattle.mp_host_laws.specs.Hosted.{Hosted}
 use Rattle.mp_host_laws.specs.HostOf.{IsHostOf, IsReadyAt}
 use Rattle.mp_handoff.specs.Due.{IsDueHere}
-use Rattle.mp_handoff.specs.Laws.{MoversStay}
+use Rattle.mp_handoff.specs.Laws.{MoversStay, is_control_of}
 use Rattle.mp_handoff.specs.MoversState.{MoversState}
 use Rattle.mp_handoff.specs.MoversOf.{IsMoversOf}
 use Rattle.mp_handoff.proofs.Same.{movers_always_stay}
-use Rattle.mp_worker_invariant.specs.Kept.{StepsKeepParts, with_host, with_movers, with_next, with_notes}
+use Rattle.mp_worker_invariant.specs.Kept.{AreOwedAndNew, StepsKeepParts, with_all_took, with_host, with_movers, with_next, with_notes, with_router}
 use Rattle.mp_worker_invariant.specs.Laws.{HostsStay, RoutersStay, StepsStayLegal, UnsentRowsStay, UnwrittenStay}
-use Rattle.mp_worker_invariant.specs.Parts.{AreMoversAt, ArePartsOf, AreSentBefore, AreTaken, AtEach, IsHostAt, IsRouterAt, Parts, place_after}
-use Rattle.mp_worker_invariant.proofs.Legal.{steps_stay_legal}
+use Rattle.mp_worker_invariant.specs.Parts.{AreMoversAt, ArePartsOf, AreSentBefore, AreTaken, AtEach, HoldsRowsBut, IsHostAt, IsRouterAt, Parts, place_after}
+use Rattle.mp_worker_invariant.specs.Machine.{machine_worker}
+use Rattle.mp_worker_invariant.proofs.Legal.{receive_legal, route_legal, steps_stay_legal}
 use Rattle.mp_worker_invariant.proofs.Noted.{place_not_before, sent_else, sent_more, sent_stays, taken_else, taken_more, taken_stays}
 use Rattle.mp_worker_invariant.proofs.Unheard.{hosts_stay, routers_stay, seen_stays, unsent_rows_stay, unwritten_rows_stay}
 
@@ -50,6 +56,22 @@ module _ {X : Type 0} (P Q : ℕ → X → Type 0) where
       subst (λ (n : ℕ). Q n (get_or (set xs i v) n d)) (sym e) (subst (Q i) (sym (get_or-set_same xs i v d here)) new))
       (λ (e : j ≡ i → ⊥). subst (Q j) (sym (get_or-set_other xs i j v d e)) (k j (get_or xs j d) e (h j d inside)))
       (cases_eq j i)
+
+-- Names one after the other
+
+-- what holds of a log and stays with one name more, stays with several more
+module _ (P : Log → Type 0) (Q : Name → Type 0) where
+  all_sent : ((log : Log) (x : Name) → Q x → P log → P (with_sent log x)) → (xs : List Name) → ((x : Name) → In x xs → Q x) → (log : Log) → P log → P (with_all_sent log xs)
+  all_sent one [] each log h = subst (λ (l : List Name). P (record log { sent = l })) (sym (append-nil log.sent)) h
+  all_sent one (x ∷ xs) each log h =
+      subst (λ (l : List Name). P (record log { sent = l })) (append_assoc log.sent (x ∷ []) xs)
+      (all_sent one xs (λ y i. each y (In_later y x xs i)) (with_sent log x) (one log x (each x (In_here x xs)) h))
+
+  all_took : ((log : Log) (x : Name) → Q x → P log → P (with_took log x)) → (xs : List Name) → ((x : Name) → In x xs → Q x) → (log : Log) → P log → P (with_all_took log xs)
+  all_took one [] each log h = subst (λ (l : List Name). P (record log { took = l })) (sym (append-nil log.took)) h
+  all_took one (x ∷ xs) each log h =
+      subst (λ (l : List Name). P (record log { took = l })) (append_assoc log.took (x ∷ []) xs)
+      (all_took one xs (λ y i. each y (In_later y x xs i)) (with_took log x) (one log x (each x (In_here x xs)) h))
 
 -- Names of other kinds
 
@@ -71,6 +93,10 @@ no_row i _ e = absurd (false≢true e)
 no_control : (i : ℕ) (x : Name) → is_rec i x ≡ true → is_ctrl x ≡ false
 no_control i (RecName n t k g) e = refl
 no_control i _ e = absurd (false≢true e)
+
+no_control_of : (o : Outline) (j i : ℕ) (x : Name) → is_rec i x ≡ true → is_control_of o j x ≡ false
+no_control_of o j i (RecName n t k g) e = refl
+no_control_of o j i _ e = absurd (false≢true e)
 
 row_no_record : (j : ℕ) (x : Name) → is_row x ≡ true → is_rec j x ≡ false
 row_no_record j (Row t g) e = refl
@@ -104,8 +130,11 @@ module _ {Cell : Type 0} (q : QueryFacts Cell) (job : JobFacts) (sound : Outline
   legal = steps_stay_legal q job sound p.number parts.worker p.log parts.legal p.seen parts.done
 
   -- what was seen to be over is over after a step of any kind
-  over : (kind : Kind) (x : Name) → SeenIsDone (outline_of q job) p.number (logged kind p.log x) p.seen
-  over kind x = seen_stays q job p.number p.log (logged kind p.log x) p.seen (logged_grows kind p.log x) parts.done
+  all_over : (kind : Kind) (xs : List Name) → SeenIsDone (outline_of q job) p.number (logged kind p.log xs) p.seen
+  all_over kind xs = seen_stays q job p.number p.log (logged kind p.log xs) p.seen (logged_grows kind p.log xs) parts.done
+
+  over : (kind : Kind) (x : Name) → SeenIsDone (outline_of q job) p.number (logged kind p.log (x ∷ [])) p.seen
+  over kind x = all_over kind (x ∷ [])
 
   -- where nothing else is taken, the notes stay
   notes_while : (log : Log) → p.log.took ≡ log.took → AreTaken job p.number log p.notes
@@ -267,6 +296,49 @@ module _ {Cell : Type 0} (q : QueryFacts Cell) (job : JobFacts) (sound : Outline
         unwritten = unwritten.settled p.log p.unwritten x refl parts.unwritten;
       }
 
+  records_sent : (j : ℕ) (x : Name) (xs : List Name) (r : Routed) → MayGo q job p.number p.log j p.seen x → xs ≡ bundle_of (outline_of q job) p.number p.log j x
+      → IsRouterAt q job p.number (with_all_sent p.log xs) j r → ArePartsOf q job (with_router p (with_all_sent p.log xs) j r)
+  records_sent j x xs r may those holds =
+      let log = with_all_sent p.log xs in
+      let o = outline_of q job in
+      let is : (y : Name) → In y xs → is_rec j y ≡ true = λ y i. (bundle_held o sound p.number (machine_worker p) j x y (subst (In y) those i)).0 in
+      record {
+        worker = parts.worker;
+        legal = route_legal q job sound p.number parts.worker p.log parts.legal p.seen parts.done j x xs may those;
+        done = all_over (Route j) xs;
+        notes = notes_while log refl;
+        next = λ first. all_sent (λ l. AreSentBefore job l p.next) (λ y. is_rec j y ≡ true) (λ l y i. sent_else job l p.next y (no_control j y i)) xs is p.log (parts.next first);
+        all_routers = length-set p.routers j r ∙ parts.all_routers;
+        routers = router_is_new log j r holds (λ s apart a. (a.0, all_sent (λ l. HoldsUnsent q job p.number l s) (λ y. is_rec j y ≡ true) (λ l y i. routers.sent l s y (no_record_else j s.stage y i apart)) xs is p.log a.1));
+        all_hosts = parts.all_hosts;
+        hosts = all_hosts_stay log (λ s. all_sent (λ l. IsHostOf q job l s) (λ y. is_rec j y ≡ true) (λ l y i. hosts.sent l s y (no_packet j s.stage y i)) xs is p.log);
+        all_movers = parts.all_movers;
+        movers = all_movers_stay log (λ m. all_sent (λ l. IsMoversOf o l m) (λ y. is_rec j y ≡ true) (λ l y i a. (movers_always_stay o l m a).sent y (no_packet j m.stage y i)) xs is p.log);
+        unsent = all_sent (λ l. HoldsRowsBut q job p.number l [] p.unsent) (λ y. is_rec j y ≡ true) (λ l y i. unsent.sent l p.unsent y (no_row j y i)) xs is p.log parts.unsent;
+        unwritten = all_sent (λ l. HoldsUnwritten l p.unwritten) (λ y. is_rec j y ≡ true) (λ l y i. unwritten.sent l p.unwritten y) xs is p.log parts.unwritten;
+      }
+
+  records_took : (j : ℕ) (xs : List Name) (h : Hosted Cell) → AreOwedAndNew (outline_of q job) p.number p.log xs → ((x : Name) → In x xs → is_rec j x ≡ true)
+      → IsHostAt q job p.number (with_all_took p.log xs) j h → ArePartsOf q job (with_host p (with_all_took p.log xs) j h)
+  records_took j xs h new is holds =
+      let log = with_all_took p.log xs in
+      let o = outline_of q job in
+      record {
+        worker = parts.worker;
+        legal = receive_legal q job sound p.number parts.worker p.log parts.legal p.seen parts.done xs new;
+        done = all_over (Receive 0) xs;
+        notes = all_took (λ l. AreTaken job p.number l p.notes) (λ y. is_rec j y ≡ true) (λ l y i. taken_else job p.number l p.notes y (no_control j y i)) xs is p.log parts.notes;
+        next = next_while log refl;
+        all_routers = parts.all_routers;
+        routers = all_routers_stay log (λ s a. (a.0, all_took (λ l. HoldsUnsent q job p.number l s) (λ y. is_rec j y ≡ true) (λ l y i. routers.took l s y) xs is p.log a.1));
+        all_hosts = length-set p.hosts j h ∙ parts.all_hosts;
+        hosts = host_is_new log j h holds (λ s apart. all_took (λ l. IsHostOf q job l s) (λ y. is_rec j y ≡ true) (λ l y i. hosts.took l s y (no_record_else j s.stage y i apart) (no_packet j s.stage y i)) xs is p.log);
+        all_movers = parts.all_movers;
+        movers = all_movers_stay log (λ m. all_took (λ l. IsMoversOf o l m) (λ y. is_rec j y ≡ true) (λ l y i a. (movers_always_stay o l m a).took y (no_control_of o m.stage j y i)) xs is p.log);
+        unsent = all_took (λ l. HoldsRowsBut q job p.number l [] p.unsent) (λ y. is_rec j y ≡ true) (λ l y i. unsent.took l p.unsent y) xs is p.log parts.unsent;
+        unwritten = all_took (λ l. HoldsUnwritten l p.unwritten) (λ y. is_rec j y ≡ true) (λ l y i. unwritten.took l p.unwritten y (no_row j y i)) xs is p.log parts.unwritten;
+      }
+
   pub steps_keep_parts : StepsKeepParts q job p
   steps_keep_parts = record {
     ingest = λ x r next holds.
@@ -287,42 +359,8 @@ module _ {Cell : Type 0} (q : QueryFacts Cell) (job : JobFacts) (sound : Outline
           unwritten = unwritten.ingested p.log p.unwritten x parts.unwritten;
         };
     send_control = control_sent;
-    route = λ j x r may holds.
-        let log = with_sent p.log x in
-        let is : is_rec j x ≡ true = may.0.0.0 in
-        record {
-          worker = parts.worker;
-          legal = legal.route j x may;
-          done = over (Route j) x;
-          notes = notes_while log refl;
-          next = λ first. sent_else job p.log p.next x (no_control j x is) (parts.next first);
-          all_routers = length-set p.routers j r ∙ parts.all_routers;
-          routers = router_is_new log j r holds (λ s apart a. (a.0, routers.sent p.log s x (no_record_else j s.stage x is apart) a.1));
-          all_hosts = parts.all_hosts;
-          hosts = all_hosts_stay log (λ s. hosts.sent p.log s x (no_packet j s.stage x is));
-          all_movers = parts.all_movers;
-          movers = all_movers_stay log (λ m a. (movers m a).sent x (no_packet j m.stage x is));
-          unsent = unsent.sent p.log p.unsent x (no_row j x is) parts.unsent;
-          unwritten = unwritten.sent p.log p.unwritten x parts.unwritten;
-        };
-    receive = λ j t k g h owed fresh holds.
-        let x = RecName j t k g in
-        let log = with_took p.log x in
-        record {
-          worker = parts.worker;
-          legal = legal.receive x owed fresh;
-          done = over (Receive 0) x;
-          notes = taken_else job p.number p.log p.notes x refl parts.notes;
-          next = next_while log refl;
-          all_routers = parts.all_routers;
-          routers = all_routers_stay log (λ s a. (a.0, routers.took p.log s x a.1));
-          all_hosts = length-set p.hosts j h ∙ parts.all_hosts;
-          hosts = hosts_took j x h (λ s apart. (other_number j s apart, refl)) holds;
-          all_movers = parts.all_movers;
-          movers = all_movers_stay log (λ m a. (movers m a).took x refl);
-          unsent = unsent.took p.log p.unsent x parts.unsent;
-          unwritten = unwritten.took p.log p.unwritten x refl parts.unwritten;
-        };
+    route = records_sent;
+    receive = records_took;
     receive_control = control_took;
     receive_packet = packet_took;
     extract = packet_sent;

@@ -1,15 +1,23 @@
 -- Each step keeps the log legal.
-use Rattle.std.proofs.Common.{◌≡◌, ℕ, ◌<◌, false, length, refl}
+use Rattle.std.proofs.Common.{◌≡◌, ℕ, ◌<◌, false, List, [], ◌∷◌, length, refl, sym, subst, append-nil, arith}
 use Rattle.std.proofs.lemmas.Bool.{eq-eqb}
+use Rattle.mp_names.specs.declared.kinds.Kind.TheVariants.{Receive, Route}
+use Rattle.mp_names.specs.declared.names.Name.{Name}
 use Rattle.mp_names.specs.declared.names.Name.TheVariants.{Ctrl, Packet, Group}
+use Rattle.mp_names.specs.declared.locations.Frontier.{Frontier}
+use Rattle.mp_names.specs.declared.locations.Frontier.TheVariants.{At}
+use Rattle.mp_names.specs.declared.locations.Loc.{Loc}
 use Rattle.mp_names.specs.declared.locations.Loc.TheVariants.{CtlMail, Host, Mail, OutMail, State}
-use Rattle.mp_names.specs.Frontiers.{HasReached}
+use Rattle.mp_names.specs.Frontiers.{HasPassed, HasReached, IsClosedForOne}
 use Rattle.mp_names.specs.Names.{has, IsLeast, is_ctrl, is_rec, is_row}
 use Rattle.mp_names.specs.Outlines.{OutlineIsSound}
 use Rattle.mp_names.specs.Logs.{Log, LogIsLegal, with_applied, with_sent}
 use Rattle.mp_names.proofs.Keeps.{group_keeps, held_keeps, ingested_keeps, packet_keeps, time_keeps, took_keeps, written_keeps}
 use Rattle.mp_names.proofs.Owners.{move_in_shape}
 use Rattle.mp_names.proofs.Exact.{passed_below}
+use Rattle.mp_machine.specs.Messages.{bundle_of}
+use Rattle.mp_machine.specs.Worlds.{Worker}
+use Rattle.mp_machine.proofs.Keeps.{step_keeps}
 use Rattle.mp_stamps.specs.declared.seen.Seen.{Seen}
 use Rattle.mp_stamps.specs.Seen.{SeenIsDone, seen_at}
 use Rattle.mp_model.specs.Facts.{JobFacts, QueryFacts}
@@ -17,6 +25,8 @@ use Rattle.mp_outline.specs.JobOutline.{outline_of}
 use Rattle.mp_host_laws.specs.Hosted.{Hosted}
 use Rattle.mp_host_laws.specs.HostOf.{IsReadyAt}
 use Rattle.mp_handoff.specs.Due.{IsDueHere}
+use Rattle.mp_route.specs.Unsent.{MayGo, with_all_sent}
+use Rattle.mp_worker_invariant.specs.Kept.{AreOwedAndNew, with_all_took}
 use Rattle.mp_worker_invariant.specs.Laws.{StepsStayLegal}
 
 module _ {Cell : Type 0} (q : QueryFacts Cell) (job : JobFacts) (sound : OutlineIsSound (outline_of q job)) (w : ℕ) (worker : w < job.shape.workers) (log : Log) (legal : LogIsLegal (outline_of q job) w log) (seen : Seen) (done : SeenIsDone (outline_of q job) w log seen) where
@@ -34,6 +44,30 @@ module _ {Cell : Type 0} (q : QueryFacts Cell) (job : JobFacts) (sound : Outline
   group_legal : (h : Hosted Cell) (t k : ℕ) → h.worker ≡ w → h.stage < job.shape.stages → IsReadyAt q job log seen h t k → LogIsLegal (outline_of q job) w (with_applied log (Group h.stage t k))
   group_legal h t k own below ready =
       group_keeps (outline_of q job) sound w worker log legal h.stage t k ready.least (done (Mail h.stage) t below ready.mail) (done (State h.stage) t below ready.state)
+
+  -- of what was seen that of the control records alone
+  abbrev pub controls_seen : Loc → Frontier
+  controls_seen CtlMail = seen_at seen CtlMail
+  controls_seen _ = At 0
+
+  never : (t : ℕ) → t < 0 → ⊥
+  never t l = omega arith
+
+  pub controls_known : (at : Loc) (t : ℕ) → HasPassed (controls_seen at) t → IsClosedForOne (outline_of q job) w log at t
+  controls_known CtlMail t passed = done CtlMail t tt passed
+  controls_known _ t passed = absurd (never t passed)
+
+  abbrev pub informed : Worker
+  informed = record { log = log; posted = log; seen = controls_seen; version = 0 }
+
+  -- several records may be sent at once
+  pub route_legal : (j : ℕ) (x : Name) (xs : List Name) → MayGo q job w log j seen x → xs ≡ bundle_of (outline_of q job) w log j x → LogIsLegal (outline_of q job) w (with_all_sent log xs)
+  route_legal j x xs may those = step_keeps (outline_of q job) sound w worker informed legal controls_known (Route j) x xs may.0 may.1 those tt
+
+  -- and several taken
+  pub receive_legal : (xs : List Name) → AreOwedAndNew (outline_of q job) w log xs → LogIsLegal (outline_of q job) w (with_all_took log xs)
+  receive_legal [] new = subst (λ (l : List Name). LogIsLegal (outline_of q job) w (record log { took = l })) (sym (append-nil log.took)) legal
+  receive_legal (x ∷ xs) new = step_keeps (outline_of q job) sound w worker informed legal controls_known (Receive 0) x (x ∷ xs) tt tt (xs, refl) new
 
   pub steps_stay_legal : StepsStayLegal q job w log seen
   steps_stay_legal =

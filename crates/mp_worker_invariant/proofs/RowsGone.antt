@@ -51,7 +51,7 @@ module _ {Cell : Type 0} (q : QueryFacts Cell) (job : JobFacts) (row : Output) (
 
   -- a row of this name is the one that was given up, so with that put back the rows are what they were
   pub rows_back : (fields : List Field) → row.value ≡ RowValue fields → (rows rest : List Output) → put_in_order place_rank row rest ≡ rows
-      → (t : ℕ) (g : Tag) (others : List Field) → IsRowOf q job t g others → RowName t g ≡ name_of_row row → (last : List Output) → last ≡ put_in_order place_rank (row_of t g others) rest → last ≡ rows
+      → (t : ℕ) (g : Tag) (others : List Field) → IsRowOf q job t g others → RowName t g ∷ [] ≡ name_of_row row ∷ [] → (last : List Output) → last ≡ put_in_order place_rank (row_of t g others) rest → last ≡ rows
   rows_back fields value rows rest back t g others comes named last put =
       let whole : row ≡ row_of row.time row.tag fields = ap (λ (v : Value). record { time = row.time; tag = row.tag; value = v }) value in
       let was : IsRowOf q job row.time row.tag fields = subst (Contains (answer_rows q job.events)) whole there in

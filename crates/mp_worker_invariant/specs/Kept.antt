@@ -1,16 +1,17 @@
 -- What becomes of the parts of a worker at each of its steps.
-use Rattle.std.specs.Prelude.{◌≡◌, ℕ, suc, ◌<◌, false, List, [], ◌∷◌, ◌++◌, length, set}
+use Rattle.std.specs.Prelude.{◌≡◌, ℕ, suc, ◌<◌, true, false, List, [], ◌∷◌, ◌++◌, length, set}
 use Rattle.mp_names.specs.declared.locations.Loc.TheVariants.{CtlMail, Host, OutMail}
 use Rattle.mp_names.specs.declared.names.Name.{Name}
-use Rattle.mp_names.specs.declared.names.Name.TheVariants.{Ctrl, Rec as RecName, Packet, Row, Group, Settled, Written}
+use Rattle.mp_names.specs.declared.names.Name.TheVariants.{Ctrl, Packet, Row, Group, Settled, Written}
 use Rattle.mp_names.specs.declared.names.Tag.{Tag}
 use Rattle.mp_names.specs.declared.pointstamps.ControlCursor.{ControlCursor}
 use Rattle.mp_names.specs.Controls.{control_of}
-use Rattle.mp_names.specs.Names.{has, In, IsLeast, IsPrefix, is_row}
-use Rattle.mp_names.specs.Outlines.{IsOwedBy, IsOwedTo, share}
+use Rattle.mp_names.specs.Names.{Distinct, has, In, IsLeast, IsPrefix, is_rec, is_row}
+use Rattle.mp_names.specs.Outlines.{IsOwedBy, IsOwedTo, Outline, share}
 use Rattle.mp_names.specs.Logs.{Log, empty_log, with_applied, with_ingested, with_sent, with_settled, with_took}
 use Rattle.mp_names.specs.Frontiers.{HasPassed, HasReached}
 use Rattle.mp_names.specs.Keeping.{IsHeld, IsUnsettled, IsUnwritten}
+use Rattle.mp_machine.specs.Messages.{bundle_of}
 use Rattle.mp_stamps.specs.declared.seen.Seen.{Seen}
 use Rattle.mp_stamps.specs.Seen.{SeenIsDone, seen_at}
 use Rattle.mp_bins.specs.Notes.{Notes, with_note}
@@ -18,7 +19,7 @@ use Rattle.mp_model.specs.declared.record.Output.{Output}
 use Rattle.mp_model.specs.Facts.{JobFacts, QueryFacts}
 use Rattle.mp_outline.specs.JobOutline.{outline_of}
 use Rattle.mp_route.specs.Routed.{Routed}
-use Rattle.mp_route.specs.Unsent.{MayGo}
+use Rattle.mp_route.specs.Unsent.{MayGo, with_all_sent}
 use Rattle.mp_output.specs.Holding.{HoldsUnwritten}
 use Rattle.mp_host_laws.specs.Hosted.{Hosted}
 use Rattle.mp_host_laws.specs.HostOf.{HostMatchesLogAndSeen, IsReadyAt, OwnersAreCurrent}
@@ -56,6 +57,14 @@ with_unsent p log rows = record p { log = log; unsent = rows }
 abbrev pub with_unwritten : {Cell : Type 0} → Parts Cell → Log → List Output → Parts Cell
 with_unwritten p log rows = record p { log = log; unwritten = rows }
 
+-- the log with these names taken too
+abbrev pub with_all_took : Log → List Name → Log
+with_all_took log xs = record log { took = log.took ++ xs }
+
+-- the names are owed to the worker, which took none of them before, and each stands once
+abbrev pub AreOwedAndNew : Outline → ℕ → Log → List Name → Type 0
+AreOwedAndNew o w log xs = Distinct xs × ((x : Name) → In x xs → IsOwedTo o w x × (has log.took x ≡ false))
+
 module _ {Cell : Type 0} (q : QueryFacts Cell) (job : JobFacts) where
   -- Each step of a worker keeps its parts what its log says: where those that the step is of are so, all others are
   pub record StepsKeepParts (p : Parts Cell) : Type 0 where
@@ -65,12 +74,12 @@ module _ {Cell : Type 0} (q : QueryFacts Cell) (job : JobFacts) where
     -- a control record is sent
     pub send_control : p.number ≡ 0 → p.next.index < length job.controls
         → ArePartsOf q job (with_next p (with_sent p.log (Ctrl p.next.index p.next.receiver)) (place_after job.shape.workers p.next))
-    -- a record is sent
-    pub route : (j : ℕ) (x : Name) (r : Routed) → MayGo q job p.number p.log j p.seen x
-        → IsRouterAt q job p.number (with_sent p.log x) j r → ArePartsOf q job (with_router p (with_sent p.log x) j r)
-    -- a record is taken
-    pub receive : (j t k : ℕ) (g : Tag) (h : Hosted Cell) → IsOwedTo (outline_of q job) p.number (RecName j t k g) → has p.log.took (RecName j t k g) ≡ false
-        → IsHostAt q job p.number (with_took p.log (RecName j t k g)) j h → ArePartsOf q job (with_host p (with_took p.log (RecName j t k g)) j h)
+    -- the least record of a stage is sent, with those that go with it
+    pub route : (j : ℕ) (x : Name) (xs : List Name) (r : Routed) → MayGo q job p.number p.log j p.seen x → xs ≡ bundle_of (outline_of q job) p.number p.log j x
+        → IsRouterAt q job p.number (with_all_sent p.log xs) j r → ArePartsOf q job (with_router p (with_all_sent p.log xs) j r)
+    -- records of a stage are taken
+    pub receive : (j : ℕ) (xs : List Name) (h : Hosted Cell) → AreOwedAndNew (outline_of q job) p.number p.log xs → ((x : Name) → In x xs → is_rec j x ≡ true)
+        → IsHostAt q job p.number (with_all_took p.log xs) j h → ArePartsOf q job (with_host p (with_all_took p.log xs) j h)
     -- a control record is taken: it is noted, and the movers of its stage note its time
     pub receive_control : (i : ℕ) (notes : Notes) (m : MoversState) → IsOwedTo (outline_of q job) p.number (Ctrl i p.number) → has p.log.took (Ctrl i p.number) ≡ false
         → notes ≡ record p.notes { noted = with_note p.notes.noted (record { index = i; control = control_of job.controls i }); room = notes.room }

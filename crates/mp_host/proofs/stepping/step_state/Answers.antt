@@ -1,51 +1,36 @@
-use Rattle.std.proofs.Common.{inl, refl}
-use Rattle.mp_postdated.proofs.Several.{taken_back}
 use Rattle.mp_host.proofs.Finding.{cell_is}
-use Rattle.mp_host.proofs.Stepped.{step_cells, step_fits, step_keeps, wakes_applied, wakes_are_new}
+use Rattle.mp_host.proofs.Stepped.{step_cells, step_fits, step_keeps, wakes_applied}
+use Rattle.mp_msg.proofs.Sorted.{by_key-ascends}
 use Rattle.mp_host.proofs.stepping.step_state.Goals as goal
-
-pub add_all-requires : goal.add_all-requires
-add_all-requires g c =
-    rw c.as_slice.ensures.value (wakes_are_new c.state.inside.wakes c.args.group.now.time c.key-key.result c.args.posts.now c.in_ok-wakes.wakes.items c.in_ok-wakes.ensures)
 
 pub step_in-requires-clause-fits : goal.step_in-requires-clause-fits
 step_in-requires-clause-fits g c = λ κs b.
     let q = g.Q.Query.facts (g.Q.Query.rules c.args.query.now) in
     step_fits q c.args.stage c.state.inside.cells c.args.group.now (rw (← c.state.view_is) at c.requires.fits)
 
-pub invariant_of-state-in-Ok : goal.invariant_of-state-in-Ok
-invariant_of-state-in-Ok g c = record { cells = c.in-Ok.ensures.ordered; wakes = c.take_due.ensures.ascending }
+pub invariant_of-state-2 : goal.invariant_of-state-2
+invariant_of-state-2 g c = record { cells = by_key-ascends c.step_in.new.cells.entries; wakes = c.add_all.ensures.ascending }
 
-pub returns-in-Ok-clause-wakes : goal.returns-in-Ok-clause-wakes
-returns-in-Ok-clause-wakes g c =
-    let are = rw c.key-key.ensures at c.in_ok-wakes.ensures in
-    let added = rw (c.as_slice.ensures.value, c.key-key.ensures) at c.in_ok-add_all.ensures.exact in
-    let taken = rw (c.time.ensures, c.key-key.ensures) at c.take_due.ensures.exact in
-    rw (← c.state.view_is)
-    (wakes_applied c.state.inside.wakes c.args.group.now.time c.args.group.now.key c.args.posts.now c.in_ok-wakes.wakes.items are c.add_all.new.self c.take_due.new.self c.requires.later added taken)
+pub returns-clause-wakes : goal.returns-clause-wakes
+returns-clause-wakes g c =
+    let taken = rw (c.time.ensures, c.key-key.ensures, c.make_room.ensures.same) at c.take_due.ensures.exact in
+    let added = rw c.key-key.ensures at c.add_all.ensures.exact in
+    rw (← c.state.view_is) (wakes_applied c.state.inside.wakes.wakes c.args.group.now.time c.args.group.now.key c.args.posts.now c.take_due.new.self.wakes c.add_all.new.self.wakes taken added)
 
-pub returns-in-Ok-clause-cells : goal.returns-in-Ok-clause-cells
-returns-in-Ok-clause-cells g c =
+pub returns-clause-cells : goal.returns-clause-cells
+returns-clause-cells g c =
     let q = g.Q.Query.facts (g.Q.Query.rules c.args.query.now) in
-    rw (← c.state.view_is) (step_cells q c.args.stage c.state.inside.cells c.args.group.now c.step_in.new.cells c.in-Ok.ensures.cells)
+    rw (← c.state.view_is) (step_cells q c.args.stage c.state.inside.cells c.args.group.now c.step_in.new.cells c.in_ok-outputs.ensures.cells)
 
-pub returns-in-Ok-clause-kept : goal.returns-in-Ok-clause-kept
-returns-in-Ok-clause-kept g c =
+pub returns-clause-kept : goal.returns-clause-kept
+returns-clause-kept g c =
     let q = g.Q.Query.facts (g.Q.Query.rules c.args.query.now) in
-    rw (← c.state.view_is) (step_keeps q c.args.stage c.state.inside.cells c.args.group.now c.step_in.new.cells c.state.invariant.cells c.in-Ok.ensures.ordered c.in-Ok.ensures.kept)
+    rw (← c.state.view_is) (step_keeps q c.args.stage c.state.inside.cells c.args.group.now c.step_in.new.cells c.in_ok-outputs.ensures.kept)
 
-pub returns-in-Ok-clause-outputs : goal.returns-in-Ok-clause-outputs
-returns-in-Ok-clause-outputs g c =
+pub returns-clause-outputs : goal.returns-clause-outputs
+returns-clause-outputs g c =
     let q = g.Q.Query.facts (g.Q.Query.rules c.args.query.now) in
-    rw (← c.state.view_is, cell_is (q.fresh c.args.stage) c.state.inside.cells c.args.group.now.key) c.in-Ok.ensures.outputs
+    rw (← c.state.view_is, cell_is (q.fresh c.args.stage) c.state.inside.cells c.args.group.now.key) c.in_ok-outputs.ensures.outputs
 
-pub returns-clause-unchanged : goal.returns-clause-unchanged
-returns-clause-unchanged g c =
-    let wakes = c.in_ok-wakes.wakes.items in
-    let ws = c.state.inside.wakes in
-    let key = c.key-key.result in
-    let new = wakes_are_new ws c.args.group.now.time key c.args.posts.now wakes c.in_ok-wakes.ensures in
-    let added = rw c.as_slice.ensures.value at c.in_ok-add_all.ensures.exact in
-    let taken = rw c.as_slice-in-Err.ensures.value at c.take_all.ensures.exact in
-    let back = taken_back wakes key ws c.add_all.new.self c.take_all.new.self c.state.invariant.wakes c.take_all.ensures.ascending new (λ t k there. (added t k).1 (inl there)) (λ t k there. (added t k).0 there) taken in
-    rw (← c.state.view_is, back, c.in-Err.ensures.unchanged) refl
+pub returns-clause-in_order : goal.returns-clause-in_order
+returns-clause-in_order g c = record { cells = by_key-ascends c.step_in.new.cells.entries; wakes = c.add_all.ensures.ascending }

@@ -1,43 +1,46 @@
-use Rattle.std.proofs.Common.{◌≤◌, ◌^◌, ◌-◌, ◌++◌, ◌∙◌, ℕ, [], ap, List, filter, length, map, not, sym, arith, append-nil}
-use Rattle.std.specs.Map.Iter.{deref}
+use Rattle.std.proofs.Common.{◌≡◌, ◌≤◌, ◌^◌, ◌-◌, ℕ, List, ap, filter, get_or, length, not, refl, sym, take, ◌∙◌, arith}
 use Rattle.std.specs.Vec.{vec_capacity}
 use Rattle.std.proofs.lemmas.Bool.{not_from_false}
-use Rattle.std.proofs.lemmas.Map.Iter.{iter_end, rest_so_far}
-use Rattle.mp_host.specs.Numbers.{with_one}
+use Rattle.std.proofs.lemmas.List.{take_all}
+use Rattle.mp_host_laws.specs.Moving.{AreNumbersOf}
+use Rattle.mp_host.specs.Numbers.{numbers_of, with_one}
 use Rattle.mp_host.specs.Waiting.{waits_beside}
 use Rattle.mp_host.proofs.Kept.{not_refused}
-use Rattle.mp_host.proofs.Tallied.{numbers_are, numbers_below, passing_by_time, room_for_one}
+use Rattle.mp_host.proofs.Tallied.{first_below, numbers_are, numbers_by_time, room_for_one, told_in_order}
 use Rattle.mp_host.proofs.host.Host.count_waiting.Goals as goal
 
-pub add_one-requires : goal.add_one-requires
-add_one-requires g c =
+pub add_one-requires-clause-few : goal.add_one-requires-clause-few
+add_one-requires-clause-few g c =
     let p = λ (w : ℕ × ℕ). not (waits_beside c.args.self.now c.args.from c.args.to w.0 w.1) in
-    let start = c.into_iter-wake-iterator.ensures.into_iter_gives ∙ c.iter-wake-items.ensures.rest in
-    let whole = sym start ∙ rest_so_far deref c.loop-wake.yielded _ c.loop-wake.wake-iterator c.loop-wake.yielded_by in
-    let few = c.iter-wake-items.ensures.fits in
-    rw c.loop-wake.invariant.counted (numbers_below p c.args.wakes.now (map deref c.loop-wake.yielded) c.loop-wake.wake-iterator (2 ^ 64 - 1) c.iter-wake-items.ensures.ascending whole (omega arith))
+    let fits = c.as_slice-wake-items.ensures.fits in
+    rw c.loop-wake.invariant.counted (first_below p c.as_slice-wake-items.result.now c.loop-wake.wake-index (2 ^ 64 - 1) (omega arith))
+
+pub add_one-requires-clause-by_time : goal.add_one-requires-clause-by_time
+add_one-requires-clause-by_time g c =
+    let p = λ (w : ℕ × ℕ). not (waits_beside c.args.self.now c.args.from c.args.to w.0 w.1) in
+    rw c.loop-wake.invariant.counted (numbers_by_time (filter p (take c.loop-wake.wake-index c.as_slice-wake-items.result.now)))
 
 pub returns-in_err-add_one-clause-never_refused_with_room : goal.returns-in_err-add_one-clause-never_refused_with_room
 returns-in_err-add_one-clause-never_refused_with_room g c = λ room.
     let p = λ (w : ℕ × ℕ). not (waits_beside c.args.self.now c.args.from c.args.to w.0 w.1) in
-    let start = c.into_iter-wake-iterator.ensures.into_iter_gives ∙ c.iter-wake-items.ensures.rest in
-    let whole = sym start ∙ (rest_so_far deref c.loop-wake.yielded _ c.loop-wake.wake-iterator c.loop-wake.yielded_by ∙ ap (λ (ws : _). map deref c.loop-wake.yielded ++ ws) c.in-Some.ensures.steps) in
-    let one = room_for_one p c.args.wakes.now (map deref c.loop-wake.yielded) c.next.new.self c.in-Some.wake.now c.iter-wake-items.ensures.ascending whole (not_from_false (waits_beside c.args.self.now c.args.from c.args.to c.in-Some.wake.now.0 c.in-Some.wake.now.1) (sym c.waits_beside.ensures ∙ c.if-not-waits_beside.true)) in
-    let fits : length (with_one c.loop-wake.numbers.items c.in-Some.wake.now.0) ≤ vec_capacity c.loop-wake.numbers = omega (arith, ap (λ (ns : List (ℕ × ℕ)). length (with_one ns c.in-Some.wake.now.0)) c.loop-wake.invariant.counted, one, room, c.loop-wake.invariant.room) in
+    let ws = c.as_slice-wake-items.result.now in
+    let i = c.loop-wake.wake-index in
+    let w = get_or ws i (0, 0) in
+    let one = room_for_one p c.args.wakes.now.wakes ws i w (0, 0) c.as_slice-wake-items.ensures.wakes c.loop-wake-test.true refl (not_from_false (waits_beside c.args.self.now c.args.from c.args.to w.0 w.1) (sym c.waits_beside.ensures ∙ c.if-not-waits_beside.true)) in
+    let counted = ap (λ (ns : List (ℕ × ℕ)). length (with_one ns w.0)) c.loop-wake.invariant.counted in
+    let fits : length (with_one c.loop-wake.numbers.items w.0) ≤ vec_capacity c.loop-wake.numbers = omega (arith, counted, one, room, c.loop-wake.invariant.room) in
     absurd (not_refused c.add_one.result c.in_err-add_one.field-0.0 c.in_err-add_one.was (c.add_one.ensures.never_refused_with_room fits))
 
 pub returns-clause-told : goal.returns-clause-told
 returns-clause-told g c =
     let p = λ (w : ℕ × ℕ). not (waits_beside c.args.self.now c.args.from c.args.to w.0 w.1) in
-    let start = c.into_iter-wake-iterator.ensures.into_iter_gives ∙ c.iter-wake-items.ensures.rest in
-    let end = iter_end deref _ c.loop-wake.yielded _ c.loop-wake.wake-iterator c.next.new.self c.next.result start c.loop-wake.yielded_by c.in-None.is c.next.ensures.steps in
-    let order = passing_by_time p c.args.wakes.now c.args.wakes.now [] c.iter-wake-items.ensures.ascending (sym (append-nil c.args.wakes.now)) in
-    let counted = rw end.0 at c.loop-wake.invariant.counted in
-    rw counted (numbers_are (filter p c.args.wakes.now) order)
+    let ws = c.as_slice-wake-items.result.now in
+    let all : take c.loop-wake.wake-index ws ≡ ws = take_all c.loop-wake.wake-index ws c.loop-wake-test.false in
+    let told : AreNumbersOf (filter p ws) (numbers_of (filter p ws)) = numbers_are (filter p ws) in
+    let counted = c.loop-wake.invariant.counted ∙ ap (λ (vs : List (ℕ × ℕ)). numbers_of (filter p vs)) all in
+    rw counted (told_in_order p c.args.wakes.now.wakes ws (numbers_of (filter p ws)) c.as_slice-wake-items.ensures.wakes told)
 
 pub returns-clause-few : goal.returns-clause-few
 returns-clause-few g c =
     let p = λ (w : ℕ × ℕ). not (waits_beside c.args.self.now c.args.from c.args.to w.0 w.1) in
-    let start = c.into_iter-wake-iterator.ensures.into_iter_gives ∙ c.iter-wake-items.ensures.rest in
-    let whole = sym start ∙ rest_so_far deref c.loop-wake.yielded _ c.loop-wake.wake-iterator c.loop-wake.yielded_by in
-    rw c.loop-wake.invariant.counted (numbers_below p c.args.wakes.now (map deref c.loop-wake.yielded) c.loop-wake.wake-iterator (2 ^ 63) c.iter-wake-items.ensures.ascending whole c.iter-wake-items.ensures.fits)
+    rw c.loop-wake.invariant.counted (first_below p c.as_slice-wake-items.result.now c.loop-wake.wake-index (2 ^ 63) c.as_slice-wake-items.ensures.fits)

@@ -6,8 +6,19 @@ use Rattle.mp_names.specs.declared.controls.Shape.{Shape}
 use Rattle.mp_bins.specs.Bins.{bin_of_key}
 use Rattle.mp_model.specs.Facts.{JobFacts}
 use Rattle.mp_host_laws.specs.Hosted.{has_wake_in}
+use Rattle.mp_host.proofs.Spanned.{span_behind, span_in_front}
 use Rattle.mp_host.proofs.WakesOf.{IsOwn, by_first, by_second, only_its_bins, wakes_are_own}
 use Rattle.mp_host.proofs.host.Host.is_woken_beside.Goals as goal
+
+pub has_wake-requires : goal.has_wake-requires
+has_wake-requires g c =
+    let its = c.self.inside.spans_kept.each c.bin_of-bin.result in
+    rw (c.deref.ensures.value, c.of-span.ensures) (span_in_front _ c.bin_of-bin.result c.args.from c.self.inside.held.items its)
+
+pub has_wake-requires-else-has_wake : goal.has_wake-requires-else-has_wake
+has_wake-requires-else-has_wake g c =
+    let its = rw (← c.of-span.ensures) at (c.self.inside.spans_kept.each c.bin_of-bin.result) in
+    rw c.deref-else-has_wake.ensures.value (span_behind c.behind.result c.bin_of-bin.result c.args.to c.self.inside.held.items (c.behind.ensures c.bin_of-bin.result _ its))
 
 pub returns-then-has_wake : goal.returns-then-has_wake
 returns-then-has_wake g c =

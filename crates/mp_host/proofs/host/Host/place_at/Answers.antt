@@ -8,5 +8,4 @@ pub returns : goal.returns
 returns g c =
     let job = g.J.Naming.job in
     let bin : c.bin_of-bin.result ≡ bin_of_key c.args.key job.shape.bins = c.bin_of-bin.ensures.value ∙ ap (λ (s : Shape). bin_of_key c.args.key s.bins) (c.shape.ensures.shape ∙ ap (λ (j : JobFacts). j.shape) c.self.invariant.same) in
-    let place = rw (c.deref.ensures.value, bin, c.from.ensures, add-one) at c.place_before.ensures in
-    rw (← c.self.view_is) place
+    rw (bin, c.from.ensures, add-one) at c.place_before.ensures

@@ -1,5 +1,6 @@
-use Rattle.std.proofs.Common.{◌≡◌, ◌-◌, ◌∙◌, All, ap, false, length, refl, sym}
+use Rattle.std.proofs.Common.{◌≡◌, ◌-◌, ◌<◌, ◌∙◌, ℕ, All, ap, false, length, refl, subst, sym}
 use Rattle.std.specs.Vec.{vec_capacity}
+use Rattle.std.proofs.Math.Seq.{map-set_same}
 use Rattle.std.proofs.lemmas.List.Elements.{All-drop}
 use Rattle.mp_names.specs.Names.{is_before}
 use Rattle.mp_bins.specs.Bins.{bin_of_key}
@@ -10,7 +11,11 @@ use Rattle.mp_ordered.specs.InOrder.{IsInOrder}
 use Rattle.mp_ordered.proofs.Placing.{pairs_drop}
 use Rattle.mp_host_laws.specs.Hosted.{group_rank}
 use Rattle.mp_host.specs.Hosts.{hosted_of}
-use Rattle.mp_host.proofs.Grouped.{all_fit, cell_here, changed_fits, group_is, group_posts_after, has_place, state_applied}
+use Rattle.mp_host.specs.Spans.{AreSpans}
+use Rattle.mp_host.proofs.FirstWakes.{others_changed}
+use Rattle.mp_host.proofs.Moved.{out_fits}
+use Rattle.mp_host.proofs.Places.{place_is}
+use Rattle.mp_host.proofs.Grouped.{all_fit, cell_here, changed_fits, group_is, has_place, state_applied}
 use Rattle.mp_host.proofs.Kept.{hosted_still}
 use Rattle.mp_host.proofs.Told.{none_before}
 use Rattle.mp_host.proofs.host.Host.step.Goals as goal
@@ -40,15 +45,30 @@ step_state-requires-clause-fits g c = λ κs b.
     let fits = rw (← c.self.view_is) at c.requires.fits in
     rw (rules, is, ← cell) fits
 
-pub step_state-requires-clause-later : goal.step_state-requires-clause-later
-step_state-requires-clause-later g c = λ κs b.
-    let laws = g.met.Q.Query g.world.𝓛 g.world.𝓜 g.world.𝓡 ((λ s x. x), (λ x. x), (λ x. x), λ x. x) in
-    let job = g.J.Naming.job in
-    let rules = job.rules in
+pub invariant_of-self-inside-2 : goal.invariant_of-self-inside-2
+invariant_of-self-inside-2 g c =
     let i = c.self.inside in
-    let h = hosted_of i.stage i.worker i.records i.held.items (vec_capacity i.held - length i.held.items) in
-    let posts = rw (← c.self.view_is) at c.requires.posts in
-    rw (c.new-group.ensures, posts) (group_posts_after (g.Q.Query.facts rules) (laws.posts_are_later rules) (laws.later_stages_post_nothing rules) job c.self.invariant.legal.events h c.args.time c.args.key c.self.invariant.order.content)
+    let one = c.index_mut-one.result.now in
+    let bins = map-set_same (λ s. s.bin) i.held.items c.in-Some.at (record one { state = c.step_state.new.state }) one (ap (λ s. s.bin) c.index_mut-one.ensures.value) in
+    let others = others_changed i.held.items c.in-Some.at (record one { state = c.step_state.new.state }) one (ap (λ s. s.bin) c.index_mut-one.ensures.value) in
+    let firsts = c.renew.ensures i.job.now.shape.bins i.held.items i.firsts_kept (λ b ne. rw c.deref.ensures.value (others b ne)) in
+    (rw c.deref.ensures.value at firsts, (subst (AreSpans i.spans) (sym bins) i.spans_kept, (i.each_bin, tt)))
+
+pub renew-requires-clause-spans : goal.renew-requires-clause-spans
+renew-requires-clause-spans g c =
+    let i = c.self.inside in
+    let one = c.index_mut-one.result.now in
+    let bins = map-set_same (λ s. s.bin) i.held.items c.in-Some.at (record one { state = c.step_state.new.state }) one (ap (λ s. s.bin) c.index_mut-one.ensures.value) in
+    rw c.deref.ensures.value (subst (AreSpans i.spans) (sym bins) i.spans_kept)
+
+pub renew-requires-clause-bin : goal.renew-requires-clause-bin
+renew-requires-clause-bin g c =
+    let i = c.self.inside in
+    let one = c.index_mut-one.result.now in
+    let place = rw (← c.self.view_is) at (sym c.in-Some.ensures) in
+    let at = place_is _ i.held.items c.in-Some.at place one in
+    let fits = out_fits _ _ _ _ c.self.invariant c.in-Some.at one at.inside c.index_mut-one.ensures.value in
+    subst (λ (n : ℕ). one.bin < n) (sym (i.firsts_kept.count ∙ ap (λ (j : JobFacts). j.shape.bins) c.self.invariant.same)) fits.denotes.bin
 
 pub invariant_of-self-2 : goal.invariant_of-self-2
 invariant_of-self-2 g c =
