@@ -88,7 +88,7 @@ impl<O: Outlined> Hub<O> for SeatHub<O> {
         let Some(mut shared) = self.lock.try_take(&mut self.seat) else {
             return Ok(Answer::Busy);
         };
-        let answer = Hub::exchange(&mut shared.board, worker, log);
+        let answer = Hub::exchange(&mut *shared.board, worker, log);
         self.lock.put(&mut self.seat, shared);
         answer
     }
