@@ -1,5 +1,5 @@
 -- What is written is a beginning of the one-thread answer, and in the end all of it.
-use Rattle.std.specs.Prelude.{◌≡◌, ℕ, ◌++◌, take}
+use Rattle.std.specs.Prelude.{◌≡◌, ℕ, [], ◌∷◌, ◌++◌, take}
 use Rattle.mp_names.specs.declared.kinds.Kind.{Kind}
 use Rattle.mp_names.specs.declared.kinds.Kind.TheVariants.{Write}
 use Rattle.mp_names.specs.declared.names.Name.{Name}
@@ -40,4 +40,4 @@ module _ {Cell : Type 0} (q : QueryFacts Cell) (job : JobFacts) where
       (w : ℕ) (worker : Worker) (kind : Kind) (x : Name)
       → (kind ≡ Write → ⊥)
       → IsNext (outline_of q job) w worker kind x
-      → written_lines q job.events (logged kind worker.log x) ≡ written_lines q job.events worker.log
+      → written_lines q job.events (logged kind worker.log (x ∷ [])) ≡ written_lines q job.events worker.log

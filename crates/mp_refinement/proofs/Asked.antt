@@ -1,6 +1,5 @@
 -- What a worker may be sure of before its step.
 use Rattle.std.proofs.Common.{ℕ, ◌∙◌, sym, subst, arith}
-use Rattle.mp_names.specs.Frontiers.{log_at}
 use Rattle.mp_names.specs.Outlines.{Outline}
 use Rattle.mp_names.specs.Logs.{Log, LogGrows, LogIsLegal}
 use Rattle.mp_machine.specs.Worlds.{World, logs_of}

@@ -27,7 +27,7 @@ use Rattle.mp_board.proofs.Recounted.{frontier_of_equal}
 use Rattle.mp_refinement.specs.Laws.{MailFollows}
 use Rattle.mp_refinement.specs.State.{WorkerState}
 use Rattle.mp_refinement.specs.SystemState.{Refines, IsWorkerOf, SystemState, with_worker}
-use Rattle.mp_refinement.proofs.Logs.{listed, next_world}
+use Rattle.mp_refinement.proofs.Logs.{listed, next_world, still_hold}
 
 -- A frontier looks at the logs of the outline's workers alone
 
@@ -92,10 +92,10 @@ module _ (o : Outline) (ok : OutlineIsSound o) (depth : ℕ) (t : SystemState) (
         (λ l. posted_here ∙ is.log)
         (λ v n l. posted_elsewhere v n ∙ are.posted v l)
 
-    seen_world : (post : Queues Name) → MailFollows o w t.post s s post → Refines o depth (record (with_worker t w (record s { posted = s.log; seen = seen }) post) { board = exchanged t.board w s.log }) (world_exchanged o world w)
+    seen_world : (post : Queues (List Name)) → MailFollows o w t.post s s post → Refines o depth (record (with_worker t w (record s { posted = s.log; seen = seen }) post) { board = exchanged t.board w s.log }) (world_exchanged o world w)
     seen_world post mail =
         next_world o depth t world are w s was (record s { posted = s.log; seen = seen }) (having_seen o world w) looked post (exchanged t.board w s.log) (version_after world w) world.mailbox mail.workers mail.depth mail.follows
-        (length-set t.board.logs w s.log ∙ are.all_logs) board_is version_is
+        (length-set t.board.logs w s.log ∙ are.all_logs) board_is version_is (still_hold o depth t world are w s post mail.messages)
 
     can_exchange : (seen.version ≡ s.seen.version → ⊥) → CanExchange o world w Exchange
     can_exchange new = (
@@ -108,7 +108,7 @@ module _ (o : Outline) (ok : OutlineIsSound o) (depth : ℕ) (t : SystemState) (
           (cases_Bool (same_log (world.worker w).log (world.worker w).posted)),
     )
 
-    pub saw : (post : Queues Name) → (seen.version ≡ s.seen.version → ⊥) → MailFollows o w t.post s s post
+    pub saw : (post : Queues (List Name)) → (seen.version ≡ s.seen.version → ⊥) → MailFollows o w t.post s s post
         → (turn_of_machine o depth world w Exchange ≡ Saw seen.version) × Refines o depth (record (with_worker t w (record s { posted = s.log; seen = seen }) post) { board = exchanged t.board w s.log }) (step_of_machine o depth world w Exchange)
     unfolding turn_of_machine step_of_machine
     saw post new mail =

@@ -1,6 +1,8 @@
 pub mod Lists
+pub mod Messages
 pub mod Agreeing
 pub mod Mailboxes
+pub mod Named
 pub mod Logs
 pub mod Steps
 pub mod Exchanges

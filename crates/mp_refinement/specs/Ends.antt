@@ -1,5 +1,5 @@
--- What a post stands for at the ends of a worker: the names that its log has as sent and taken.
-use Rattle.std.specs.Prelude.{◌≡◌, ℕ, ◌<◌, ◌⊎◌, ◌==◌, cond, List, filter}
+-- What a post stands for at the ends of a worker: the names that its log has as sent and taken, and the messages that wait.
+use Rattle.std.specs.Prelude.{◌≡◌, ℕ, ◌<◌, ◌⊎◌, ◌==◌, cond, List, [], ◌∷◌, ◌++◌, drop, filter, length}
 use Rattle.mp_names.specs.declared.names.Name.{Name}
 use Rattle.mp_names.specs.Outlines.{Outline, receiver, sender}
 use Rattle.mp_names.specs.Logs.{Log}
@@ -41,3 +41,33 @@ FollowsLog old new o w log after =
     → b < o.workers
     → old a b (pushed_by o w log a b pushed) (popped_by o w log a b popped)
     → new a b (pushed_by o w after a b pushed) (popped_by o w after a b popped)
+
+-- messages that wait from a worker to a worker, the oldest first, each with its names
+abbrev pub Waiting : Type 1
+Waiting = ℕ → ℕ → List (List Name) → Type 0
+
+-- what a list has behind the one that it begins with
+abbrev pub behind : List Name → List Name → List Name
+behind begun names = drop (length begun) names
+
+-- names as the message in which they travel; where there are none there is no message
+abbrev pub in_one_message : List Name → List (List Name)
+in_one_message [] = []
+in_one_message (x ∷ xs) = (x ∷ xs) ∷ []
+
+-- what this worker sent from a to b, as its log went on
+abbrev pub sent_since : Outline → ℕ → Log → Log → ℕ → ℕ → List Name
+sent_since o w log after a b = cond (a == w) (behind (sent_to o log b) (sent_to o after b)) []
+
+-- what this worker took at b from a, as its log went on
+abbrev pub took_since : Outline → ℕ → Log → Log → ℕ → ℕ → List Name
+took_since o w log after a b = cond (b == w) (behind (took_from o log a) (took_from o after a)) []
+
+-- as this worker's log went on by what one message has, so did the messages that wait: those that waited, and then the one that it sent, are the one that it took, and then those that wait now
+abbrev pub MessagesFollowLog : Waiting → Waiting → Outline → ℕ → Log → Log → Type 0
+MessagesFollowLog old new o w log after =
+    (a b : ℕ) (messages : List (List Name))
+    → a < o.workers
+    → b < o.workers
+    → old a b messages
+    → (left : List (List Name)) × new a b left × (messages ++ in_one_message (sent_since o w log after a b) ≡ in_one_message (took_since o w log after a b) ++ left)

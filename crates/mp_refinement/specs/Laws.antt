@@ -11,35 +11,38 @@ use Rattle.mp_mailbox.specs.Queues.{HadRoom, Queues, WasEmpty, WasFull, empty_qu
 use Rattle.mp_machine.specs.Worlds.{World, start_of_machine}
 use Rattle.mp_machine.specs.Runs.{Did, NotNow, Saw, WorkerIsFinished, run_of_machine, step_of_machine, turn_of_machine}
 use Rattle.mp_stamps.specs.Seen.{SeenIsDone}
+use Rattle.mp_msg.specs.declared.names.Names.{Names}
 use Rattle.mp_board.specs.Boards.{ShowsFrontiers, exchanged}
-use Rattle.mp_refinement.specs.Ends.{PostMatchesLog, FollowsLog}
+use Rattle.mp_refinement.specs.Ends.{PostMatchesLog, FollowsLog, MessagesFollowLog}
 use Rattle.mp_refinement.specs.Mail.{MailboxBlocks, MailboxAllows}
 use Rattle.mp_refinement.specs.State.{CanMake, Makes, WorkerState}
-use Rattle.mp_refinement.specs.SystemState.{Refines, KnowsTheEnd, SystemState, queues_denote, with_worker}
+use Rattle.mp_refinement.specs.Steps.{Tells}
+use Rattle.mp_refinement.specs.SystemState.{Refines, KnowsTheEnd, SystemState, queues_denote, queues_wait, with_worker}
 
--- The mailboxes after a step of a worker: they stand for what they stood for, but that its log may have one name more
-pub record MailFollows (o : Outline) (w : ℕ) (old : Queues Name) (before after : WorkerState) (new : Queues Name) : Type 0 where
+-- The mailboxes after a step of a worker: what they stand for and what waits in them follows its log, which may have the names of one message more
+pub record MailFollows (o : Outline) (w : ℕ) (old : Queues (List Name)) (before after : WorkerState) (new : Queues (List Name)) : Type 0 where
   pub workers : new.workers ≡ old.workers
   pub depth : new.depth ≡ old.depth
   pub follows : FollowsLog (queues_denote o old) (queues_denote o new) o w before.log after.log
+  pub messages : MessagesFollowLog (queues_wait old) (queues_wait new) o w before.log after.log
 
 -- What a worker says of its step is the turn of the machine
 pub record StepsRefineMachine (o : Outline) (depth : ℕ) (t : SystemState) (world : World) : Type 0 where
-  -- a name was put into the log
-  pub did : (w : ℕ) (kind : Kind) (x : Name) (old new : WorkerState) (post : Queues Name)
-      → slice_get t.workers w ≡ Some old → Makes o kind old x new → MailboxAllows (HadRoom t.post) o w kind x → MailFollows o w t.post old new post
-      → (turn_of_machine o depth world w kind ≡ Did x) × Refines o depth (with_worker t w new post) (step_of_machine o depth world w kind)
+  -- names were put into the log
+  pub did : (w : ℕ) (kind : Kind) (told : Names) (xs : List Name) (old new : WorkerState) (post : Queues (List Name))
+      → slice_get t.workers w ≡ Some old → Tells told xs → Makes o kind old xs new → MailboxAllows (HadRoom t.post) o w kind xs → MailFollows o w t.post old new post
+      → (turn_of_machine o depth world w kind ≡ Did told.first told.count) × Refines o depth (with_worker t w new post) (step_of_machine o depth world w kind)
   -- no step of this kind could be made, or a mailbox was in the way
-  pub not_now : (w : ℕ) (kind : Kind) (s : WorkerState) (post : Queues Name)
+  pub not_now : (w : ℕ) (kind : Kind) (s : WorkerState) (post : Queues (List Name))
       → slice_get t.workers w ≡ Some s → (kind ≡ Exchange → ⊥) → ((x : Name) → CanMake o kind s x → MailboxBlocks (WasFull t.post) (WasEmpty t.post) o w kind x) → MailFollows o w t.post s s post
       → (turn_of_machine o depth world w kind ≡ NotNow) × Refines o depth (with_worker t w s post) world
   -- an exchange saw a version that is new to the worker
-  pub saw : (w : ℕ) (s : WorkerState) (seen : Seen) (post : Queues Name) → let board = exchanged t.board w s.log in
+  pub saw : (w : ℕ) (s : WorkerState) (seen : Seen) (post : Queues (List Name)) → let board = exchanged t.board w s.log in
       slice_get t.workers w ≡ Some s → seen.version ≡ board.version → ShowsFrontiers o board.logs seen → (seen.version ≡ s.seen.version → ⊥) → MailFollows o w t.post s s post
       → (turn_of_machine o depth world w Exchange ≡ Saw seen.version)
       × Refines o depth (record (with_worker t w (record s { posted = s.log; seen = seen }) post) { board = board }) (step_of_machine o depth world w Exchange)
   -- an exchange saw the version that the worker had seen: it changed nothing
-  pub saw_nothing : (w : ℕ) (s : WorkerState) (post : Queues Name) → let board = exchanged t.board w s.log in
+  pub saw_nothing : (w : ℕ) (s : WorkerState) (post : Queues (List Name)) → let board = exchanged t.board w s.log in
       slice_get t.workers w ≡ Some s → board.version ≡ s.seen.version → MailFollows o w t.post s s post
       → (turn_of_machine o depth world w Exchange ≡ NotNow) × (board ≡ t.board) × Refines o depth (with_worker t w s post) world
 

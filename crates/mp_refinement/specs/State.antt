@@ -1,12 +1,12 @@
 -- What contracts see of a worker, and the steps that it can make.
-use Rattle.std.specs.Prelude.{◌≡◌, ℕ}
+use Rattle.std.specs.Prelude.{◌≡◌, ℕ, List}
 use Rattle.mp_names.specs.declared.kinds.Kind.{Kind}
 use Rattle.mp_names.specs.declared.names.Name.{Name}
 use Rattle.mp_names.specs.Outlines.{Outline}
 use Rattle.mp_names.specs.Logs.{Log}
 use Rattle.mp_stamps.specs.declared.seen.Seen.{Seen}
 use Rattle.mp_stamps.specs.Seen.{seen_at}
-use Rattle.mp_machine.specs.Steps.{IsNext, IsReady, KindFits, logged}
+use Rattle.mp_machine.specs.Steps.{AreNamesOf, IsNext, IsReady, KindFits, logged}
 use Rattle.mp_machine.specs.Worlds.{Worker}
 
 -- a worker's number, its log, the log that it posted last, which at first is the empty one, and what it saw at its last exchange
@@ -26,11 +26,13 @@ pub record CanMake (o : Outline) (kind : Kind) (s : WorkerState) (x : Name) : Ty
   pub next : IsNext o s.number (as_machine s) kind x
   pub ready : IsReady o s.number (as_machine s) kind x
 
--- the worker with the name in the list that the kind fills
-abbrev pub with_step : Kind → Name → WorkerState → WorkerState
-with_step kind x s = record s { log = logged kind s.log x }
+-- the worker with the names in the list that the kind fills
+abbrev pub with_step : Kind → List Name → WorkerState → WorkerState
+with_step kind xs s = record s { log = logged kind s.log xs }
 
--- The worker could make the step, and has: its log has the name, and nothing else of it changed
-pub record Makes (o : Outline) (kind : Kind) (old : WorkerState) (x : Name) (new : WorkerState) : Type 0 where
-  pub can : CanMake o kind old x
-  pub after : new ≡ with_step kind x old
+-- The worker could make the step with the first of the names, and has: its log has all of them, and nothing else of it changed
+pub record Makes (o : Outline) (kind : Kind) (old : WorkerState) (xs : List Name) (new : WorkerState) : Type 0 where
+  pub first : Name
+  pub can : CanMake o kind old first
+  pub names : AreNamesOf o old.number old.log kind first xs
+  pub after : new ≡ with_step kind xs old

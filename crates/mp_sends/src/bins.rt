@@ -15,28 +15,29 @@ use mp_handoff::count_of_keys;
 use mp_host_laws::Held;
 use mp_mailbox::Post;
 use mp_model::{Naming, Query};
-use mp_msg::{Body, Msg};
+use mp_msg::{Body, Msg, Names};
 use mp_names::{Move, Name};
 use mp_parts::changes_of_leaving;
-use mp_rows::Change;
+use mp_rows::{Change, NewNames};
 use mp_steps::Parts;
 use std::alloc::AllocError;
 
 /// The state of the bin that is due to leave a stage goes to its new owner as one packet, once all groups before the
 /// move are applied: its name, or `None` exactly where no packet may leave or the mailbox was full; the bin is then in
 /// hand as it was. `AllocError`: no memory, and nothing changes.
+#[tactic(auto, using(crate::proofs::Kept::messages_stay))]
 pub fn extract<'a, Q: Query, J: Naming, P: Post<Msg<Q, J>>>(
     parts: &mut Parts<'a, Q, J>,
     stage: u32,
     post: &mut P,
-) -> Result<Option<Name>, AllocError>
+) -> Result<Option<Names>, AllocError>
     requires stage { stage < J.job.shape.stages }
     requires at_post { let o = outline_of (Q.facts J.job.rules) J.job in
         IsAtPost P.workers P.depth P.serves P.denotes o parts.old.worker.number parts.old.worker.log post.old }
     ensures steps { let o = outline_of (Q.facts J.job.rules) J.job in
         StepsByMail (P.had_room post.old) (P.was_full post.old) (P.was_empty post.old) o (Extract stage) parts.old.worker parts.new.worker result }
     ensures mail { let o = outline_of (Q.facts J.job.rules) J.job in
-        PostFollows P.workers P.depth P.serves P.denotes o parts.old.worker.number parts.old.worker.log parts.new.worker.log post.old post.new }
+        PostFollows P.workers P.depth P.serves P.denotes P.waits o parts.old.worker.number parts.old.worker.log parts.new.worker.log post.old post.new }
 {
     let Some(moved) = due(parts, stage) else {
         return Ok(None);
@@ -80,13 +81,14 @@ fn make_room_to_extract<'a, Q: Query, J: Naming>(
 }
 
 // Sends the packet of this move. There is room for it.
+#[tactic(auto, using(crate::proofs::Kept::messages_stay))]
 fn send_bin<'a, Q: Query, J: Naming, P: Post<Msg<Q, J>>>(
     parts: &mut Parts<'a, Q, J>,
     stage: u32,
     moved: Move,
     changes: Vec<Change>,
     post: &mut P,
-) -> Result<Option<Name>, AllocError>
+) -> Result<Option<Names>, AllocError>
     requires stage { stage < J.job.shape.stages }
     requires due { let o = outline_of (Q.facts J.job.rules) J.job in let s = parts.old.worker in
         IsDueNow o s.number s.log s.seen stage moved }
@@ -98,7 +100,7 @@ fn send_bin<'a, Q: Query, J: Naming, P: Post<Msg<Q, J>>>(
     ensures steps { let o = outline_of (Q.facts J.job.rules) J.job in
         StepsByMail (P.had_room post.old) (P.was_full post.old) (P.was_empty post.old) o (Extract stage) parts.old.worker parts.new.worker result }
     ensures mail { let o = outline_of (Q.facts J.job.rules) J.job in
-        PostFollows P.workers P.depth P.serves P.denotes o parts.old.worker.number parts.old.worker.log parts.new.worker.log post.old post.new }
+        PostFollows P.workers P.depth P.serves P.denotes P.waits o parts.old.worker.number parts.old.worker.log parts.new.worker.log post.old post.new }
 {
     let movers = &mut parts.movers[stage as usize];
     let host = &mut parts.hosts[stage as usize];
@@ -107,10 +109,16 @@ fn send_bin<'a, Q: Query, J: Naming, P: Post<Msg<Q, J>>>(
     };
     let keys = count_of_keys(&state);
     let packet = Msg::packet(stage, bin, moved.time, state);
-    let message = match send(&mut parts.log, post, moved.to, packet, changes.as_slice()) {
-        Ok(name) => {
+    let names = NewNames::one(Name::Packet {
+        stage,
+        bin,
+        time: moved.time,
+    });
+    let changes = changes.as_slice();
+    let message = match send(&mut parts.log, post, moved.to, packet, names, changes) {
+        Ok(told) => {
             movers.sent(moved, keys);
-            return Ok(Some(name));
+            return Ok(Some(told));
         }
         Err(message) => message,
     };

@@ -7,24 +7,26 @@ ghost use Rattle.mp_refinement.specs.Steps.{StepsByMail};
 use crate::push::send;
 use mp_mailbox::Post;
 use mp_model::{Naming, Output, Query, Value};
-use mp_msg::{Body, Msg};
+use mp_msg::{Body, Msg, Names};
 use mp_names::{Loc, Name};
 use mp_parts::{one_less, one_more};
+use mp_rows::NewNames;
 use mp_steps::Parts;
 use std::alloc::AllocError;
 
 /// The least answer row that the worker has to send goes to worker 0: its name, or `None` exactly where there is none
 /// or the mailbox was full. `AllocError`: no memory, and nothing changes.
+#[tactic(auto, using(crate::proofs::Kept::messages_stay))]
 pub fn send_row<'a, Q: Query, J: Naming, P: Post<Msg<Q, J>>>(
     parts: &mut Parts<'a, Q, J>,
     post: &mut P,
-) -> Result<Option<Name>, AllocError>
+) -> Result<Option<Names>, AllocError>
     requires at_post { let o = outline_of (Q.facts J.job.rules) J.job in
         IsAtPost P.workers P.depth P.serves P.denotes o parts.old.worker.number parts.old.worker.log post.old }
     ensures steps { let o = outline_of (Q.facts J.job.rules) J.job in
         StepsByMail (P.had_room post.old) (P.was_full post.old) (P.was_empty post.old) o SendRow parts.old.worker parts.new.worker result }
     ensures mail { let o = outline_of (Q.facts J.job.rules) J.job in
-        PostFollows P.workers P.depth P.serves P.denotes o parts.old.worker.number parts.old.worker.log parts.new.worker.log post.old post.new }
+        PostFollows P.workers P.depth P.serves P.denotes P.waits o parts.old.worker.number parts.old.worker.log parts.new.worker.log post.old post.new }
 {
     parts.log.make_room(2)?;
     let Some(Output { time, tag, value }) = parts.unsent.pop_first() else {
@@ -35,8 +37,9 @@ pub fn send_row<'a, Q: Query, J: Naming, P: Post<Msg<Q, J>>>(
     };
     let changes = [one_less(Loc::OutRoute, time), one_more(Loc::OutMail, time)];
     let row = Msg::row(time, tag, fields);
-    let message = match send(&mut parts.log, post, 0, row, &changes) {
-        Ok(name) => return Ok(Some(name)),
+    let names = NewNames::one(Name::Row { time, tag });
+    let message = match send(&mut parts.log, post, 0, row, names, &changes) {
+        Ok(told) => return Ok(Some(told)),
         Err(message) => message,
     };
     let Body::Row { time, tag, fields } = message.into_body() else {

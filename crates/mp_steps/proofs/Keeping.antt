@@ -1,15 +1,21 @@
 -- What a worker keeps to where its parts are others, and what its parts say of its steps.
-use Rattle.std.proofs.Common.{◌≡◌, refl}
+use Rattle.std.proofs.Common.{◌≡◌, ◌<◌, ℕ, List, [], ◌∷◌, None, Some, refl}
 use Rattle.mp_names.specs.declared.kinds.Kind.{Kind}
+use Rattle.mp_names.specs.declared.kinds.Kind.TheVariants.{Receive}
 use Rattle.mp_names.specs.declared.names.Name.{Name}
 use Rattle.mp_names.specs.Logs.{Log}
-use Rattle.mp_machine.specs.Steps.{KindFits, logged}
+use Rattle.mp_names.specs.Names.{In}
+use Rattle.mp_names.specs.Outlines.{Outline, sender}
+use Rattle.mp_machine.specs.Steps.{AreNamesOf, KindFits, logged}
 use Rattle.mp_model.specs.Facts.{JobFacts, QueryFacts}
 use Rattle.mp_outline.specs.JobOutline.{outline_of}
 use Rattle.mp_rows.specs.WorkerLog.{WorkerLog}
+use Rattle.mp_msg.specs.declared.names.Names.{Names}
 use Rattle.mp_worker_invariant.specs.Laws.{CanDo}
 use Rattle.mp_worker_invariant.specs.Parts.{ArePartsOf, Parts}
 use Rattle.mp_refinement.specs.State.{CanMake, Makes, WorkerState}
+use Rattle.mp_refinement.specs.Steps.{MakesAlone, MakesByMail, Tells}
+use Rattle.mp_steps.specs.Contents.{with_taken}
 use Rattle.mp_steps.specs.Kept.{IsKept}
 
 module _ {Cell : Type 0} {q : QueryFacts Cell} {job its : JobFacts} {p : Parts Cell} (kept : IsKept q job its p) where
@@ -32,5 +38,30 @@ module _ {Cell : Type 0} {q : QueryFacts Cell} {job its : JobFacts} {p : Parts C
   pub can_do : CanMake (outline_of q job) kind (state p) x → CanDo q job p kind x
   can_do can = (can.next, can.ready)
 
-  pub makes : KindFits (outline_of q job) kind → CanDo q job p kind x → (l : Log) → l ≡ logged kind p.log x → Makes (outline_of q job) kind (state p) x (record { number = p.number; log = l; posted = p.posted; seen = p.seen })
-  makes fits can l is = record { can = can_make fits can; after = rw is refl }
+  -- the step was made with these names
+  pub makes_all : KindFits (outline_of q job) kind → CanDo q job p kind x → (xs : List Name) → AreNamesOf (outline_of q job) p.number p.log kind x xs → (l : Log) → l ≡ logged kind p.log xs
+      → Makes (outline_of q job) kind (state p) xs (record { number = p.number; log = l; posted = p.posted; seen = p.seen })
+  makes_all fits can xs are l is = record { first = x; can = can_make fits can; names = are; after = rw is refl }
+
+  -- or with one alone
+  pub makes : KindFits (outline_of q job) kind → CanDo q job p kind x → AreNamesOf (outline_of q job) p.number p.log kind x (x ∷ []) → (l : Log) → l ≡ logged kind p.log (x ∷ [])
+      → MakesAlone (outline_of q job) kind (state p) (record { number = p.number; log = l; posted = p.posted; seen = p.seen }) (record { first = x; count = 1 })
+  makes fits can are l is = record { names = x ∷ []; tells = record { first = refl; count = refl }; makes = makes_all fits can (x ∷ []) are l is }
+
+-- a step that can be made was made with its one name
+pub made_alone : {o : Outline} {kind : Kind} {s : WorkerState} {x : Name} → CanMake o kind s x → AreNamesOf o s.number s.log kind x (x ∷ []) → (l : Log) → l ≡ logged kind s.log (x ∷ []) → MakesAlone o kind s (record s { log = l }) (record { first = x; count = 1 })
+made_alone {x = x} can are l is = record { names = x ∷ []; tells = record { first = refl; count = refl }; makes = record { first = x; can = can; names = are; after = rw is refl } }
+
+-- a message that begins with a name may be taken, and its names put into the log
+pub received : (o : Outline) (s : WorkerState) (v : ℕ) → v < o.workers → (xs : List Name) (told : Names) → Tells told xs → (had_room was_full was_empty : ℕ → ℕ → Type 0) → ((x : Name) → In x xs → sender o x ≡ v)
+    → MakesByMail had_room was_full was_empty o (Receive v) s (with_taken xs s) told
+received o s v fits [] told tells had_room was_full was_empty sends = absurd (none tells.first)
+  where
+    none : None ≡ Some told.first → ⊥
+    none e = cc
+received o s v fits (x ∷ xs) told tells had_room was_full was_empty sends = record {
+  names = x ∷ xs;
+  tells = tells;
+  makes = record { first = x; can = record { fits = fits; next = tt; ready = tt }; names = (xs, refl); after = refl };
+  allows = sends;
+}

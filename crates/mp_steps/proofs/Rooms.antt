@@ -3,6 +3,7 @@ use Rattle.std.proofs.Common.{◌≡◌, ◌≤◌, ◌++◌, ◌∷◌, [], ℕ
 use Rattle.std.specs.Result.{IsOk}
 use Rattle.std.proofs.lemmas.Bool.{false≢true}
 use Rattle.mp_names.specs.declared.pointstamps.Change.{Change}
+use Rattle.mp_names.specs.Limits.{most_in_bundle}
 use Rattle.mp_names.specs.Logs.{Log}
 use Rattle.mp_bins.specs.declared.owners.Note.{Note}
 use Rattle.mp_bins.specs.Laws.{AreNotesOf}
@@ -21,6 +22,10 @@ use Rattle.mp_worker_invariant.proofs.Others.{other_hosts, other_movers, other_n
 use Rattle.mp_steps.specs.Kept.{IsKept}
 use Rattle.mp_steps.specs.Rooms.{SameHosts, SameMovers, roomless, without_room}
 use Rattle.mp_steps.proofs.Keeping.{kept_as, kept_by}
+
+-- where there is room for the names of a message there is for one
+pub some_names : {n : ℕ} → most_in_bundle ≤ n → 1 ≤ n
+some_names h = omega (arith, h)
 
 -- no more changes than two
 pub two_at_most : (n : ℕ) (a b : Change) → length (take n (a ∷ b ∷ [])) ≤ 2

@@ -18,6 +18,7 @@ use Rattle.mp_model.specs.Facts.{JobFacts, QueryFacts}
 use Rattle.mp_outside.specs.Fault.{Rose}
 use Rattle.mp_outside.specs.Sink.{grown}
 use Rattle.mp_outline.specs.JobOutline.{outline_of}
+use Rattle.mp_msg.specs.declared.names.Names.{Names}
 use Rattle.mp_output.specs.declared.refused.OutRefused.{OutRefused}
 use Rattle.mp_output.specs.declared.refused.OutRefused.TheVariants.{WriteFault, NoMemory}
 use Rattle.mp_output.specs.Holding.{WritesNext, answer_at}
@@ -39,7 +40,7 @@ module _ {Cell : Type 0} (q : QueryFacts Cell) (job : JobFacts) (p : Parts Cell)
   rows_have_come = subst (λ (v : ℕ). IsClosedForOne (outline_of q job) v p.log OutMail t) first (parts.done OutMail t tt (passed _ p.unwritten t due))
 
   -- to write it is a step that the worker can make
-  can_write : IsLeast (IsUnwritten p.log) (Written t) → CanMake (outline_of q job) Write (record { number = p.number; log = p.log; posted = p.posted; seen = p.seen }) (Written t)
+  pub can_write : IsLeast (IsUnwritten p.log) (Written t) → CanMake (outline_of q job) Write (record { number = p.number; log = p.log; posted = p.posted; seen = p.seen }) (Written t)
   can_write least = record { fits = tt; next = (first, least); ready = passed _ p.unwritten t due }
 
   -- its lines are the answer's, so a part of them is a part of the answer's
@@ -57,7 +58,7 @@ err_is e f is = cc
 
 -- a write that is refused leaves no more than a part, and a fault where it failed
 module _ {Cell S : Type 0} (q : QueryFacts Cell) (job : JobFacts) (written : S → Option (List ℕ)) (faults : S → ℕ) (s : WorkerState) (old new : S) (part : WritesNoMore q job written faults s old new) where
-  pub writes_refused : (e : OutRefused) (r : Result (Option Name) OutRefused) → IsErrAnd r (λ f. f ≡ e) → (e ≡ WriteFault → Rose (faults old) (faults new)) → (e ≢ WriteFault → faults new ≡ faults old) → Writes q job written faults s old new r
+  pub writes_refused : (e : OutRefused) (r : Result (Option Names) OutRefused) → IsErrAnd r (λ f. f ≡ e) → (e ≡ WriteFault → Rose (faults old) (faults new)) → (e ≢ WriteFault → faults new ≡ faults old) → Writes q job written faults s old new r
   writes_refused e (Ok x) is rose same = absurd is
   writes_refused WriteFault (Err f) is rose same = subst (λ (g : OutRefused). Writes q job written faults s old new (Err g)) (sym is) (part, rose refl)
   writes_refused NoMemory (Err f) is rose same = subst (λ (g : OutRefused). Writes q job written faults s old new (Err g)) (sym is) (part, same (λ e. cc))

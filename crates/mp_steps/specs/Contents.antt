@@ -1,7 +1,7 @@
 -- What contracts see of the parts of a worker.
 use Rattle.std.specs.Prelude.{ℕ, List, length}
 use Rattle.mp_names.specs.declared.names.Name.{Name}
-use Rattle.mp_names.specs.Logs.{empty_log, with_took}
+use Rattle.mp_names.specs.Logs.{empty_log}
 use Rattle.mp_stamps.specs.declared.seen.Seen.{Seen}
 use Rattle.mp_bins.specs.Notes.{Notes}
 use Rattle.mp_model.specs.Facts.{JobFacts, QueryFacts}
@@ -10,6 +10,7 @@ use Rattle.mp_route.specs.Routed.{Routed}
 use Rattle.mp_host_laws.specs.Hosted.{Hosted}
 use Rattle.mp_handoff.specs.MoversState.{MoversState}
 use Rattle.mp_output.specs.Unwritten.{Unwritten}
+use Rattle.mp_worker_invariant.specs.Kept.{with_all_took}
 use Rattle.mp_refinement.specs.State.{WorkerState}
 use Rattle.mp_parts.specs.declared.room.PacketLists.{PacketLists}
 
@@ -34,9 +35,9 @@ worker_of p = p.worker
 abbrev pub new_worker : ℕ → Seen → WorkerState
 new_worker w seen = record { number = w; log = empty_log; posted = empty_log; seen = seen }
 
--- the worker with the name as taken
-abbrev pub with_taken : Name → WorkerState → WorkerState
-with_taken x s = record s { log = with_took s.log x }
+-- the worker with the names as taken
+abbrev pub with_taken : List Name → WorkerState → WorkerState
+with_taken xs s = record s { log = with_all_took s.log xs }
 
 -- how many times of records, of their posts and of control records the job has, so that a packet has wakes of no more
 abbrev pub number_of_times : {Cell : Type 0} → QueryFacts Cell → JobFacts → ℕ

@@ -8,6 +8,7 @@ use Rattle.mp_outside.specs.Fault.{Rose}
 use Rattle.mp_outside.specs.Sink.{grown}
 use Rattle.mp_model.specs.Facts.{JobFacts, QueryFacts}
 use Rattle.mp_outline.specs.JobOutline.{outline_of}
+use Rattle.mp_msg.specs.declared.names.Names.{Names}
 use Rattle.mp_output.specs.declared.refused.OutRefused.{OutRefused}
 use Rattle.mp_output.specs.declared.refused.OutRefused.TheVariants.{WriteFault, NoMemory}
 use Rattle.mp_output.specs.Holding.{answer_at}
@@ -29,8 +30,8 @@ module _ {Cell S : Type 0} (q : QueryFacts Cell) (job : JobFacts) (written : S �
   WritesTime x = written new ≡ grown (written old) (lines_of_time q job.events x)
 
   -- what a write came to: all lines of a time, or nothing; or no more than a part, where a write failed or there was no memory. Only one that failed counts a fault
-  abbrev pub Writes : Result (Option Name) OutRefused → Type 0
-  Writes (Ok (Some x)) = WritesTime x × (faults new ≡ faults old)
+  abbrev pub Writes : Result (Option Names) OutRefused → Type 0
+  Writes (Ok (Some told)) = WritesTime told.first × (faults new ≡ faults old)
   Writes (Ok None) = new ≡ old
   Writes (Err WriteFault) = WritesNoMore × Rose (faults old) (faults new)
   Writes (Err NoMemory) = WritesNoMore × (faults new ≡ faults old)

@@ -21,6 +21,7 @@ use crate::parts::Parts;
 use mp_bins::Owners;
 use mp_host::{Applied, Host};
 use mp_model::{Naming, Query};
+use mp_msg::Names;
 use mp_names::{Loc, Name};
 use mp_parts::{
     hold_records, hold_rows, location_after, make_room_onward, one_less, one_more, push_more,
@@ -34,7 +35,7 @@ impl<'a, Q: Query, J: Naming> Parts<'a, Q, J> {
     /// The least group of a stage that waits is applied, once all that belongs to it has come; what it gives goes to the
     /// router of the next stage, or from the last stage to the answer rows to be sent: its name, or `None` exactly where
     /// no group may be applied. `AllocError`: no memory, and nothing changes.
-    pub fn apply(&mut self, stage: u32) -> Result<Option<Name>, AllocError>
+    pub fn apply(&mut self, stage: u32) -> Result<Option<Names>, AllocError>
         requires stage { stage < J.job.shape.stages }
         ensures { let o = outline_of (Q.facts J.job.rules) J.job in
             StepsAlone o (Apply stage) self.old.worker self.new.worker result }
@@ -80,7 +81,7 @@ impl<'a, Q: Query, J: Naming> Parts<'a, Q, J> {
         &mut self,
         stage: u32,
         mut changes: Vec<Change>,
-    ) -> Result<Option<Name>, AllocError>
+    ) -> Result<Option<Names>, AllocError>
         requires stage { stage < J.job.shape.stages }
         requires empty { changes.items ≡ [] }
         requires ready { SomeGroupIsReady J.job stage self.old }
@@ -115,7 +116,10 @@ impl<'a, Q: Query, J: Naming> Parts<'a, Q, J> {
         } else {
             hold_rows(applied.time, applied.key, applied.outputs, &mut self.unsent)?;
         }
-        Ok(Some(name))
+        Ok(Some(Names {
+            first: name,
+            count: 1,
+        }))
     }
 }
 

@@ -4,12 +4,13 @@ ghost use Rattle.mp_names.specs.declared.kinds.Kind.TheVariants.{Ingest};
 ghost use Rattle.mp_names.specs.declared.names.Name.{Name};
 ghost use Rattle.mp_outline.specs.JobOutline.{outline_of};
 ghost use Rattle.mp_parts.specs.Ingesting.{IsNextRecord};
-ghost use Rattle.mp_refinement.specs.State.{CanMake, Makes};
-ghost use Rattle.mp_refinement.specs.Steps.{StepsAlone};
+ghost use Rattle.mp_refinement.specs.State.{CanMake};
+ghost use Rattle.mp_refinement.specs.Steps.{MakesAlone, StepsAlone};
 ghost use Rattle.mp_steps.specs.Rooms.{HasRoomToIngest};
 
 use crate::parts::Parts;
 use mp_model::{Naming, Query, Rec};
+use mp_msg::Names;
 use mp_names::{Loc, Name};
 use mp_parts::{one_less, one_more};
 use mp_rows::LogList;
@@ -18,7 +19,7 @@ use std::alloc::AllocError;
 impl<'a, Q: Query, J: Naming> Parts<'a, Q, J> {
     /// The next record of the worker's share goes to the router of stage 0: its name, or `None` exactly where all of the
     /// share is ingested. `AllocError`: no memory, and nothing changes.
-    pub fn ingest(&mut self) -> Result<Option<Name>, AllocError>
+    pub fn ingest(&mut self) -> Result<Option<Names>, AllocError>
         ensures { let o = outline_of (Q.facts J.job.rules) J.job in
             StepsAlone o Ingest self.old.worker self.new.worker result }
     {
@@ -53,10 +54,10 @@ impl<'a, Q: Query, J: Naming> Parts<'a, Q, J> {
     }
 
     // Ingests the record that is next. There is room for it.
-    fn ingest_record(&mut self, rec: Rec) -> Name
+    fn ingest_record(&mut self, rec: Rec) -> Names
         requires next { let q = Q.facts J.job.rules in let s = self.old.worker in IsNextRecord q J.job s.number s.log rec }
         requires room { HasRoomToIngest self.old }
-        ensures { Makes (outline_of (Q.facts J.job.rules) J.job) Ingest self.old.worker result self.new.worker }
+        ensures { MakesAlone (outline_of (Q.facts J.job.rules) J.job) Ingest self.old.worker self.new.worker result }
     {
         let time = rec.time;
         let name = Name::Rec {
@@ -72,6 +73,9 @@ impl<'a, Q: Query, J: Naming> Parts<'a, Q, J> {
         let Ok(()) = self.routers[0].hold(rec) else {
             unreachable!()
         };
-        name
+        Names {
+            first: name,
+            count: 1,
+        }
     }
 }

@@ -1,5 +1,6 @@
 //! Room for what a message may bring. All of it is made before one is taken, as nothing may be refused after that.
 ghost use Rattle.std.specs.Prelude.{◌≡◌, ◌≤◌, ◌<◌, ◌+◌, ◌^◌, All, OnOk};
+ghost use Rattle.mp_names.specs.Limits.{most_in_bundle};
 ghost use Rattle.mp_steps.specs.Rooms.{HasRoomToTake, SameHosts, SameMovers};
 
 use crate::parts::Parts;
@@ -7,6 +8,7 @@ use mp_bins::Owners;
 use mp_handoff::Movers;
 use mp_host::Host;
 use mp_model::{Naming, Query};
+use mp_names::limits::MAX_BUNDLE;
 use mp_output::Rows;
 use mp_rows::{Log, OutlineOf};
 use std::alloc::AllocError;
@@ -34,29 +36,29 @@ fn make_room_to_take<Q: Query, J: Naming>(
     rows: &mut Rows<Q, J>,
     owners: &mut Owners,
 ) -> Result<(), AllocError>
-    requires { times + 2 < 2 ^ 64 }
+    requires { times + 64 < 2 ^ 64 }
     ensures same_log { (log.new.worker ≡ log.old.worker) × (log.new.log ≡ log.old.log) }
     ensures posted { log.new.posted ≡ log.old.posted }
     ensures same_rows { rows.new.rows ≡ rows.old.rows }
     ensures same_owners { (owners.new.shape ≡ owners.old.shape) × (owners.new.noted ≡ owners.old.noted) }
-    ensures log { OnOk result ((1 ≤ log.new.room_for_names) × (times + 2 ≤ log.new.room_for_changes)) }
+    ensures log { OnOk result ((most_in_bundle ≤ log.new.room_for_names) × (times + 2 ≤ log.new.room_for_changes)) }
     ensures rows { OnOk result (1 ≤ rows.new.room) }
     ensures owners { OnOk result (1 ≤ owners.new.room) }
 {
-    log.make_room(times as u64 + 2)?;
+    log.make_room((times + MAX_BUNDLE) as u64)?;
     rows.make_room(1)?;
     owners.make_room(1)
 }
 
-// Makes room in each host for a record and for a bin. `AllocError`: no memory, and nothing but rooms changes.
+// Makes room in each host for the records of a message and for a bin. `AllocError`: no memory, and nothing but rooms changes.
 fn make_room_in_hosts<'a, Q: Query, J: Naming>(
     hosts: &mut [Host<'a, Q, J>],
 ) -> Result<(), AllocError>
     ensures same { SameHosts hosts.old hosts.new }
-    ensures room { OnOk result (All (λ h. (1 ≤ h.room) × (1 ≤ h.room_for_bins)) hosts.new) }
+    ensures room { OnOk result (All (λ h. (most_in_bundle ≤ h.room) × (1 ≤ h.room_for_bins)) hosts.new) }
 {
     for host in hosts {
-        host.make_room(1)?;
+        host.make_room(MAX_BUNDLE as u64)?;
     }
     Ok(())
 }

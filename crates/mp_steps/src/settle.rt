@@ -6,6 +6,7 @@ ghost use Rattle.mp_refinement.specs.Steps.{StepsAlone};
 
 use crate::parts::Parts;
 use mp_model::{Naming, Query};
+use mp_msg::Names;
 use mp_names::{Loc, Name};
 use mp_parts::one_less;
 use mp_rows::LogList;
@@ -15,7 +16,7 @@ impl<'a, Q: Query, J: Naming> Parts<'a, Q, J> {
     /// The first time of noted control records of a stage that isn't settled is, once the control stream has passed it and
     /// all that leaves then is sent: its name, or `None` exactly where no time may be settled. `AllocError`: no memory, and
     /// nothing changes.
-    pub fn settle(&mut self, stage: u32) -> Result<Option<Name>, AllocError>
+    pub fn settle(&mut self, stage: u32) -> Result<Option<Names>, AllocError>
         requires stage { stage < J.job.shape.stages }
         ensures { let o = outline_of (Q.facts J.job.rules) J.job in
             StepsAlone o (Settle stage) self.old.worker self.new.worker result }
@@ -27,6 +28,9 @@ impl<'a, Q: Query, J: Naming> Parts<'a, Q, J> {
         };
         let name = Name::Settled { stage, time };
         self.log.push(LogList::Settled, name, &[one_less(Loc::Move(stage), time)])?;
-        Ok(Some(name))
+        Ok(Some(Names {
+            first: name,
+            count: 1,
+        }))
     }
 }

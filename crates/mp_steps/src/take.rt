@@ -1,42 +1,42 @@
 //! How the parts of a worker take control records, records, bins that come to it, and answer rows.
-ghost use Rattle.std.specs.Prelude.{◌≡◌, ◌<◌, ◌≤◌, ◌+◌, ◌^◌, false, [], All, IsOk, length};
+ghost use Rattle.std.specs.Prelude.{◌≡◌, ◌<◌, ◌≤◌, ◌+◌, ◌^◌, ◌∷◌, false, [], All, IsOk, length};
 ghost use Rattle.std.specs.Vec.{vec_capacity};
 ghost use Rattle.mp_names.specs.declared.names.Name.TheVariants.{Ctrl, Packet, Row};
 ghost use Rattle.mp_names.specs.Names.{has};
-ghost use Rattle.mp_names.specs.Outlines.{IsOwedTo, receiver};
+ghost use Rattle.mp_names.specs.Outlines.{IsOwedTo};
 ghost use Rattle.mp_count_laws.specs.Changes.{packet_taken_at};
-ghost use Rattle.mp_outline.specs.JobOutline.{name_of_record, outline_of};
-ghost use Rattle.mp_msg.specs.Contents.{IsControlOf, IsPacketOf, IsRecordOf, IsRowOf};
+ghost use Rattle.mp_outline.specs.JobOutline.{outline_of};
+ghost use Rattle.mp_msg.specs.Bundles.{IsBundle, names_in};
+ghost use Rattle.mp_msg.specs.Contents.{IsControlOf, IsPacketOf, IsRowOf};
+ghost use Rattle.mp_worker_invariant.specs.Kept.{AreOwedAndNew};
 ghost use Rattle.mp_steps.specs.Contents.{with_taken};
 ghost use Rattle.mp_steps.specs.Rooms.{HasRoomToTake};
 
 use crate::parts::Parts;
-use mp_model::{Fields, Naming, Query, Rec, Time};
-use mp_msg::{BinState, Body, Msg};
+use mp_model::{Fields, Naming, Query, Time};
+use mp_msg::{BinState, Body, Bundle, Msg};
 use mp_names::{Control, Loc, Name, Tag};
-use mp_parts::{one_less, one_more};
+use mp_parts::{many_less, many_more, one_less, one_more};
 use mp_rows::{Change, LogList, Pointstamp};
 use std::alloc::AllocError;
 
 impl<'a, Q: Query, J: Naming> Parts<'a, Q, J> {
     /// Takes a message that came to this worker to the part that it is for. There is room for it.
     pub(crate) fn take(&mut self, message: Msg<Q, J>)
-        requires to { receiver (outline_of (Q.facts J.job.rules) J.job) message ≡ self.old.worker.number }
-        requires fresh { has self.old.worker.log.took message ≡ false }
+        requires new { AreOwedAndNew (outline_of (Q.facts J.job.rules) J.job) self.old.worker.number self.old.worker.log message }
         requires room { HasRoomToTake (Q.facts J.job.rules) J.job self.old }
         ensures { self.new.worker ≡ with_taken message self.old.worker }
     {
-        let name = message.name();
         match message.into_body() {
             Body::Ctrl { index, control, .. } => self.take_control(index, control),
-            Body::Rec { stage, rec } => self.take_record(name, stage, rec),
+            Body::Recs(bundle) => self.take_records(bundle),
             Body::Packet {
                 stage,
                 bin,
                 time,
                 state,
             } => self.take_packet(stage, bin, time, state),
-            Body::Row { time, tag, fields } => self.take_row(name, time, tag, fields),
+            Body::Row { time, tag, fields } => self.take_row(time, tag, fields),
         }
     }
 
@@ -45,7 +45,7 @@ impl<'a, Q: Query, J: Naming> Parts<'a, Q, J> {
         requires content { IsControlOf J.job index self.old.worker.number control }
         requires fresh { has self.old.worker.log.took (Ctrl index self.old.worker.number) ≡ false }
         requires room { HasRoomToTake (Q.facts J.job.rules) J.job self.old }
-        ensures { self.new.worker ≡ with_taken (Ctrl index self.old.worker.number) self.old.worker }
+        ensures { self.new.worker ≡ with_taken (Ctrl index self.old.worker.number ∷ []) self.old.worker }
     {
         let time = control.time;
         let name = Name::Ctrl {
@@ -70,27 +70,31 @@ impl<'a, Q: Query, J: Naming> Parts<'a, Q, J> {
         };
     }
 
-    // A record goes to the host of its stage.
-    fn take_record(&mut self, name: Name, stage: u32, rec: Rec)
-        requires record { IsRecordOf (Q.facts J.job.rules) J.job stage rec }
-        requires name { name ≡ name_of_record stage rec }
-        requires owed { IsOwedTo (outline_of (Q.facts J.job.rules) J.job) self.old.worker.number name }
-        requires fresh { has self.old.worker.log.took name ≡ false }
+    // Records go to the host of their stage.
+    fn take_records(&mut self, bundle: Bundle)
+        requires bundle { IsBundle (Q.facts J.job.rules) J.job bundle }
+        requires new { AreOwedAndNew (outline_of (Q.facts J.job.rules) J.job) self.old.worker.number self.old.worker.log (names_in bundle) }
         requires room { HasRoomToTake (Q.facts J.job.rules) J.job self.old }
-        ensures { self.new.worker ≡ with_taken name self.old.worker }
+        ensures { self.new.worker ≡ with_taken (names_in bundle) self.old.worker }
     {
-        let time = rec.time;
-        let changes = [
-            one_less(Loc::Mail(stage), time),
-            one_more(Loc::Host(stage), time),
-        ];
+        let stage = bundle.stage();
+        let recs = bundle.recs();
+        let time = recs[0].time;
         let host = &mut self.hosts[stage as usize];
-        // A group that waits already is counted at the host.
-        let count = if host.waits(time, rec.key) { 1 } else { 2 };
-        let Ok(()) = self.log.push(LogList::Took, name, &changes[..count]) else {
+        let groups = host.new_groups(&bundle);
+        let changes = [
+            many_less(Loc::Mail(stage), time, recs.len()),
+            many_more(Loc::Host(stage), time, groups as usize),
+        ];
+        // Groups that wait already are counted at the host.
+        let count = if groups == 0 { 1 } else { 2 };
+        let Ok(()) = self
+            .log
+            .push_records(LogList::Took, stage, recs, &changes[..count])
+        else {
             unreachable!()
         };
-        let Ok(()) = host.receive(rec) else {
+        let Ok(()) = host.receive(bundle) else {
             unreachable!()
         };
     }
@@ -101,7 +105,7 @@ impl<'a, Q: Query, J: Naming> Parts<'a, Q, J> {
         requires owed { IsOwedTo (outline_of (Q.facts J.job.rules) J.job) self.old.worker.number (Packet stage bin time) }
         requires fresh { has self.old.worker.log.took (Packet stage bin time) ≡ false }
         requires room { HasRoomToTake (Q.facts J.job.rules) J.job self.old }
-        ensures { self.new.worker ≡ with_taken (Packet stage bin time) self.old.worker }
+        ensures { self.new.worker ≡ with_taken (Packet stage bin time ∷ []) self.old.worker }
     {
         let host = &mut self.hosts[stage as usize];
         let lists = &mut self.lists;
@@ -117,14 +121,14 @@ impl<'a, Q: Query, J: Naming> Parts<'a, Q, J> {
     }
 
     // An answer row goes to those that are to be written.
-    fn take_row(&mut self, name: Name, time: Time, tag: Tag, fields: Fields)
+    fn take_row(&mut self, time: Time, tag: Tag, fields: Fields)
         requires row { IsRowOf (Q.facts J.job.rules) J.job time tag fields }
-        requires name { name ≡ Row time tag }
-        requires owed { IsOwedTo (outline_of (Q.facts J.job.rules) J.job) self.old.worker.number name }
-        requires fresh { has self.old.worker.log.took name ≡ false }
+        requires owed { IsOwedTo (outline_of (Q.facts J.job.rules) J.job) self.old.worker.number (Row time tag) }
+        requires fresh { has self.old.worker.log.took (Row time tag) ≡ false }
         requires room { HasRoomToTake (Q.facts J.job.rules) J.job self.old }
-        ensures { self.new.worker ≡ with_taken name self.old.worker }
+        ensures { self.new.worker ≡ with_taken (Row time tag ∷ []) self.old.worker }
     {
+        let name = Name::Row { time, tag };
         let changes = [one_less(Loc::OutMail, time)];
         let Ok(()) = self.log.push(LogList::Took, name, &changes) else {
             unreachable!()

@@ -7,6 +7,7 @@ ghost use Rattle.mp_steps.specs.Writing.{Writes};
 
 use crate::parts::Parts;
 use mp_model::{Naming, Query};
+use mp_msg::Names;
 use mp_names::Name;
 use mp_output::{OutRefused, Wrote};
 use mp_outside::Sink;
@@ -17,7 +18,7 @@ impl<'a, Q: Query, J: Naming> Parts<'a, Q, J> {
     /// come: its name, or `None` exactly where there is no such time, or this is another worker. `WriteFault`: only where
     /// the sink's count of faults rose in this call or stands at its last value, 2^64 - 1. `NoMemory`: an allocation failed.
     /// With either the worker is as it was, and a part of the lines from their front may be written.
-    pub fn write<S: Sink>(&mut self, sink: &mut S) -> Result<Option<Name>, OutRefused>
+    pub fn write<S: Sink>(&mut self, sink: &mut S) -> Result<Option<Names>, OutRefused>
         ensures steps { let o = outline_of (Q.facts J.job.rules) J.job in
             StepsAlone o Write self.old.worker self.new.worker result }
         ensures writes { Writes (Q.facts J.job.rules) J.job S.written S.faults self.old.worker sink.old sink.new result }
@@ -31,7 +32,10 @@ impl<'a, Q: Query, J: Naming> Parts<'a, Q, J> {
             Wrote::Time(time) => {
                 let name = Name::Written { time };
                 self.log.push(LogList::Settled, name, &[])?;
-                Ok(Some(name))
+                Ok(Some(Names {
+                    first: name,
+                    count: 1,
+                }))
             }
             Wrote::Nothing => Ok(None),
         }

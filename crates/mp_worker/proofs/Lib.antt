@@ -1,4 +1,5 @@
 pub mod Ended
 pub mod Numbered
 pub mod OwnLog
+pub mod Told
 pub mod Turned

@@ -14,7 +14,7 @@ use Rattle.mp_worker.specs.declared.turn.Stop.TheVariants.{Write, Memory, Other}
 module _ (had_room was_full was_empty : ℕ → ℕ → Type 0) (o : Outline) (made : Kind) (old new : WorkerState) where
   -- the step was made, or an exchange saw a new version, or the step can't be made; where a hub was held, or the worker has to stop, it is as it was
   abbrev pub Answers : Result Turn Stop → Type 0
-  Answers (Ok (Did x)) = MakesByMail had_room was_full was_empty o made old new x
+  Answers (Ok (Did x n)) = MakesByMail had_room was_full was_empty o made old new (record { first = x; count = n })
   Answers (Ok (Seen version)) = (made ≡ kind.Exchange) × Sees old version new
   Answers (Ok NotNow) = IsHinderedByMail had_room was_full was_empty o made old new
   Answers (Ok Busy) = (made ≡ kind.Exchange) × (new ≡ old)

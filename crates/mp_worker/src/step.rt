@@ -16,8 +16,8 @@ use crate::{Stop, Turn, Worker};
 use mp_board::{Hub, OutlineOf};
 use mp_mailbox::Post;
 use mp_model::{Naming, Query};
-use mp_msg::Msg;
-use mp_names::{Kind, Name, Shape};
+use mp_msg::{Msg, Names};
+use mp_names::{Kind, Shape};
 use mp_outside::Sink;
 use mp_sends::{extract, route, send_control, send_row};
 use std::alloc::AllocError;
@@ -25,7 +25,7 @@ use std::alloc::AllocError;
 impl<'a, Q: Query, J: Naming> Worker<'a, Q, J> {
     /// Makes one step of this kind, as the machine has it, if its condition is true. The post and the hub serve this worker:
     /// at its ends the post stands for what its log has as sent and taken, and the hub has the log that it posted last.
-    /// `Did`: the step was made, and its name put into the log. `Seen`: an exchange posted the log and saw a version of the
+    /// `Did`: the step was made, and its names put into the log. `Seen`: an exchange posted the log and saw a version of the
     /// board that is not the one that the worker had seen. `NotNow`: exactly where the step's condition is false, as it is
     /// where the job doesn't have what the kind names. `Busy` and `Other`: only of an exchange, where the hub says so, before
     /// anything else. `Memory`: no memory, and of no exchange, which takes none. `Write`: only of a write, where the sink's
@@ -47,7 +47,7 @@ impl<'a, Q: Query, J: Naming> Worker<'a, Q, J> {
             Answers (P.had_room post.old) (P.was_full post.old) (P.was_empty post.old) o kind self.old self.new result }
         ensures fits { (KindFits (outline_of (Q.facts J.job.rules) J.job) kind → ⊥) → result ≡ Ok turn.NotNow }
         ensures mail { let o = outline_of (Q.facts J.job.rules) J.job in
-            PostFollows P.workers P.depth P.serves P.denotes o self.old.number self.old.log self.new.log post.old post.new }
+            PostFollows P.workers P.depth P.serves P.denotes P.waits o self.old.number self.old.log self.new.log post.old post.new }
 
         // The board.
         ensures exchanges { kind ≡ Exchange
@@ -74,7 +74,7 @@ impl<'a, Q: Query, J: Naming> Worker<'a, Q, J> {
         &mut self,
         kind: Kind,
         post: &mut P,
-    ) -> Result<Option<Name>, AllocError>
+    ) -> Result<Option<Names>, AllocError>
         requires kind { (kind ≢ Write) × (kind ≢ Exchange) }
         requires at_post { let o = outline_of (Q.facts J.job.rules) J.job in
             IsAtPost P.workers P.depth P.serves P.denotes o self.old.number self.old.log post.old }
@@ -82,7 +82,7 @@ impl<'a, Q: Query, J: Naming> Worker<'a, Q, J> {
             StepsByMail (P.had_room post.old) (P.was_full post.old) (P.was_empty post.old) o kind self.old self.new result }
         ensures fits { (KindFits (outline_of (Q.facts J.job.rules) J.job) kind → ⊥) → result ≡ Ok None }
         ensures mail { let o = outline_of (Q.facts J.job.rules) J.job in
-            PostFollows P.workers P.depth P.serves P.denotes o self.old.number self.old.log self.new.log post.old post.new }
+            PostFollows P.workers P.depth P.serves P.denotes P.waits o self.old.number self.old.log self.new.log post.old post.new }
     {
         if !fits(kind, self.parts.shape()) {
             return Ok(None);
@@ -95,7 +95,7 @@ impl<'a, Q: Query, J: Naming> Worker<'a, Q, J> {
         &mut self,
         kind: Kind,
         post: &mut P,
-    ) -> Result<Option<Name>, AllocError>
+    ) -> Result<Option<Names>, AllocError>
         requires kind { (kind ≢ Write) × (kind ≢ Exchange) }
         requires fits { KindFits (outline_of (Q.facts J.job.rules) J.job) kind }
         requires at_post { let o = outline_of (Q.facts J.job.rules) J.job in
@@ -103,7 +103,7 @@ impl<'a, Q: Query, J: Naming> Worker<'a, Q, J> {
         ensures steps { let o = outline_of (Q.facts J.job.rules) J.job in
             StepsByMail (P.had_room post.old) (P.was_full post.old) (P.was_empty post.old) o kind self.old self.new result }
         ensures mail { let o = outline_of (Q.facts J.job.rules) J.job in
-            PostFollows P.workers P.depth P.serves P.denotes o self.old.number self.old.log self.new.log post.old post.new }
+            PostFollows P.workers P.depth P.serves P.denotes P.waits o self.old.number self.old.log self.new.log post.old post.new }
     {
         match kind {
             Kind::Ingest => self.parts.ingest(),
@@ -132,13 +132,13 @@ fn fits(kind: Kind, shape: Shape) -> bool
     }
 }
 
-// The answer of a step that put this name into the log, or none.
-fn turn_of(made: Option<Name>) -> Turn
-    ensures did { IfSome made (λ x. result ≡ turn.Did x) }
+// The answer of a step that put these names into the log, or none.
+fn turn_of(made: Option<Names>) -> Turn
+    ensures did { IfSome made (λ told. result ≡ turn.Did told.first told.count) }
     ensures not_now { IfNone made (result ≡ turn.NotNow) }
 {
     match made {
-        Some(name) => Turn::Did(name),
+        Some(Names { first, count }) => Turn::Did(first, count),
         None => Turn::NotNow,
     }
 }

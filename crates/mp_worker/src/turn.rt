@@ -11,8 +11,9 @@ use std::alloc::AllocError;
 /// What came of a step.
 #[derive(Clone, Copy, PartialEq, Eq, Debug)]
 pub enum Turn {
-    /// The step was made: this name was put into the worker's log.
-    Did(Name),
+    /// The step was made: names were put into the worker's log, of which this is the first, and which are so many; several
+    /// only where records travel together.
+    Did(Name, u64),
     /// The log was posted, or the board had changed: this version of the board was seen.
     Seen(u64),
     /// The step can't be made now. Nothing changed.

@@ -10,7 +10,7 @@ returns-clause-turns c = λ o depth steps t ok are.
     let world = run_of_machine o depth steps in
     let right = run_right o ok depth steps in
     record {
-      did = λ w kind x old new post was makes lets mail. did o ok depth t world right are w old was kind x new post makes lets mail;
+      did = λ w kind told xs old new post was tells makes lets mail. did o ok depth t world right are w old was kind xs new post makes lets mail told tells;
       not_now = λ w kind s post was other hinders mail. (not_now o ok depth t world right are w s was kind other hinders, same_world o ok depth t world right are w s was post mail);
       saw = λ w s seen post was version shows new mail. saw o ok depth t world right are w s was seen version shows post new mail;
       saw_nothing = λ w s post was level mail.

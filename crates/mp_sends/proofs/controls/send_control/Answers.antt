@@ -1,4 +1,4 @@
-use Rattle.std.proofs.Common.{◌≡◌, ◌∙◌, ◌<◌, List, length, refl, ap, subst, sym}
+use Rattle.std.proofs.Common.{◌≡◌, ◌∙◌, ◌<◌, ◌∷◌, [], List, length, refl, ap, subst, sym}
 use Rattle.mp_names.specs.declared.controls.Control.{Control}
 use Rattle.mp_names.specs.declared.controls.Shape.{Shape}
 use Rattle.mp_names.specs.declared.kinds.Kind.TheVariants.{SendControl}
@@ -10,7 +10,7 @@ use Rattle.mp_outline.specs.JobOutline.{outline_of}
 use Rattle.mp_worker_invariant.specs.Parts.{place_after}
 use Rattle.mp_parts.proofs.Controls.{can_send_control, control_counted, control_kept, one_control}
 use Rattle.mp_refinement.proofs.Pushed.{held_may}
-use Rattle.mp_steps.proofs.Keeping.{can_do, kept_by}
+use Rattle.mp_steps.proofs.Keeping.{can_do, kept_by, makes_all}
 use Rattle.mp_sends.proofs.controls.send_control.Goals as goal
 
 pub send-requires-clause-may : goal.send-requires-clause-may
@@ -22,7 +22,7 @@ send-requires-clause-may g c κs within =
     let all = c.controls.ensures ∙ ap (λ (f : JobFacts). f.controls) kept.same in
     let listed = subst (λ (cs : List Control). n.index < length cs) all c.in-Some.ensures.lookup.3.0 in
     let o = outline_of (g.Q.Query.facts g.J.Naming.job.rules) g.J.Naming.job in
-    rw (c.in_ok-make_room.ensures.made, c.control-message.ensures) (held_may o i.log.worker i.log.log kept.parts.legal is_ctrl (Ctrl n.index n.receiver) (can_send_control kept.sound kept.parts first listed).0.0)
+    rw (c.in_ok-make_room.ensures.made, c.control-message.ensures) (held_may o kept.sound i.log.worker i.log.log kept.parts.legal is_ctrl (Ctrl n.index n.receiver) (can_send_control kept.sound kept.parts first listed).0.0)
 
 pub send-requires-clause-changes : goal.send-requires-clause-changes
 send-requires-clause-changes g c κs within =
@@ -71,6 +71,22 @@ invariant_of-parts-2 g c =
     let worker = rw c.in_ok-make_room.ensures.made at c.in-Ok.ensures.worker in
     let sent = rw (c.in_ok-make_room.ensures.made, c.control-message.ensures) at c.in-Ok.ensures.sent in
     rw place (kept_by kept c.send.new.log worker sent (control_kept kept.sound kept.parts first listed))
+
+pub returns-clause-steps : goal.returns-clause-steps
+returns-clause-steps g c =
+    let kept = c.parts.invariant in
+    let i = c.parts.inside in
+    let n = i.next in
+    let x = Ctrl n.index n.receiver in
+    let first = sym c.worker.ensures ∙ c.if-worker-ne0.false in
+    let all = c.controls.ensures ∙ ap (λ (f : JobFacts). f.controls) kept.same in
+    let listed = subst (λ (cs : List Control). n.index < length cs) all c.in-Some.ensures.lookup.3.0 in
+    let worker = rw c.in_ok-make_room.ensures.made at c.in-Ok.ensures.worker in
+    let sent = rw (c.in_ok-make_room.ensures.made, c.control-message.ensures) at c.in-Ok.ensures.sent in
+    let room = rw c.in_ok-make_room.ensures.made at c.in-Ok.ensures.room in
+    let tells = rw c.control-message.ensures at c.in-Ok.ensures.names in
+    rw (← c.parts.view_is, worker)
+    (record { names = x ∷ []; tells = tells; makes = makes_all kept SendControl x tt (can_send_control kept.sound kept.parts first listed) (x ∷ []) refl c.send.new.log.log sent; allows = room })
 
 pub returns-clause-mail : goal.returns-clause-mail
 returns-clause-mail g c =

@@ -1,4 +1,5 @@
 use Rattle.std.proofs.Common.{◌<◌, ◌≤◌, ap, length, rules}
+use Rattle.mp_names.specs.Limits.{most_in_bundle}
 use Rattle.mp_host_laws.specs.Hosted.{Hosted}
 use Rattle.mp_steps.specs.Rooms.{without_room}
 use Rattle.mp_worker_invariant.proofs.Items.{one_more_so, same_put}
@@ -12,7 +13,7 @@ loop-host-preserved g c =
     let ok = c.in_ok-make_room.ensures in
     record {
       same = same_put without_room c.args.hosts.now l.host-items l.host-index c.host-item.result new l.invariant.same (ap without_room c.make_room.ensures.same);
-      roomy = one_more_so (λ (h : Hosted g.row.Q-Cell.Denot). (1 ≤ h.room) × (1 ≤ h.room_for_bins)) l.host-items l.host-index new l.invariant.roomy (ok.room, ok.for_bins) inside;
+      roomy = one_more_so (λ (h : Hosted g.row.Q-Cell.Denot). (most_in_bundle ≤ h.room) × (1 ≤ h.room_for_bins)) l.host-items l.host-index new l.invariant.roomy (ok.room, ok.for_bins) inside;
     }
 
 pub returns-in_err-make_room-clause-same : goal.returns-in_err-make_room-clause-same

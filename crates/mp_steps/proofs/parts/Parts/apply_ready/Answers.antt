@@ -123,4 +123,4 @@ returns g c =
     let i = c.self.inside in
     let applied = c.in_ok-applied.applied in
     let self_is : c.if-stage-stages.self.worker ≡ record { number = i.log.worker; log = c.push.new.self.log; posted = i.posted.value.log; seen = i.seen } = elim c.if-stage-stages.branch [ then-stage-stages+in_ok-hold_records w ↦ ap worker_of w.self-is ∙ ap (λ (l : WorkerLog). record { number = l.worker; log = c.push.new.self.log; posted = i.posted.value.log; seen = i.seen }) c.in_ok-push.ensures.pushed | else-stage-stages+in_ok-hold_rows w ↦ ap worker_of w.self-is ∙ ap (λ (l : WorkerLog). record { number = l.worker; log = c.push.new.self.log; posted = i.posted.value.log; seen = i.seen }) c.in_ok-push.ensures.pushed ] in
-    rw (← c.self.view_is, self_is) (makes c.self.invariant (Apply c.args.stage) (Group c.args.stage applied.time applied.key) c.requires.stage told.can c.push.new.self.log (ap (λ (l : WorkerLog). l.log) c.in_ok-push.ensures.pushed))
+    rw (← c.self.view_is, self_is) (makes c.self.invariant (Apply c.args.stage) (Group c.args.stage applied.time applied.key) c.requires.stage told.can refl c.push.new.self.log (ap (λ (l : WorkerLog). l.log) c.in_ok-push.ensures.pushed))

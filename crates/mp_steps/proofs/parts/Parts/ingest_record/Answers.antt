@@ -51,4 +51,4 @@ pub returns : goal.returns
 returns g c =
     let kept = c.self.invariant in
     let next = rw (← c.self.view_is) at c.requires.next in
-    rw (← c.self.view_is, c.in-Ok.ensures.pushed) (makes kept Ingest (name_of_record 0 c.args.rec) tt (can_ingest kept.sound kept.parts c.args.rec next) _ refl)
+    rw (← c.self.view_is, c.in-Ok.ensures.pushed) (makes kept Ingest (name_of_record 0 c.args.rec) tt (can_ingest kept.sound kept.parts c.args.rec next) refl _ refl)

@@ -39,4 +39,4 @@ returns g c =
     let m = c.index_mut-movers.result.now in
     let at = movers_at kept.parts c.args.stage c.requires.stage m c.index_mut-movers.ensures.value in
     let can = can_settle kept.sound kept.parts c.args.stage m at c.in-Some.time c.in-Some.ensures.may_settle in
-    rw (← c.self.view_is, c.in_ok-push.ensures.pushed, c.in_ok-make_room.ensures.made) (makes kept (Settle c.args.stage) (Settled c.args.stage c.in-Some.time) c.requires.stage can _ refl)
+    rw (← c.self.view_is, c.in_ok-push.ensures.pushed, c.in_ok-make_room.ensures.made) (makes kept (Settle c.args.stage) (Settled c.args.stage c.in-Some.time) c.requires.stage can refl _ refl)

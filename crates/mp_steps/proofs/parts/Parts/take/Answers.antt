@@ -1,44 +1,77 @@
-use Rattle.std.proofs.Common.{◌∙◌, ◌<◌, ℕ, ap, sym, subst}
+use Rattle.std.proofs.Common.{◌<◌, ◌∷◌, ◌∙◌, [], ℕ, List, ap, sym, subst}
 use Rattle.mp_names.specs.declared.names.Name.{Name}
-use Rattle.mp_names.specs.Outlines.{IsOwedTo, receiver}
+use Rattle.mp_names.specs.declared.names.Name.TheVariants.{Ctrl, Packet, Row}
 use Rattle.mp_outline.specs.JobOutline.{outline_of}
-use Rattle.mp_parts.proofs.Received.{control_here, packet_owed, record_owed, row_owed}
+use Rattle.mp_worker_invariant.specs.Kept.{AreOwedAndNew}
+use Rattle.mp_parts.proofs.Received.{only_new, only_owed}
 use Rattle.mp_steps.proofs.parts.Parts.take.Goals as goal
 
 pub take_control-requires-clause-content : goal.take_control-requires-clause-content
 take_control-requires-clause-content g c κs within =
     let job = g.J.Naming.job in
+    let o = outline_of (g.Q.Query.facts job.rules) job in
+    let s = c.args.self.now.worker in
     let content = c.in-Ctrl.ensures.content in
-    let here = ap (λ (x : Name). receiver (outline_of (g.Q.Query.facts job.rules) job) x) c.in-Ctrl.ensures.name ∙ c.requires.to in
+    let here = (only_owed o s.number s.log (Ctrl c.in-Ctrl.index c.in-Ctrl.to) c.args.message c.in-Ctrl.ensures.names c.requires.new).1 in
     (content.0, subst (λ (v : ℕ). v < job.shape.workers) here content.1, content.2)
 
 pub take_control-requires-clause-fresh : goal.take_control-requires-clause-fresh
 take_control-requires-clause-fresh g c κs within =
     let job = g.J.Naming.job in
-    rw (control_here (g.Q.Query.facts job.rules) job c.in-Ctrl.index c.in-Ctrl.to c.args.self.now.worker.number c.args.message c.in-Ctrl.ensures.name c.requires.to) c.requires.fresh
+    let o = outline_of (g.Q.Query.facts job.rules) job in
+    let s = c.args.self.now.worker in
+    let x = Ctrl c.in-Ctrl.index c.in-Ctrl.to in
+    let here = (only_owed o s.number s.log x c.args.message c.in-Ctrl.ensures.names c.requires.new).1 in
+    rw (← here) (only_new o s.number s.log x c.args.message c.in-Ctrl.ensures.names c.requires.new)
 
 pub returns-in-Ctrl : goal.returns-in-Ctrl
 returns-in-Ctrl g c =
     let job = g.J.Naming.job in
-    let named = control_here (g.Q.Query.facts job.rules) job c.in-Ctrl.index c.in-Ctrl.to c.args.self.now.worker.number c.args.message c.in-Ctrl.ensures.name c.requires.to in
+    let o = outline_of (g.Q.Query.facts job.rules) job in
+    let s = c.args.self.now.worker in
+    let here = (only_owed o s.number s.log (Ctrl c.in-Ctrl.index c.in-Ctrl.to) c.args.message c.in-Ctrl.ensures.names c.requires.new).1 in
+    let named = ap (λ (v : ℕ). Ctrl c.in-Ctrl.index v ∷ []) (sym here) ∙ c.in-Ctrl.ensures.names in
     rw (← named) c.take_control.ensures
 
-pub take_record-requires-clause-owed : goal.take_record-requires-clause-owed
-take_record-requires-clause-owed g c κs within =
+pub take_records-requires-clause-new : goal.take_records-requires-clause-new
+take_records-requires-clause-new g c κs within =
     let job = g.J.Naming.job in
-    rw c.name-name.ensures (record_owed (g.Q.Query.facts job.rules) job _ c.args.message c.requires.to c.in-Rec.stage c.in-Rec.rec c.in-Rec.ensures.content c.in-Rec.ensures.name)
+    let s = c.args.self.now.worker in
+    subst (λ (xs : List Name). AreOwedAndNew (outline_of (g.Q.Query.facts job.rules) job) s.number s.log xs) (sym c.in-Recs.ensures.names) c.requires.new
+
+pub returns-in-Recs : goal.returns-in-Recs
+returns-in-Recs g c = rw (← c.in-Recs.ensures.names) c.take_records.ensures
 
 pub take_packet-requires-clause-owed : goal.take_packet-requires-clause-owed
 take_packet-requires-clause-owed g c κs within =
     let job = g.J.Naming.job in
+    let s = c.args.self.now.worker in
     let at = c.in-Packet in
-    subst (λ (x : Name). IsOwedTo (outline_of (g.Q.Query.facts job.rules) job) c.args.self.now.worker.number x) (sym at.ensures.name)
-    (packet_owed (g.Q.Query.facts job.rules) job _ c.args.message c.requires.to at.stage at.bin at.time at.state at.ensures.content at.ensures.name)
+    only_owed (outline_of (g.Q.Query.facts job.rules) job) s.number s.log (Packet at.stage at.bin at.time) c.args.message at.ensures.names c.requires.new
 
 pub take_packet-requires-clause-fresh : goal.take_packet-requires-clause-fresh
-take_packet-requires-clause-fresh g c κs within = rw c.in-Packet.ensures.name c.requires.fresh
+take_packet-requires-clause-fresh g c κs within =
+    let job = g.J.Naming.job in
+    let s = c.args.self.now.worker in
+    let at = c.in-Packet in
+    only_new (outline_of (g.Q.Query.facts job.rules) job) s.number s.log (Packet at.stage at.bin at.time) c.args.message at.ensures.names c.requires.new
+
+pub returns-in-Packet : goal.returns-in-Packet
+returns-in-Packet g c = rw (← c.in-Packet.ensures.names) c.take_packet.ensures
 
 pub take_row-requires-clause-owed : goal.take_row-requires-clause-owed
 take_row-requires-clause-owed g c κs within =
     let job = g.J.Naming.job in
-    rw c.name-name.ensures (row_owed (g.Q.Query.facts job.rules) job _ c.args.message c.requires.to c.in-Row.time c.in-Row.tag c.in-Row.fields c.in-Row.ensures.content c.in-Row.ensures.name)
+    let s = c.args.self.now.worker in
+    let at = c.in-Row in
+    only_owed (outline_of (g.Q.Query.facts job.rules) job) s.number s.log (Row at.time at.tag) c.args.message at.ensures.names c.requires.new
+
+pub take_row-requires-clause-fresh : goal.take_row-requires-clause-fresh
+take_row-requires-clause-fresh g c κs within =
+    let job = g.J.Naming.job in
+    let s = c.args.self.now.worker in
+    let at = c.in-Row in
+    only_new (outline_of (g.Q.Query.facts job.rules) job) s.number s.log (Row at.time at.tag) c.args.message at.ensures.names c.requires.new
+
+pub returns-in-Row : goal.returns-in-Row
+returns-in-Row g c = rw (← c.in-Row.ensures.names) c.take_row.ensures

@@ -9,7 +9,7 @@ use Rattle.mp_worker_invariant.proofs.Standing.{movers_at}
 use Rattle.mp_parts.proofs.Controls.{control_changes, control_held, control_within, may_note, not_noted, notes_are}
 use Rattle.mp_parts.proofs.Received.{control_taken}
 use Rattle.mp_steps.proofs.Keeping.{kept_as}
-use Rattle.mp_steps.proofs.Rooms.{not_refused, two_at_most}
+use Rattle.mp_steps.proofs.Rooms.{not_refused, some_names, two_at_most}
 use Rattle.mp_steps.proofs.parts.Parts.take_control.Goals as goal
 use Rattle.mp_steps.proofs.parts.Parts.take_control.Goals.{then-unsettled, else-unsettled}
 
@@ -46,7 +46,7 @@ unreachable-requires g c =
     let room = rw (← c.self.view_is) at c.requires.room in
     let changes = room.changes in
     let few = two_at_most c.if-unsettled.count c.one_less.result c.one_more.result in
-    not_refused c.push.result (c.push.ensures.ready room.names (omega arith)) c.in_default.not-Ok
+    not_refused c.push.result (c.push.ensures.ready (some_names room.names) (omega arith)) c.in_default.not-Ok
 
 pub note-requires-clause-not_yet : goal.note-requires-clause-not_yet
 note-requires-clause-not_yet g c =

@@ -7,7 +7,7 @@ use Rattle.mp_host_laws.proofs.WakeTimes.{few_numbers, few_times}
 use Rattle.mp_worker_invariant.proofs.Standing.{host_at, steps}
 use Rattle.mp_parts.proofs.Coming.{packet_changes, packet_held, taken_length}
 use Rattle.mp_steps.proofs.Keeping.{kept_as}
-use Rattle.mp_steps.proofs.Rooms.{not_refused}
+use Rattle.mp_steps.proofs.Rooms.{not_refused, some_names}
 use Rattle.mp_steps.proofs.parts.Parts.take_packet.Goals as goal
 
 pub index_mut-host-requires : goal.index_mut-host-requires
@@ -75,7 +75,7 @@ unreachable-requires-in_default-push g c =
     let listed = ap length (c.as_slice-2.ensures.value ∙ c.list_coming.ensures.changes) in
     let many = taken_length c.args.stage c.args.time c.as_slice.result.now in
     let changes = room.changes in
-    not_refused c.push.result (c.push.ensures.ready room.names (omega (arith, few, listed, many, same, changes))) c.in_default-push.not-Ok
+    not_refused c.push.result (c.push.ensures.ready (some_names room.names) (omega (arith, few, listed, many, same, changes))) c.in_default-push.not-Ok
 
 pub install-requires-clause-room : goal.install-requires-clause-room
 install-requires-clause-room g c κs within =

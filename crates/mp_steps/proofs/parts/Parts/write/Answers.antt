@@ -1,9 +1,9 @@
-use Rattle.std.proofs.Common.{Err, List, ℕ, ◌∙◌, ap, inr, sym}
+use Rattle.std.proofs.Common.{Err, List, ℕ, ◌∙◌, ap, inr, refl, sym}
 use Rattle.mp_outside.specs.Sink.{grown}
 use Rattle.mp_outline.specs.JobOutline.{outline_of}
 use Rattle.mp_count_laws.proofs.Settled.{written}
-use Rattle.mp_steps.proofs.Keeping.{kept_as}
-use Rattle.mp_steps.proofs.Written.{err_is, part_written, rows_have_come, time_written, writes_refused}
+use Rattle.mp_steps.proofs.Keeping.{kept_as, made_alone}
+use Rattle.mp_steps.proofs.Written.{can_write, err_is, part_written, rows_have_come, time_written, writes_refused}
 use Rattle.mp_steps.proofs.parts.Parts.write.Goals as goal
 
 pub returns-in_err-time-clause-writes : goal.returns-in_err-time-clause-writes
@@ -50,3 +50,14 @@ returns-in_ok-push-in-Time-clause-writes g c =
       lines ∙ ap (λ (bytes : List ℕ). grown (g.S.Sink.written c.args.sink.now) bytes) (answer _ kept.parts.unwritten (rows_have_come q job _ kept.parts first _ due)),
       c.in_ok-time.ensures.no_fault (λ e. cc),
     )
+
+pub returns-in_ok-push-in-Time-clause-steps : goal.returns-in_ok-push-in-Time-clause-steps
+returns-in_ok-push-in-Time-clause-steps g c =
+    let job = g.J.Naming.job in
+    let q = g.Q.Query.facts job.rules in
+    let kept = c.self.invariant in
+    let first = sym c.worker.ensures ∙ c.if-worker-ne0.false in
+    let due = rw c.in-Time.is at c.in_ok-time.ensures.due in
+    let next = rw c.in-Time.is at c.in_ok-time.ensures.next in
+    rw (← c.self.view_is, c.in_ok-push-in-Time.ensures.pushed, c.in_ok-make_room.ensures.made)
+    (made_alone (can_write q job _ kept.parts first _ due (next _ kept.parts.unwritten).least) refl _ refl)

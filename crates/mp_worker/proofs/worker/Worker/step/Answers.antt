@@ -16,7 +16,7 @@ returns-in-Exchange-clause-answers g c = (answers_exchange (g.P.Post.had_room c.
 pub returns-in-Exchange-clause-mail : goal.returns-in-Exchange-clause-mail
 returns-in-Exchange-clause-mail g c =
     let same = same_log_after (g.P.Post.had_room c.args.post.now) (g.P.Post.was_full c.args.post.now) (g.P.Post.was_empty c.args.post.now) (outline_of (g.Q.Query.facts g.J.Naming.job.rules) g.J.Naming.job) c.args.kind _ _ g.H.Hub.after g.H.Hub.kept g.H.Hub.shows g.H.Hub.goes_on g.H.Hub.was_stopped g.H.Hub.was_busy c.args.hub.now c.exchange.new.hub c.exchange.result c.exchange.ensures.exchanges in
-    (post_same g.P.Post.workers g.P.Post.depth g.P.Post.serves g.P.Post.denotes (outline_of (g.Q.Query.facts g.J.Naming.job.rules) g.J.Naming.job) _ _ _ _ (ap (λ (l : Log). l.sent) same) (ap (λ (l : Log). l.took) same))
+    (post_same g.P.Post.workers g.P.Post.depth g.P.Post.serves g.P.Post.denotes g.P.Post.waits (outline_of (g.Q.Query.facts g.J.Naming.job.rules) g.J.Naming.job) _ _ _ _ (ap (λ (l : Log). l.sent) same) (ap (λ (l : Log). l.took) same))
 
 pub returns-in_ok-write-in-Write-clause-answers : goal.returns-in_ok-write-in-Write-clause-answers
 returns-in_ok-write-in-Write-clause-answers g c =
@@ -24,7 +24,7 @@ returns-in_ok-write-in-Write-clause-answers g c =
     subst (λ (s : WorkerState). Answers (g.P.Post.had_room c.args.post.now) (g.P.Post.was_full c.args.post.now) (g.P.Post.was_empty c.args.post.now) (outline_of (g.Q.Query.facts g.J.Naming.job.rules) g.J.Naming.job) c.args.kind s c.write.new.self.worker (Ok c.turn_of.result)) c.self.view_is (subst (λ (k : Kind). Answers (g.P.Post.had_room c.args.post.now) (g.P.Post.was_full c.args.post.now) (g.P.Post.was_empty c.args.post.now) (outline_of (g.Q.Query.facts g.J.Naming.job.rules) g.J.Naming.job) k c.self.inside.parts.worker c.write.new.self.worker (Ok c.turn_of.result)) (sym c.in-Write.is) made)
 
 pub returns-in_ok-write-in-Write-clause-mail : goal.returns-in_ok-write-in-Write-clause-mail
-returns-in_ok-write-in-Write-clause-mail g c = rw (← c.self.view_is) (post_kept g.P.Post.workers g.P.Post.depth g.P.Post.serves g.P.Post.denotes (outline_of (g.Q.Query.facts g.J.Naming.job.rules) g.J.Naming.job) {E = Unit {0}} Write (λ log x. (refl, refl)) _ _ _ (Ok c.in_ok-write-in-Write.field-0) c.in_ok-write-in-Write.ensures.steps)
+returns-in_ok-write-in-Write-clause-mail g c = rw (← c.self.view_is) (post_kept g.P.Post.workers g.P.Post.depth g.P.Post.serves g.P.Post.denotes g.P.Post.waits (outline_of (g.Q.Query.facts g.J.Naming.job.rules) g.J.Naming.job) {E = Unit {0}} Write (λ log x. (refl, refl)) _ _ _ (Ok c.in_ok-write-in-Write.field-0) c.in_ok-write-in-Write.ensures.steps)
 
 pub returns-in_ok-write-in-Write-clause-at_hub : goal.returns-in_ok-write-in-Write-clause-at_hub
 returns-in_ok-write-in-Write-clause-at_hub g c = stays_at_hub (g.P.Post.had_room c.args.post.now) (g.P.Post.was_full c.args.post.now) (g.P.Post.was_empty c.args.post.now) (outline_of (g.Q.Query.facts g.J.Naming.job.rules) g.J.Naming.job) Write _ _ g.H.Hub.serves g.H.Hub.posted g.H.Hub.version c.args.hub.now (rw (← c.self.view_is) at c.requires.at_hub) {E = Unit {0}} (Ok c.in_ok-write-in-Write.field-0) (alone_by_mail (g.P.Post.had_room c.args.post.now) (g.P.Post.was_full c.args.post.now) (g.P.Post.was_empty c.args.post.now) (outline_of (g.Q.Query.facts g.J.Naming.job.rules) g.J.Naming.job) {E = Unit {0}} Write (λ w x. tt) _ _ (Ok c.in_ok-write-in-Write.field-0) c.in_ok-write-in-Write.ensures.steps)

@@ -22,19 +22,19 @@ pub returns-in-Ingest-clause-steps : goal.returns-in-Ingest-clause-steps
 returns-in-Ingest-clause-steps g c = rw (← c.self.view_is, c.in-Ingest.is) (alone_by_mail (g.P.Post.had_room c.args.post.now) (g.P.Post.was_full c.args.post.now) (g.P.Post.was_empty c.args.post.now) _ Ingest (λ w x. tt) _ _ _ c.ingest.ensures)
 
 pub returns-in-Ingest-clause-mail : goal.returns-in-Ingest-clause-mail
-returns-in-Ingest-clause-mail g c = rw (← c.self.view_is) (post_kept g.P.Post.workers g.P.Post.depth g.P.Post.serves g.P.Post.denotes _ Ingest (λ log x. (refl, refl)) _ _ _ _ c.ingest.ensures)
+returns-in-Ingest-clause-mail g c = rw (← c.self.view_is) (post_kept g.P.Post.workers g.P.Post.depth g.P.Post.serves g.P.Post.denotes g.P.Post.waits _ Ingest (λ log x. (refl, refl)) _ _ _ _ c.ingest.ensures)
 
 pub returns-in-Settle-clause-steps : goal.returns-in-Settle-clause-steps
 returns-in-Settle-clause-steps g c = rw (← c.self.view_is, c.in-Settle.is) (alone_by_mail (g.P.Post.had_room c.args.post.now) (g.P.Post.was_full c.args.post.now) (g.P.Post.was_empty c.args.post.now) _ (Settle c.in-Settle.stage) (λ w x. tt) _ _ _ c.settle.ensures)
 
 pub returns-in-Settle-clause-mail : goal.returns-in-Settle-clause-mail
-returns-in-Settle-clause-mail g c = rw (← c.self.view_is) (post_kept g.P.Post.workers g.P.Post.depth g.P.Post.serves g.P.Post.denotes _ (Settle c.in-Settle.stage) (λ log x. (refl, refl)) _ _ _ _ c.settle.ensures)
+returns-in-Settle-clause-mail g c = rw (← c.self.view_is) (post_kept g.P.Post.workers g.P.Post.depth g.P.Post.serves g.P.Post.denotes g.P.Post.waits _ (Settle c.in-Settle.stage) (λ log x. (refl, refl)) _ _ _ _ c.settle.ensures)
 
 pub returns-in-Apply-clause-steps : goal.returns-in-Apply-clause-steps
 returns-in-Apply-clause-steps g c = rw (← c.self.view_is, c.in-Apply.is) (alone_by_mail (g.P.Post.had_room c.args.post.now) (g.P.Post.was_full c.args.post.now) (g.P.Post.was_empty c.args.post.now) _ (Apply c.in-Apply.stage) (λ w x. tt) _ _ _ c.apply.ensures)
 
 pub returns-in-Apply-clause-mail : goal.returns-in-Apply-clause-mail
-returns-in-Apply-clause-mail g c = rw (← c.self.view_is) (post_kept g.P.Post.workers g.P.Post.depth g.P.Post.serves g.P.Post.denotes _ (Apply c.in-Apply.stage) (λ log x. (refl, refl)) _ _ _ _ c.apply.ensures)
+returns-in-Apply-clause-mail g c = rw (← c.self.view_is) (post_kept g.P.Post.workers g.P.Post.depth g.P.Post.serves g.P.Post.denotes g.P.Post.waits _ (Apply c.in-Apply.stage) (λ log x. (refl, refl)) _ _ _ _ c.apply.ensures)
 
 pub returns-in-SendControl-clause-steps : goal.returns-in-SendControl-clause-steps
 returns-in-SendControl-clause-steps g c = rw (← c.self.view_is, c.in-SendControl.is) c.send_control.ensures.steps
