@@ -45,6 +45,7 @@ some_outline workers stages = record {
   records = λ j. [];
   posts = λ x. [];
   rows = [];
+  bundle = 0;
 }
 
 pub as_product : (o : Outline) (workers kinds : ℕ) → workers ≡ o.workers → kinds ≡ length (kinds_of o) → workers * kinds ≡ length (places o)

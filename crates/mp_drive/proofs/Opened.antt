@@ -48,7 +48,7 @@ module _ (o : Outline) (ok : OutlineIsSound o) (t : SystemState) (depth : ℕ) (
   are_at_start = opening_is_the_start o depth t ok all new logs version post
 
   begun : Refines o t.post.depth t (start_of_machine o)
-  begun = subst (λ (d : ℕ). Refines o d t (start_of_machine o)) (sym (ap (λ (p : Queues Name). p.depth) post)) are_at_start
+  begun = subst (λ (d : ℕ). Refines o d t (start_of_machine o)) (sym (ap (λ (p : Queues (List Name)). p.depth) post)) are_at_start
 
   pub begin_reached : AreReached o t
   begin_reached = ([], begun)

@@ -13,11 +13,13 @@ use Rattle.mp_board.specs.declared.causes.Cause.{Cause}
 use Rattle.mp_model.specs.Facts.{JobFacts, QueryFacts}
 use Rattle.mp_outside.specs.Sink.{grown}
 use Rattle.mp_answer_laws.specs.Lines.{lines_of_time}
-use Rattle.mp_refinement.specs.Ends.{FollowsLog}
+use Rattle.mp_msg.specs.declared.names.Names.{Names}
+use Rattle.mp_refinement.specs.Ends.{FollowsLog, MessagesFollowLog}
 use Rattle.mp_refinement.specs.Mail.{MailboxAllows, MailboxBlocks}
 use Rattle.mp_refinement.specs.Served.{PostFollows}
 use Rattle.mp_refinement.specs.State.{CanMake, Makes, WorkerState}
-use Rattle.mp_refinement.specs.SystemState.{queues_denote}
+use Rattle.mp_refinement.specs.Steps.{Tells}
+use Rattle.mp_refinement.specs.SystemState.{queues_denote, queues_wait}
 use Rattle.mp_worker.specs.declared.turn.Stop.{Stop}
 use Rattle.mp_worker.specs.declared.turn.Stop.TheVariants as stop
 use Rattle.mp_worker.specs.declared.turn.Turn.{Turn as Answered}
@@ -28,8 +30,8 @@ use Rattle.mp_worker.specs.Writing.{WritesInTurn, WritesPart}
 
 -- What holds where a step gives one answer or another
 
-abbrev pub IfDid : Result Answered Stop → (Name → Type 0) → Type 0
-IfDid (Ok (worker.Did x)) P = P x
+abbrev pub IfDid : Result Answered Stop → (Names → Type 0) → Type 0
+IfDid (Ok (worker.Did x n)) P = P (record { first = x; count = n })
 IfDid _ P = Unit {0}
 
 abbrev pub IfSaw : Result Answered Stop → (ℕ → Type 0) → Type 0
@@ -44,9 +46,9 @@ abbrev pub IfBusy : Result Answered Stop → Type 0 → Type 0
 IfBusy (Ok worker.Busy) P = P
 IfBusy _ P = Unit {0}
 
--- unless a name was put into the log, or a new version was seen
+-- unless names were put into the log, or a new version was seen
 abbrev pub IfNotMade : Result Answered Stop → Type 0 → Type 0
-IfNotMade (Ok (worker.Did x)) P = Unit {0}
+IfNotMade (Ok (worker.Did x n)) P = Unit {0}
 IfNotMade (Ok (worker.Seen version)) P = Unit {0}
 IfNotMade _ P = P
 
@@ -62,9 +64,8 @@ pub exchange_no_write : (kind : Kind) → kind ≡ Exchange → kind ≡ Write �
 exchange_no_write kind e f = cc
 
 -- What a worker with this number says of its step, on a board and on plain queues
-pub record Says (o : Outline) (kind : Kind) (board after : Posted) (post left : Queues Name) (s new : WorkerState) (r : Result Answered Stop) (w : ℕ) : Type 0 where
-  pub did : IfDid r (λ x. Makes o kind s x new)
-  pub mail : IfDid r (MailboxAllows (HadRoom post) o w kind)
+pub record Says (o : Outline) (kind : Kind) (board after : Posted) (post left : Queues (List Name)) (s new : WorkerState) (r : Result Answered Stop) (w : ℕ) : Type 0 where
+  pub did : IfDid r (λ told. (xs : List Name) × Tells told xs × Makes o kind s xs new × MailboxAllows (HadRoom post) o w kind xs)
   pub saw : IfSaw r (λ version. (kind ≡ Exchange) × (new ≡ record s { posted = s.log; seen = new.seen }) × (new.seen.version ≡ version) × (version ≡ s.seen.version → ⊥))
   pub shown : IfSaw r (λ _. (after ≡ exchanged board w s.log) × ((new.seen.version ≡ after.version) × ShowsFrontiers o after.logs new.seen))
   pub not_now : IfNotNow r ((x : Name) → CanMake o kind s x → MailboxBlocks (WasFull post) (WasEmpty post) o w kind x)
@@ -72,12 +73,13 @@ pub record Says (o : Outline) (kind : Kind) (board after : Posted) (post left : 
   pub busy : IfBusy r ⊥
   pub unchanged : IfNotMade r (new ≡ s)
   pub follows : FollowsLog (queues_denote o post) (queues_denote o left) o w s.log new.log
+  pub messages : MessagesFollowLog (queues_wait post) (queues_wait left) o w s.log new.log
   pub workers : left.workers ≡ post.workers
   pub depth : left.depth ≡ post.depth
   pub others : (kind ≡ Exchange → ⊥) → after ≡ board
   pub kept : OnErr r (after ≡ board)
 
-module _ (o : Outline) (kind : Kind) (board after : Posted) (post left : Queues Name) (s new : WorkerState) where
+module _ (o : Outline) (kind : Kind) (board after : Posted) (post left : Queues (List Name)) (s new : WorkerState) where
   abbrev Answer : Result Answered Stop → Type 0
   Answer r = Answers (HadRoom post) (WasFull post) (WasEmpty post) o kind s new r
 
@@ -86,13 +88,9 @@ module _ (o : Outline) (kind : Kind) (board after : Posted) (post left : Queues 
   AtBoard r =
       kind ≡ Exchange → Exchanges (λ b w log c. c ≡ exchanged b w log) (λ b c. c ≡ b) (λ b seen. (seen.version ≡ b.version) × ShowsFrontiers o b.logs seen) (λ b. b.stopped ≡ None) (λ b cause. b.stopped ≡ Some cause) (λ _. ⊥) s new board after r
 
-  did_of : (r : Result Answered Stop) → Answer r → IfDid r (λ x. Makes o kind s x new)
-  did_of (Ok (worker.Did x)) a = a.0
+  did_of : (r : Result Answered Stop) → Answer r → IfDid r (λ told. (xs : List Name) × Tells told xs × Makes o kind s xs new × MailboxAllows (HadRoom post) o s.number kind xs)
+  did_of (Ok (worker.Did x n)) a = (a.names, a.tells, a.makes, a.allows)
   did_of r a = tt
-
-  mail_of : (r : Result Answered Stop) → Answer r → IfDid r (MailboxAllows (HadRoom post) o s.number kind)
-  mail_of (Ok (worker.Did x)) a = a.1
-  mail_of r a = tt
 
   saw_of : (r : Result Answered Stop) → Answer r → IfSaw r (λ version. (kind ≡ Exchange) × (new ≡ record s { posted = s.log; seen = new.seen }) × (new.seen.version ≡ version) × (version ≡ s.seen.version → ⊥))
   saw_of (Ok (worker.Seen version)) a = (a.0, a.1.after, a.1.version_is, a.1.is_new)
@@ -116,7 +114,7 @@ module _ (o : Outline) (kind : Kind) (board after : Posted) (post left : Queues 
   busy_of r a at = tt
 
   unchanged_of : (r : Result Answered Stop) → Answer r → IfNotMade r (new ≡ s)
-  unchanged_of (Ok (worker.Did x)) a = tt
+  unchanged_of (Ok (worker.Did x n)) a = tt
   unchanged_of (Ok (worker.Seen version)) a = tt
   unchanged_of (Ok worker.NotNow) a = a.1
   unchanged_of (Ok worker.Busy) a = a.1
@@ -135,10 +133,9 @@ module _ (o : Outline) (kind : Kind) (board after : Posted) (post left : Queues 
   kept_of (Err (stop.Other cause)) a at others = (at a.0).2
 
   pub says_of : (r : Result Answered Stop) → Answer r → AtBoard r → ((kind ≡ Exchange → ⊥) → after ≡ board)
-      → PostFollows (λ q. q.workers) (λ q. q.depth) (λ _ w. Unit {0}) (queues_denote o) o s.number s.log new.log post left → Says o kind board after post left s new r s.number
+      → PostFollows (λ q. q.workers) (λ q. q.depth) (λ _ w. Unit {0}) (queues_denote o) queues_wait o s.number s.log new.log post left → Says o kind board after post left s new r s.number
   says_of r a at others mail = record {
     did = did_of r a;
-    mail = mail_of r a;
     saw = saw_of r a;
     shown = shown_of r a at;
     not_now = not_now_of r a;
@@ -146,6 +143,7 @@ module _ (o : Outline) (kind : Kind) (board after : Posted) (post left : Queues 
     busy = busy_of r a at;
     unchanged = unchanged_of r a;
     follows = mail.follows;
+    messages = mail.messages;
     workers = mail.keeps.same_workers;
     depth = mail.keeps.same_depth;
     others = others;
@@ -155,7 +153,7 @@ module _ (o : Outline) (kind : Kind) (board after : Posted) (post left : Queues 
 -- What a worker's step says of the bytes of a sink
 pub record Writes {Cell : Type 0} (q : QueryFacts Cell) (job : JobFacts) (kind : Kind) (s : WorkerState) (written now : Option (List ℕ)) (r : Result Answered Stop) : Type 0 where
   pub others : (kind ≡ Write → ⊥) → now ≡ written
-  pub lines : IfDid r (λ x. kind ≡ Write → now ≡ grown written (lines_of_time q job.events x))
+  pub lines : IfDid r (λ told. kind ≡ Write → now ≡ grown written (lines_of_time q job.events told.first))
   pub nothing : IfNotNow r (now ≡ written)
   pub part : OnErr r ((now ≡ written) ⊎ WritesPart q job s written now)
 
@@ -163,8 +161,8 @@ module _ {Cell S : Type 0} (q : QueryFacts Cell) (job : JobFacts) (written : S �
   abbrev InTurn : Result Answered Stop → Type 0
   InTurn r = kind ≡ Write → WritesInTurn q job written faults s old new r
 
-  lines_of : (r : Result Answered Stop) → InTurn r → IfDid r (λ x. kind ≡ Write → written new ≡ grown (written old) (lines_of_time q job.events x))
-  lines_of (Ok (worker.Did x)) w = λ e. (w e).0
+  lines_of : (r : Result Answered Stop) → InTurn r → IfDid r (λ told. kind ≡ Write → written new ≡ grown (written old) (lines_of_time q job.events told.first))
+  lines_of (Ok (worker.Did x n)) w = λ e. (w e).0
   lines_of r w = tt
 
   nothing_of : (r : Result Answered Stop) → InTurn r → ((kind ≡ Write → ⊥) → new ≡ old) → IfNotNow r (written new ≡ written old)
@@ -186,7 +184,7 @@ module _ {Cell S : Type 0} (q : QueryFacts Cell) (job : JobFacts) (written : S �
   }
 
   silent : (r : Result Answered Stop) → (r ≡ Err stop.Write → ⊥) → WritesInTurn q job written faults s old new r → faults new ≡ faults old
-  silent (Ok (worker.Did x)) not_failed w = w.1
+  silent (Ok (worker.Did x n)) not_failed w = w.1
   silent (Ok (worker.Seen version)) not_failed w = absurd w
   silent (Ok worker.NotNow) not_failed w = ap faults w
   silent (Ok worker.Busy) not_failed w = absurd w

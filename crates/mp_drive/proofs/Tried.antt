@@ -26,15 +26,15 @@ use Rattle.mp_worker.specs.declared.turn.Turn.TheVariants as worker
 use Rattle.mp_drive.proofs.Leading.{was_not_now}
 
 -- what a worker answers of a step that was made, and of one that was not
-pub made_turn : (turn : Answered) → ((x : Name) × (turn ≡ worker.Did x)) ⊎ ((version : ℕ) × (turn ≡ worker.Seen version)) → is_made (turn_in turn) ≡ true
+pub made_turn : (turn : Answered) → ((x : Name) × (n : ℕ) × (turn ≡ worker.Did x n)) ⊎ ((version : ℕ) × (turn ≡ worker.Seen version)) → is_made (turn_in turn) ≡ true
 made_turn turn h =
     ⊎_elim
-    (λ (k : (x : Name) × (turn ≡ worker.Did x)). ap (λ (t : Answered). is_made (turn_in t)) k.1)
+    (λ (k : (x : Name) × (n : ℕ) × (turn ≡ worker.Did x n)). ap (λ (t : Answered). is_made (turn_in t)) k.2)
     (λ (k : (version : ℕ) × (turn ≡ worker.Seen version)). ap (λ (t : Answered). is_made (turn_in t)) k.1)
     h
 
-pub idle_turn : (turn : Answered) → ((x : Name) → turn ≡ worker.Did x → ⊥) → ((version : ℕ) → turn ≡ worker.Seen version → ⊥) → turn_in turn ≡ NotNow
-idle_turn (worker.Did x) did seen = absurd (did x refl)
+pub idle_turn : (turn : Answered) → ((x : Name) (n : ℕ) → turn ≡ worker.Did x n → ⊥) → ((version : ℕ) → turn ≡ worker.Seen version → ⊥) → turn_in turn ≡ NotNow
+idle_turn (worker.Did x n) did seen = absurd (did x n refl)
 idle_turn (worker.Seen version) did seen = absurd (seen version refl)
 idle_turn worker.NotNow did seen = refl
 idle_turn worker.Busy did seen = refl

@@ -16,12 +16,12 @@ use Rattle.mp_machine.specs.Runs.{Did, NotNow, Saw, Turn, after_turn, run_of_mac
 use Rattle.mp_machine.proofs.Turns.{not_now_from}
 use Rattle.mp_machine.proofs.Worlds.{after_more, exchange_place, run_right}
 use Rattle.mp_board.specs.Boards.{Posted, ShowsFrontiers, exchanged, version_with}
-use Rattle.mp_refinement.specs.Ends.{PostMatchesLog, FollowsLog}
+use Rattle.mp_refinement.specs.Ends.{PostMatchesLog, FollowsLog, MessagesFollowLog}
 use Rattle.mp_refinement.specs.Served.{IsAtHub, IsAtPost}
 use Rattle.mp_refinement.specs.Laws.{MailFollows, StepsMayBeAsked}
 use Rattle.mp_refinement.specs.Mail.{MailboxBlocks, MailboxAllows}
 use Rattle.mp_refinement.specs.State.{CanMake, Makes, WorkerState}
-use Rattle.mp_refinement.specs.SystemState.{Refines, SystemState, queues_denote}
+use Rattle.mp_refinement.specs.SystemState.{Refines, SystemState, queues_denote, queues_wait}
 use Rattle.mp_refinement.proofs.Asked.{may_be_asked}
 use Rattle.mp_refinement.proofs.Exchanges as exchanges
 use Rattle.mp_refinement.proofs.Steps as steps
@@ -71,7 +71,7 @@ names_none : (o : Outline) (kind : Kind) (s : WorkerState) (x : Name) → CanMak
 names_none o kind s x can e = (subst (λ (k : Kind). CanMake o k s x) e can).next
 
 -- the workers with another one at a number, another board and other mailboxes
-abbrev pub left_with : SystemState → ℕ → WorkerState → Posted → Queues Name → SystemState
+abbrev pub left_with : SystemState → ℕ → WorkerState → Posted → Queues (List Name) → SystemState
 left_with t w s board post = record { workers = slice_set t.workers w s; board = board; post = post }
 
 module _ (o : Outline) (t : SystemState) where
@@ -121,7 +121,7 @@ leads_on_outside o ok t w kind reached l =
     let turn = outside_not_now o t.post.depth world w kind ok past in
     (turn, subst (Refines o t.post.depth t) (still o t.post.depth world w kind turn) are))
 
-module _ (o : Outline) (ok : OutlineIsSound o) (t : SystemState) (w : ℕ) (kind : Kind) (s new : WorkerState) (after : Posted) (left : Queues Name) (was : slice_get t.workers w ≡ Some s) where
+module _ (o : Outline) (ok : OutlineIsSound o) (t : SystemState) (w : ℕ) (kind : Kind) (s new : WorkerState) (after : Posted) (left : Queues (List Name)) (was : slice_get t.workers w ≡ Some s) where
   abbrev Told : Result Answered Stop → ℕ → Type 0
   Told r n = Says o kind t.board after t.post left s new r n
 
@@ -135,6 +135,7 @@ module _ (o : Outline) (ok : OutlineIsSound o) (t : SystemState) (w : ℕ) (kind
         workers = says.workers;
         depth = says.depth;
         follows = subst (λ (log : Log). FollowsLog (queues_denote o t.post) (queues_denote o left) o w s.log log) e says.follows;
+        messages = subst (λ (log : Log). MessagesFollowLog (queues_wait t.post) (queues_wait left) o w s.log log) e says.messages;
       }
 
   -- nothing changed but what the mailboxes hold
@@ -148,10 +149,11 @@ module _ (o : Outline) (ok : OutlineIsSound o) (t : SystemState) (w : ℕ) (kind
     abbrev IsTurn : Turn → Type 0
     IsTurn turn = (turn_of_machine o depth (run_of_machine o depth before) w kind ≡ turn) × Refines o depth next (step_of_machine o depth (run_of_machine o depth before) w kind)
 
-    did_turn : (x : Name) → Told (Ok (worker.Did x)) w → IsTurn (Did x)
-    did_turn x says =
-        let h = steps.did o ok depth t (run_of_machine o depth before) (run_right o ok depth before) are w s was kind x new left says.did says.mail (record { workers = says.workers; depth = says.depth; follows = says.follows }) in
-        let board = says.others (names_none o kind s x says.did.can) in
+    did_turn : (x : Name) (n : ℕ) → Told (Ok (worker.Did x n)) w → IsTurn (Did x n)
+    did_turn x n says =
+        let made = says.did in
+        let h = steps.did o ok depth t (run_of_machine o depth before) (run_right o ok depth before) are w s was kind made.0 new left made.2 made.3 (record { workers = says.workers; depth = says.depth; follows = says.follows; messages = says.messages }) (record { first = x; count = n }) made.1 in
+        let board = says.others (names_none o kind s made.2.first made.2.can) in
         (h.0, subst (λ (b : Posted). Refines o depth (left_with t w new b left) (step_of_machine o depth (run_of_machine o depth before) w kind)) (sym board) h.1)
 
     saw_turn : (version : ℕ) → Told (Ok (worker.Seen version)) w → IsTurn (Saw version)
@@ -187,7 +189,7 @@ module _ (o : Outline) (ok : OutlineIsSound o) (t : SystemState) (w : ℕ) (kind
         (is_exchange kind))
 
     turn : (turn : Answered) → Told (Ok turn) w → IsTurn (turn_in turn)
-    turn (worker.Did x) says = did_turn x says
+    turn (worker.Did x n) says = did_turn x n says
     turn (worker.Seen version) says = saw_turn version says
     turn worker.NotNow says = not_now_turn says
     turn worker.Busy says = absurd says.busy
@@ -209,7 +211,7 @@ module _ (o : Outline) (ok : OutlineIsSound o) (t : SystemState) (w : ℕ) (kind
 
   -- no worker is told to stop
   pub same_cause : (r : Result Answered Stop) → Told r s.number → after.stopped ≡ t.board.stopped
-  same_cause (Ok (worker.Did x)) says = ap (λ (b : Posted). b.stopped) (says.others (names_none o kind s x says.did.can))
+  same_cause (Ok (worker.Did x n)) says = let made = says.did in ap (λ (b : Posted). b.stopped) (says.others (names_none o kind s made.2.first made.2.can))
   same_cause (Ok (worker.Seen version)) says = ap (λ (b : Posted). b.stopped) says.shown.0
   same_cause (Ok worker.NotNow) says =
       ⊎_elim
@@ -234,7 +236,7 @@ module _ (o : Outline) (ok : OutlineIsSound o) (t : SystemState) (w : ℕ) (kind
     where
       not_busy : (turn : Answered) → Told (Ok turn) s.number → turn ≡ worker.Busy → ⊥
       not_busy worker.Busy says e = absurd says.busy
-      not_busy (worker.Did x) says e = cc
+      not_busy (worker.Did x n) says e = cc
       not_busy (worker.Seen version) says e = cc
       not_busy worker.NotNow says e = cc
   not_busy_if_ok (Err stop) given is says = subst (λ (g : Result Answered DriveStop). IfOk g (λ turn. turn ≡ worker.Busy → ⊥)) (sym is.1) tt

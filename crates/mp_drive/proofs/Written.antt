@@ -18,19 +18,22 @@ use Rattle.mp_outside.specs.Sink.{grown}
 use Rattle.mp_outside.proofs.SinkLemmas.{grown-grown}
 use Rattle.mp_output.specs.Holding.{answer_at}
 use Rattle.mp_machine.specs.Runs.{run_of_machine, step_of_machine}
-use Rattle.mp_machine.specs.Steps.{logged}
 use Rattle.mp_machine.proofs.Worlds.{run_right, step_right}
 use Rattle.mp_board.specs.Boards.{Posted}
 use Rattle.mp_refinement.specs.State.{CanMake, Makes, WorkerState, as_machine, with_step}
-use Rattle.mp_refinement.specs.SystemState.{Refines, SystemState, with_worker}
+use Rattle.mp_msg.specs.declared.names.Names.{Names}
+use Rattle.mp_refinement.specs.Steps.{Tells}
+use Rattle.mp_refinement.specs.SystemState.{Refines, SystemState, queues_wait, with_worker}
+use Rattle.mp_refinement.proofs.Messages.{messages_kept}
 use Rattle.mp_refinement.proofs.Asked.{may_be_asked}
 use Rattle.mp_refinement.proofs.Steps as steps
 use Rattle.mp_answer_laws.specs.Lines.{lines_of_time, written_lines}
-use Rattle.mp_answer_laws.proofs.Written.{others_write_nothing, parts_of_lines_begin, writing_adds_lines}
+use Rattle.mp_answer_laws.proofs.Written.{parts_of_lines_begin, writing_adds_lines}
 use Rattle.mp_worker.specs.declared.turn.Stop.{Stop}
 use Rattle.mp_worker.specs.declared.turn.Turn.{Turn as Answered}
 use Rattle.mp_worker.specs.declared.turn.Turn.TheVariants as worker
 use Rattle.mp_worker.specs.Writing.{WritesPart}
+use Rattle.mp_worker.proofs.Told.{no_lines_else, one_time}
 use Rattle.mp_drive.specs.declared.stop.DriveStop.{DriveStop}
 use Rattle.mp_drive.specs.Driven.{HasKept, HasWritten, first_log}
 use Rattle.mp_drive.proofs.Told.{IfNotMade, Says, Writes, exchange_no_write, is_write}
@@ -68,8 +71,8 @@ module _ (o : Outline) (ok : OutlineIsSound o) (t : SystemState) (depth : ℕ) (
   legal_with s x was can =
       let world = run_of_machine o depth before in
       let right = run_right o ok depth before in
-      let new = with_step Write x s in
-      let h = steps.did o ok depth t world right are 0 s was Write x new t.post (record { can = can; after = refl }) tt (record { workers = refl; depth = refl; follows = λ a b pushed popped la lb h. h }) in
+      let new = with_step Write (x ∷ []) s in
+      let h = steps.did o ok depth t world right are 0 s was Write (x ∷ []) new t.post (record { first = x; can = can; names = refl; after = refl }) tt (record { workers = refl; depth = refl; follows = λ a b pushed popped la lb h. h; messages = messages_kept o 0 s.log new.log (queues_wait t.post) (queues_wait t.post) refl refl (λ a b messages h. h) }) (record { first = x; count = 1 }) (record { first = refl; count = refl }) in
       let asked = may_be_asked o depth (with_worker t 0 new t.post) (step_of_machine o depth world 0 Write) (step_right o ok depth world 0 Write right).0 h.1 in
       asked.legal 0 new (slice_get-set_same t.workers 0 new s was)
 
@@ -80,13 +83,13 @@ module _ {Cell : Type 0} (q : QueryFacts Cell) (job : JobFacts) where
   adds log x h = absurd h
 
   -- where a worker's log has the same lines, so has that of worker 0
-  same_lines : (t : SystemState) (w : ℕ) (s new : WorkerState) (after : Posted) (left : Queues Name) → slice_get t.workers w ≡ Some s → written_lines q job.events new.log ≡ written_lines q job.events s.log
+  same_lines : (t : SystemState) (w : ℕ) (s new : WorkerState) (after : Posted) (left : Queues (List Name)) → slice_get t.workers w ≡ Some s → written_lines q job.events new.log ≡ written_lines q job.events s.log
       → written_lines q job.events (first_log (left_with t w new after left)) ≡ written_lines q job.events (first_log t)
   same_lines t zero s new after left was e =
       ap (λ (r : Option WorkerState). written_lines q job.events (log_of r)) (slice_get-set_same t.workers 0 new s was) ∙ e ∙ ap (λ (r : Option WorkerState). written_lines q job.events (log_of r)) (sym was)
   same_lines t (suc w) s new after left was e = ap (λ (r : Option WorkerState). written_lines q job.events (log_of r)) (first_stays t.workers w new)
 
-  module _ (ok : OutlineIsSound (outline_of q job)) (t : SystemState) (w : ℕ) (kind : Kind) (s new : WorkerState) (after : Posted) (left : Queues Name) (was : slice_get t.workers w ≡ Some s) (number : s.number ≡ w) (written now before : Option (List ℕ)) (has : HasWritten q job.events before t written) where
+  module _ (ok : OutlineIsSound (outline_of q job)) (t : SystemState) (w : ℕ) (kind : Kind) (s new : WorkerState) (after : Posted) (left : Queues (List Name)) (was : slice_get t.workers w ≡ Some s) (number : s.number ≡ w) (written now before : Option (List ℕ)) (has : HasWritten q job.events before t written) where
     abbrev o : Outline
     o = outline_of q job
 
@@ -109,19 +112,17 @@ module _ {Cell : Type 0} (q : QueryFacts Cell) (job : JobFacts) where
         ap (λ (r : Option WorkerState). lines (log_of r) ++ lines_of_time q job.events x) first ∙ sym (adds s.log x unwritten) ∙ ap lines (sym log) ∙ ap lines (sym here) in
         grew ∙ ap (λ (b : Option (List ℕ)). grown b (lines_of_time q job.events x)) has ∙ grown-grown before (lines (first_log t)) (lines_of_time q job.events x) ∙ ap (grown before) more
 
-    did : (x : Name) → Makes o kind s x new → Writes q job kind s written now (Ok (worker.Did x)) → HasWritten q job.events before next now
-    did x makes says =
-        let log : new.log ≡ logged kind s.log x = ap (λ (n : WorkerState). n.log) makes.after in
+    did : (told : Names) (xs : List Name) → Tells told xs → Makes o kind s xs new → Writes q job kind s written now (Ok (worker.Did told.first told.count)) → HasWritten q job.events before next now
+    did told xs tells makes says =
         ⊎_elim
-        (λ (e : kind ≡ Write).
-        let can = subst (λ (k : Kind). CanMake o k s x) e makes.can in
-        writes x (sym number ∙ can.next.0) can.next.1.0 (log ∙ ap (λ (k : Kind). logged k s.log x) e) (says.lines e))
-        (λ (n : kind ≡ Write → ⊥). silent (says.others n) (ap lines log ∙ others_write_nothing q job s.number (as_machine s) kind x n makes.can.next))
+        (λ (e : kind ≡ Write). let time = one_time o kind s new told xs tells makes e in writes told.first (sym number ∙ time.0.next.0) time.0.next.1.0 time.1 (says.lines e))
+        (λ (n : kind ≡ Write → ⊥).
+        silent (says.others n) (ap (λ (u : WorkerState). lines u.log) makes.after ∙ no_lines_else q job s.number (as_machine s) kind makes.first xs n makes.can.next makes.names))
         (is_write kind)
 
-    module _ (board : Posted) (post : Queues Name) where
+    module _ (board : Posted) (post : Queues (List Name)) where
       written_on : (turn : Answered) → Says o kind board after post left s new (Ok turn) s.number → Writes q job kind s written now (Ok turn) → HasWritten q job.events before next now
-      written_on (worker.Did x) told says = did x told.did says
+      written_on (worker.Did x n) told says = let made = told.did in did (record { first = x; count = n }) made.0 made.1 made.2 says
       written_on (worker.Seen version) told says =
           silent (says.others (exchange_no_write kind told.saw.0)) (ap (λ (n : WorkerState). lines n.log) told.saw.1)
       written_on worker.NotNow told says = silent says.nothing (ap (λ (n : WorkerState). lines n.log) told.unchanged)

@@ -30,7 +30,7 @@ Steps = List (ℕ × Kind)
 
 -- what a worker answers, as the machine's turn; `Busy`, which is none of its turns, never comes here
 abbrev pub turn_in : Answered → Turn
-turn_in (worker.Did x) = Did x
+turn_in (worker.Did x n) = Did x n
 turn_in (worker.Seen version) = Saw version
 turn_in _ = NotNow
 

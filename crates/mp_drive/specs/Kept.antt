@@ -11,7 +11,7 @@ use Rattle.mp_refinement.specs.SystemState.{SystemState}
 use Rattle.mp_drive.specs.Driven.{AreReached, AreReachedBy}
 
 -- the workers, their board and their mailboxes
-abbrev pub together : List WorkerState → Posted → Queues Name → SystemState
+abbrev pub together : List WorkerState → Posted → Queues (List Name) → SystemState
 together workers board post = record { workers = workers; board = board; post = post }
 
 -- They are of the job that they were made for, which is legal; a run of the machine leads to where they are, and one

@@ -167,7 +167,7 @@ fn made_in(answered: &Result<Turn, DriveStop>) -> u64
     ensures { result ≡ made_by answered.now }
 {
     match answered {
-        Ok(Turn::Did(_) | Turn::Seen(_)) => 1,
+        Ok(Turn::Did(..) | Turn::Seen(_)) => 1,
         _ => 0,
     }
 }

@@ -99,7 +99,7 @@ impl<'a, Q: Query, J: Naming> Plain<'a, Q, J> {
             let (worker, kind) = place_at(shape, (start + tried) % places);
             gate.pass(worker, kind);
             let turn = self.step(worker, kind, sink)?;
-            if matches!(turn, Turn::Did(_) | Turn::Seen(_)) {
+            if matches!(turn, Turn::Did(..) | Turn::Seen(_)) {
                 return Ok(());
             }
         }
