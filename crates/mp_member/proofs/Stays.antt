@@ -24,7 +24,7 @@ same_either true xs = refl
 same_either false xs = refl
 
 -- a worker that has done nothing is at its ends, where nothing went through the mailboxes
-pub new_at_ends : (o : Outline) (w : ℕ) (log : Log) (post : PostState Name) → log ≡ empty_log → post.worker ≡ w → length post.senders ≡ o.workers → ((from to : ℕ) → ends_denote post from to [] []) → IsAtEnds o w log post
+pub new_at_ends : (o : Outline) (w : ℕ) (log : Log) (post : PostState (List Name)) → log ≡ empty_log → post.worker ≡ w → length post.senders ≡ o.workers → ((from to : ℕ) → ends_denote post from to [] []) → IsAtEnds o w log post
 new_at_ends o w log post is worker all none = subst (λ (l : Log). IsAtEnds o w l post) (sym is) (record {
   all_workers = all;
   served = sym worker;
@@ -50,7 +50,7 @@ new_at_seat o s seat log posted of_seat row later = record {
 -- a step leaves the worker's number
 pub number_stays : (had_room was_full was_empty : ℕ → ℕ → Type 0) (o : Outline) (kind : Kind) (old new : WorkerState) (r : Result Turn Stop)
     → Answers had_room was_full was_empty o kind old new r → new.number ≡ old.number
-number_stays f g h o kind old new (Ok (turn.Did x)) says = ap (λ (s : WorkerState). s.number) says.0.after
+number_stays f g h o kind old new (Ok (turn.Did x n)) says = ap (λ (s : WorkerState). s.number) says.makes.after
 number_stays f g h o kind old new (Ok (turn.Seen version)) says = ap (λ (s : WorkerState). s.number) says.1.after
 number_stays f g h o kind old new (Ok turn.NotNow) says = ap (λ (s : WorkerState). s.number) says.1
 number_stays f g h o kind old new (Ok turn.Busy) says = ap (λ (s : WorkerState). s.number) says.1

@@ -8,7 +8,6 @@ use Rattle.mp_names.specs.declared.names.Name.{Name}
 use Rattle.mp_names.specs.declared.names.Name.TheVariants.{Written}
 use Rattle.mp_names.specs.Keeping.{IsUnwritten}
 use Rattle.mp_names.specs.Logs.{Log, LogIsLegal, with_settled}
-use Rattle.mp_machine.specs.Steps.{logged}
 use Rattle.mp_outside.specs.Fault.{Rose}
 use Rattle.mp_outside.specs.Sink.{grown}
 use Rattle.mp_outside.proofs.SinkLemmas.{grown-grown}
@@ -16,7 +15,7 @@ use Rattle.mp_model.specs.Facts.{JobFacts, QueryFacts}
 use Rattle.mp_outline.specs.JobOutline.{outline_of}
 use Rattle.mp_output.specs.Holding.{answer_at}
 use Rattle.mp_answer_laws.specs.Lines.{lines_of_time, written_lines}
-use Rattle.mp_answer_laws.proofs.Written.{others_write_nothing, parts_of_lines_begin, writing_adds_lines, written_lines_begin}
+use Rattle.mp_answer_laws.proofs.Written.{parts_of_lines_begin, writing_adds_lines, written_lines_begin}
 use Rattle.mp_refinement.specs.State.{CanMake, WorkerState, as_machine}
 use Rattle.mp_worker.specs.declared.turn.Stop.{Stop}
 use Rattle.mp_worker.specs.declared.turn.Stop.TheVariants as stop
@@ -24,6 +23,7 @@ use Rattle.mp_worker.specs.declared.turn.Turn.{Turn}
 use Rattle.mp_worker.specs.declared.turn.Turn.TheVariants as turn
 use Rattle.mp_worker.specs.Turns.{Answers}
 use Rattle.mp_worker.specs.Writing.{WritesInTurn, WritesNoMore, WritesPart}
+use Rattle.mp_worker.proofs.Told.{no_lines_else, one_time}
 use Rattle.mp_member.specs.Driving.{HasBegun, HasWritten}
 
 is_write : (kind : Kind) → (kind ≡ Write) ⊎ (kind ≢ Write)
@@ -62,20 +62,19 @@ module _ {Cell S : Type 0} (q : QueryFacts Cell) (job : JobFacts) (written : S �
     quiet : now ≡ old → lines new.log ≡ lines s.log → HasWritten q job.events before new.log (written now)
     quiet same e = ap written same ∙ has ∙ ap (grown before) (sym e)
 
-    did : (x : Name) → Says (Ok (turn.Did x)) → Leaves (Ok (turn.Did x)) → HasWritten q job.events before new.log (written now)
-    did x says leaves =
-        let log : new.log ≡ logged kind s.log x = ap (λ (n : WorkerState). n.log) says.0.after in
+    did : (x : Name) (n : ℕ) → Says (Ok (turn.Did x n)) → Leaves (Ok (turn.Did x n)) → HasWritten q job.events before new.log (written now)
+    did x n says leaves =
         ⊎_elim
         (λ (e : kind ≡ Write).
-        let can = subst (λ (k : Kind). CanMake (outline_of q job) k s x) e says.0.can in
-        let after : new.log ≡ with_settled s.log x = log ∙ ap (λ (k : Kind). logged k s.log x) e in
-        let more : lines s.log ++ lines_of_time q job.events x ≡ lines new.log = sym (adds s.log x can.next.1.0) ∙ ap lines (sym after) in
+        let time = one_time (outline_of q job) kind s new (record { first = x; count = n }) says.names says.tells says.makes e in
+        let more : lines s.log ++ lines_of_time q job.events x ≡ lines new.log = sym (adds s.log x time.0.next.1.0) ∙ ap lines (sym time.1) in
         (leaves e).0 ∙ ap (λ (b : Option (List ℕ)). grown b (lines_of_time q job.events x)) has ∙ grown-grown before (lines s.log) (lines_of_time q job.events x) ∙ ap (grown before) more)
-        (λ (n : kind ≢ Write). quiet (others n) (ap lines log ∙ others_write_nothing q job s.number (as_machine s) kind x n says.0.can.next))
+        (λ (n : kind ≢ Write).
+        quiet (others n) (ap (λ (u : WorkerState). lines u.log) says.makes.after ∙ no_lines_else q job s.number (as_machine s) kind says.makes.first says.names n says.makes.can.next says.makes.names))
         (is_write kind)
 
     pub lines_follow : (r : Result Turn Stop) → Says r → Leaves r → OnOk r (HasWritten q job.events before new.log (written now))
-    lines_follow (Ok (turn.Did x)) says leaves = did x says leaves
+    lines_follow (Ok (turn.Did x n)) says leaves = did x n says leaves
     lines_follow (Ok (turn.Seen version)) says leaves = quiet (left says.0) (ap (λ (n : WorkerState). lines n.log) says.1.after)
     lines_follow (Ok turn.NotNow) says leaves = quiet (left_not_now leaves) (ap (λ (n : WorkerState). lines n.log) says.1)
     lines_follow (Ok turn.Busy) says leaves = quiet (left says.0) (ap (λ (n : WorkerState). lines n.log) says.1)
@@ -110,9 +109,9 @@ module _ {Cell S : Type 0} (q : QueryFacts Cell) (job : JobFacts) (written : S �
     nothing_more part = ⊎_elim (λ (e : written now ≡ written old). e) (λ (p : WritesPart q job s (written old) (written now)). absurd (other p.2.next.0)) part
 
     pub nothing_written : (r : Result Turn Stop) → Says r → Leaves r → written now ≡ written old
-    nothing_written (Ok (turn.Did x)) says leaves =
+    nothing_written (Ok (turn.Did x n)) says leaves =
         ⊎_elim
-        (λ (e : kind ≡ Write). absurd (other (subst (λ (k : Kind). CanMake (outline_of q job) k s x) e says.0.can).next.0))
+        (λ (e : kind ≡ Write). absurd (other (subst (λ (k : Kind). CanMake (outline_of q job) k s says.makes.first) e says.makes.can).next.0))
         (λ (n : kind ≢ Write). ap written (others n))
         (is_write kind)
     nothing_written (Ok (turn.Seen version)) says leaves = ap written (left says.0)
@@ -128,7 +127,7 @@ module _ {Cell S : Type 0} (q : QueryFacts Cell) (job : JobFacts) (written : S �
   fault_counted says leaves = (leaves says.0).1
 
   pub no_fault_counted : (r : Result Turn Stop) → r ≢ Err stop.Write → Says r → Leaves r → faults now ≡ faults old
-  no_fault_counted (Ok (turn.Did x)) isnt says leaves = ⊎_elim (λ (e : kind ≡ Write). (leaves e).1) (λ (n : kind ≢ Write). ap faults (others n)) (is_write kind)
+  no_fault_counted (Ok (turn.Did x n)) isnt says leaves = ⊎_elim (λ (e : kind ≡ Write). (leaves e).1) (λ (n : kind ≢ Write). ap faults (others n)) (is_write kind)
   no_fault_counted (Ok (turn.Seen version)) isnt says leaves = ap faults (left says.0)
   no_fault_counted (Ok turn.NotNow) isnt says leaves = ap faults (left_not_now leaves)
   no_fault_counted (Ok turn.Busy) isnt says leaves = ap faults (left says.0)

@@ -1,5 +1,5 @@
 -- A worker with its ends of the mailboxes and its seat at the board, as contracts see it.
-use Rattle.std.specs.Prelude.{◌≡◌, ℕ, [], ◌∷◌, length}
+use Rattle.std.specs.Prelude.{◌≡◌, ℕ, List, length}
 use Rattle.std.specs.declared.result.Result.{Result}
 use Rattle.mp_names.specs.declared.kinds.Kind.{Kind}
 use Rattle.mp_names.specs.declared.names.Name.{Name}
@@ -18,15 +18,15 @@ use Rattle.mp_hub.specs.Hubs.{HasLooked, HasPosted, IsSeatOf, ShowsBoard, own_ro
 
 pub record MemberState : Type 0 where
   pub worker : WorkerState
-  pub post : PostState Name
+  pub post : PostState (List Name)
   pub hub : SeatState Log
 
--- what the ends stand for, each message being called by its one name
-abbrev pub ends_denote : PostState Name → Standing
-ends_denote post = RuledStands (λ x. x ∷ []) post
+-- what the ends stand for, a message being its names
+abbrev pub ends_denote : PostState (List Name) → Standing
+ends_denote post = RuledStands (λ xs. xs) post
 
 -- the ends are this worker's, and stand for what its log has as sent and taken
-abbrev pub IsAtEnds : Outline → ℕ → Log → PostState Name → Type 0
+abbrev pub IsAtEnds : Outline → ℕ → Log → PostState (List Name) → Type 0
 IsAtEnds o w log post = IsAtPost (λ p. length p.senders) (λ _. 0) (λ p w. w ≡ p.worker) ends_denote o w log post
 
 -- the seat is this worker's, and has the log that it posted last
@@ -42,9 +42,9 @@ pub record IsMember (o : Outline) (m : MemberState) : Type 0 where
 abbrev pub AnswersByMail : Outline → Kind → MemberState → MemberState → Result Turn Stop → Type 0
 AnswersByMail o kind old new result = Answers (SenderHadRoom old.post) (SenderWasFull old.post) (ReceiverWasEmpty old.post) o kind old.worker new.worker result
 
--- as the worker's log changed, so did what the ends stand for
+-- as the worker's log changed, so did what the ends stand for; which messages wait they don't tell
 abbrev pub MailFollows : Outline → MemberState → MemberState → Type 0
-MailFollows o old new = PostFollows (λ p. length p.senders) (λ _. 0) (λ p w. w ≡ p.worker) ends_denote o old.worker.number old.worker.log new.worker.log old.post new.post
+MailFollows o old new = PostFollows (λ p. length p.senders) (λ _. 0) (λ p w. w ≡ p.worker) ends_denote (λ _ _ _ _. ⊥) o old.worker.number old.worker.log new.worker.log old.post new.post
 
 -- what an exchange came to at the board, by way of the seat
 abbrev pub ExchangesBySeat : Outline → MemberState → MemberState → Result Turn Stop → Type 0

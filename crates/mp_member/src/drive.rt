@@ -15,11 +15,16 @@ use crossbeam_utils::Backoff;
 use mp_board::Cause;
 use mp_gate::Gate;
 use mp_model::{Naming, Query};
+use mp_names::Kind;
 use mp_outside::Sink;
 use mp_worker::{Stop, Turn, count_of_kinds, kind_at};
 use std::sync::Wait;
 
-/// What a round of a worker came to, in which it tried each kind of step once.
+// How many steps of one kind a round has at most. So the frontiers of a round serve many groups, and a mailbox is emptied
+// before more is sent.
+const STEPS_OF_A_KIND: u32 = 64;
+
+/// What a round of a worker came to, in which it tried each kind of step.
 #[derive(Clone, Copy, PartialEq, Eq, Debug)]
 pub enum Round {
     /// The worker knows that all is over.
@@ -73,8 +78,8 @@ impl<'a, Q: Query, J: Naming, R: Wait + Drop> Member<'a, Q, J, R> {
         unreachable!()
     }
 
-    /// One round: tries each kind of step once, in their order. `Over`: the worker then knows that all is over, and its
-    /// log is full. Where a step answers `Write` or `Memory` it tells the others why; that waits while another holds the
+    /// One round: tries each kind of step in their order, each again as long as its steps are made, up to 64 times. `Over`:
+    /// the worker then knows that all is over, and its log is full. Where a step answers `Write` or `Memory` it tells the others why; that waits while another holds the
     /// board. `Other`: another worker stopped before.
     pub fn turn<T: Wait, G: Gate, S: Sink>(
         &mut self,
@@ -102,7 +107,7 @@ impl<'a, Q: Query, J: Naming, R: Wait + Drop> Member<'a, Q, J, R> {
         }
     }
 
-    // Tries each kind of step once: whether one was made.
+    // Tries each kind of step in their order: whether a step was made.
     fn try_all<G: Gate, S: Sink>(&mut self, gate: &G, sink: &mut S) -> Result<bool, Stop>
         ensures goes_on { let q = Q.facts J.job.rules in
             OnOk result (GoesOn q J.job S.written S.faults S.frame
@@ -114,13 +119,33 @@ impl<'a, Q: Query, J: Naming, R: Wait + Drop> Member<'a, Q, J, R> {
         let shape = self.worker.shape();
         let mut made = false;
         for number in 0..count_of_kinds(shape) {
-            match self.step(kind_at(shape, number), gate, sink) {
-                Ok(Turn::Did(_) | Turn::Seen(_)) => made = true,
-                Ok(Turn::NotNow | Turn::Busy) => {}
+            match self.repeat(kind_at(shape, number), gate, sink) {
+                Ok(was_made) => made = made || was_made,
                 Err(why) => return Err(why),
             }
         }
         Ok(made)
+    }
+
+    // Makes steps of a kind, until one isn't made, an exchange was, or there were as many as a round has of a kind: whether
+    // a step was made.
+    fn repeat<G: Gate, S: Sink>(&mut self, kind: Kind, gate: &G, sink: &mut S) -> Result<bool, Stop>
+        ensures goes_on { let q = Q.facts J.job.rules in
+            OnOk result (GoesOn q J.job S.written S.faults S.frame
+            self.old.worker self.new.worker sink.old sink.new) }
+        ensures stops { let q = Q.facts J.job.rules in
+            IfErr result (λ stop. StopsBy q J.job S.written S.faults S.frame stop
+            self.old.worker self.new.worker sink.old sink.new) }
+    {
+        for number in 0..STEPS_OF_A_KIND {
+            match self.step(kind, gate, sink) {
+                Ok(Turn::Did(..)) => {}
+                Ok(Turn::Seen(_)) => return Ok(true),
+                Ok(Turn::NotNow | Turn::Busy) => return Ok(number > 0),
+                Err(why) => return Err(why),
+            }
+        }
+        Ok(true)
     }
 
     // What a round came to in which a step was made or wasn't.

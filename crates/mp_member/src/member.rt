@@ -44,7 +44,7 @@ impl<'a, Q: Query, J: Naming, R> Member<'a, Q, J, R> {
     ) -> Member<'a, Q, J, R>
         requires begins { (worker.log ≡ empty_log) × (worker.posted ≡ empty_log) }
         requires ends { (post.worker ≡ worker.number) × (length post.senders ≡ J.job.shape.workers) }
-        requires no_mail { (from to : ℕ) → RuledStands (λ x. x ∷ []) post from to [] [] }
+        requires no_mail { (from to : ℕ) → RuledStands (λ xs. xs) post from to [] [] }
         requires seat { IsSeatOf (outline_of (Q.facts J.job.rules) J.job) hub worker.number }
         requires row { hub.row ≡ Some empty_log }
         requires version { worker.seen.version ≤ hub.version }

@@ -60,7 +60,8 @@ impl<'a, Q: Query, J: Naming, R: Copy + Drop> Crew<'a, Q, J, R> {
         let workers = job.shape().workers;
         let board = Board::open(alloc, job)?;
         let seen = board.seen();
-        let (lock, seats) = SeatLock::open(alloc, Shared::new(board), workers)?;
+        let shared = Shared::new(alloc, board)?;
+        let (lock, seats) = SeatLock::open(alloc, shared, workers)?;
         let lock = Arc::new(alloc, lock)?;
         let posts = ruled_posts(rt, alloc, workers, depth)?;
         let members = new_members(alloc, job, seen, &lock, seats, posts)?;
@@ -84,7 +85,7 @@ fn new_members<'a, Q: Query, J: Naming, R: Drop>(
     requires seats { let lock = arc_value lock.now in
         (length seats.items ≡ J.job.shape.workers) × (lock.seats ≡ J.job.shape.workers)
         × AreNew lock (replicate J.job.shape.workers empty_log) seen.version seats.items }
-    requires posts { (length posts.items ≡ J.job.shape.workers) × StandForNone (λ x. x ∷ []) posts.items }
+    requires posts { (length posts.items ≡ J.job.shape.workers) × StandForNone (λ xs. xs) posts.items }
     requires new_posts { (depth : ℕ) × AreNewPosts J.job.shape.workers depth posts.items }
     ensures numbers { IfOk result (λ members. AreByNumber J.job.shape.workers members.items) }
     ensures new { IfOk result (λ members. All HasDoneNothing members.items) }

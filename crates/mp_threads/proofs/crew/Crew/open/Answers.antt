@@ -17,8 +17,8 @@ pub new_members-requires-clause-seats : goal.new_members-requires-clause-seats
 new_members-requires-clause-seats g c κs within =
     let count = ap (λ s. s.workers) c.shape-workers.ensures.shape ∙ ap (λ (job : JobFacts). job.shape.workers) c.requires.job in
     let lock = c.in_ok-lock-2.ensures.ok in
-    let rows = ap (λ (b : Posted). b.logs) c.new.ensures ∙ c.in_ok-board.ensures.logs in
-    let version = ap (λ (b : Posted). b.version) c.new.ensures ∙ sym c.seen-seen.ensures.version in (
+    let rows = ap (λ (b : Posted). b.logs) c.in_ok-shared.ensures ∙ c.in_ok-board.ensures.logs in
+    let version = ap (λ (b : Posted). b.version) c.in_ok-shared.ensures ∙ sym c.seen-seen.ensures.version in (
       c.in_ok-lock.ensures.many ∙ count,
       ap (λ (l : LockIdentity). l.seats) lock ∙ (c.in_ok-lock.ensures.lock ∙ count),
       new_seats_as _ _ _ _ _ _ c.in_ok-lock.seats.items (sym lock) rows version c.in_ok-lock.ensures.seats,
