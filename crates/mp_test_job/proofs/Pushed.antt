@@ -16,6 +16,6 @@ module _ {M N : Type 0} (names : M → List N) (message_from message_to : M → 
   New = PlainDenotes names message_from message_to q
 
   -- whether there was room or not, they stand for some lists
-  pub stands_after : {X E : Type 0} (from to : ℕ) (n : N) (result : Result X E) → OnOk result (AddsPushed Old New from to (n ∷ [])) → OnErr result (KeepsEdge Old New from to) → Old from to [] [] → Denotes New from to
-  stands_after from to n (Ok x) ok err h = (n ∷ [], [], ok [] [] h (one_is_distinct n))
-  stands_after from to n (Err e) ok err h = ([], [], err [] [] h)
+  pub stands_after : {X E : Type 0} (from to : ℕ) (ns : List N) → Distinct ns → (result : Result X E) → OnOk result (AddsPushed Old New from to ns) → OnErr result (KeepsEdge Old New from to) → Old from to [] [] → Denotes New from to
+  stands_after from to ns once (Ok x) ok err h = (ns, [], ok [] [] h once)
+  stands_after from to ns once (Err e) ok err h = ([], [], err [] [] h)

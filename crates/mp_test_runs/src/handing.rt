@@ -84,38 +84,50 @@ pub fn one_move(alloc: Global) -> Result<Job<Q4>, AllocError> {
 }
 
 fn control_to(to: u32) -> Turn {
-    Turn::Did(Name::Ctrl { index: 0, to })
+    Turn::Did(Name::Ctrl { index: 0, to }, 1)
 }
 
 fn group(time: Time) -> Turn {
-    Turn::Did(Name::Group {
-        stage: 0,
-        time,
-        key: 1,
-    })
+    Turn::Did(
+        Name::Group {
+            stage: 0,
+            time,
+            key: 1,
+        },
+        1,
+    )
 }
 
-const AUCTION: Turn = Turn::Did(Name::Rec {
-    stage: 0,
-    time: 0,
-    key: 1,
-    tag: Tag(0, 0),
-});
+const AUCTION: Turn = Turn::Did(
+    Name::Rec {
+        stage: 0,
+        time: 0,
+        key: 1,
+        tag: Tag(0, 0),
+    },
+    1,
+);
 
-const BID: Turn = Turn::Did(Name::Rec {
-    stage: 0,
-    time: 5,
-    key: 1,
-    tag: Tag(0, 1),
-});
+const BID: Turn = Turn::Did(
+    Name::Rec {
+        stage: 0,
+        time: 5,
+        key: 1,
+        tag: Tag(0, 1),
+    },
+    1,
+);
 
-const PACKET: Turn = Turn::Did(Name::Packet {
-    stage: 0,
-    bin: 0,
-    time: 50,
-});
+const PACKET: Turn = Turn::Did(
+    Name::Packet {
+        stage: 0,
+        bin: 0,
+        time: 50,
+    },
+    1,
+);
 
-const SETTLED: Turn = Turn::Did(Name::Settled { stage: 0, time: 50 });
+const SETTLED: Turn = Turn::Did(Name::Settled { stage: 0, time: 50 }, 1);
 
 fn controls_come() -> [Line; 9] {
     [

@@ -75,27 +75,36 @@ fn three_bids(alloc: Global) -> Result<Job<Q1>, AllocError> {
 }
 
 // The first bid, from worker 0 to worker 1.
-const FIRST_BID: Turn = Turn::Did(Name::Rec {
-    stage: 0,
-    time: 5,
-    key: 4,
-    tag: Tag(0, 0),
-});
+const FIRST_BID: Turn = Turn::Did(
+    Name::Rec {
+        stage: 0,
+        time: 5,
+        key: 4,
+        tag: Tag(0, 0),
+    },
+    1,
+);
 
 // The second bid, from worker 1 to worker 2.
-const SECOND_BID: Turn = Turn::Did(Name::Rec {
-    stage: 0,
-    time: 5,
-    key: 1,
-    tag: Tag(0, 1),
-});
+const SECOND_BID: Turn = Turn::Did(
+    Name::Rec {
+        stage: 0,
+        time: 5,
+        key: 1,
+        tag: Tag(0, 1),
+    },
+    1,
+);
 
 // What worker 2 makes of the second bid.
-const SECOND_GROUP: Turn = Turn::Did(Name::Group {
-    stage: 0,
-    time: 5,
-    key: 1,
-});
+const SECOND_GROUP: Turn = Turn::Did(
+    Name::Group {
+        stage: 0,
+        time: 5,
+        key: 1,
+    },
+    1,
+);
 
 // Worker 2 takes the second bid, which worker 1 hasn't posted as sent.
 fn both_on_the_way() -> [Line; 7] {
@@ -152,12 +161,15 @@ fn counts_cancel(rt: HostRuntime) -> Result<(), Fail> {
 
 // One of four bids, by its index.
 fn nth_bid(time: Time, index: u64) -> Turn {
-    Turn::Did(Name::Rec {
-        stage: 0,
-        time,
-        key: 1,
-        tag: Tag(0, index),
-    })
+    Turn::Did(
+        Name::Rec {
+            stage: 0,
+            time,
+            key: 1,
+            tag: Tag(0, index),
+        },
+        1,
+    )
 }
 
 fn one_bid_each() -> [Line; 6] {
@@ -257,7 +269,7 @@ fn places_of_two(alloc: Global) -> Result<Vec<(u32, Kind)>, AllocError> {
 }
 
 fn is_group(turn: &Turn) -> bool {
-    matches!(turn, Turn::Did(Name::Group { .. }))
+    matches!(turn, Turn::Did(Name::Group { .. }, _))
 }
 
 // While worker 2 makes no step the message to it isn't taken, so no group is applied. From there on the schedule

@@ -33,6 +33,5 @@ fn a_gate_sees_each_step(rt: HostRuntime) {
         kind: Cell::new(Kind::Write),
     };
     pass_twice(&gate);
-    assert_eq!(rt; gate.worker.get(), 2);
-    assert!(rt; gate.kind.get() == Kind::Apply(3));
+    assert!(rt; gate.worker.get() == 2 && gate.kind.get() == Kind::Apply(3));
 }

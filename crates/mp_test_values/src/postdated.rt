@@ -1,32 +1,16 @@
-//! The worked values, with ample memory.
+//! Wakes are added, taken, and come by time and then by key, with ample memory.
 use mp_postdated::Wakes;
 use std::test::Fail;
 
 #[test]
-fn each_key_and_time_once(rt: HostRuntime) -> Result<(), Fail> {
-    let mut wakes = Wakes::new(rt.alloc());
-    wakes.add(5, 1)?;
-    wakes.add(5, 1)?;
-    assert_eq!(rt; wakes.least(), Some((5, 1)));
-    assert_eq!(rt; wakes.len(), 1);
-    assert!(rt; wakes.take_due(5, 1));
-    assert!(rt; !wakes.take_due(5, 1));
-    assert_eq!(rt; wakes.least(), None);
-    assert!(rt; wakes.is_empty());
-    Ok(())
-}
-
-#[test]
-fn by_time_and_then_by_key(rt: HostRuntime) -> Result<(), Fail> {
+fn wakes_come_by_time(rt: HostRuntime) -> Result<(), Fail> {
     let mut wakes = Wakes::new(rt.alloc());
     wakes.add(7, 1)?;
-    wakes.add(5, 9)?;
-    wakes.add(5, 2)?;
-    assert!(rt; wakes.has(5, 9));
-    assert!(rt; !wakes.has(7, 9));
-    assert_eq!(rt; wakes.pop_least(), Some((5, 2)));
-    assert_eq!(rt; wakes.pop_least(), Some((5, 9)));
+    wakes.make_room(2)?;
+    wakes.add_all(9, &[5, 8]);
+    assert!(rt; wakes.take_due(5, 9));
+    assert_eq!(rt; wakes.least(), Some((7, 1)));
     assert_eq!(rt; wakes.pop_least(), Some((7, 1)));
-    assert_eq!(rt; wakes.pop_least(), None);
+    assert_eq!(rt; wakes.as_slice(), [(8, 9)].as_slice());
     Ok(())
 }
