@@ -42,7 +42,7 @@ differ x y h e = both_ways (x == y) (not-true (x == y) h) (eq-eqb x y e)
 apart : (x y : ℕ) → (x ≡ y → ⊥) → not (x == y) ≡ true
 apart x y n = not_from_false (x == y) (ne_eqb x y n)
 
-reached_earlier : (f : Frontier) (t u : ℕ) → HasReached f t → u ≤ t → HasReached f u
+pub reached_earlier : (f : Frontier) (t u : ℕ) → HasReached f t → u ≤ t → HasReached f u
 reached_earlier (At v) t u h l = omega arith
 reached_earlier Done t u h l = tt
 

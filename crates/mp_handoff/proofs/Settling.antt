@@ -5,7 +5,7 @@ use Rattle.std.specs.Option.{option_copied}
 use denote.Bor.{Bor}
 use Rattle.std.proofs.lemmas.Option.{none-some, same_Some}
 use Rattle.std.proofs.lemmas.Bool.{and_from, both_ways, eq-eqb, false_from_ne_true, true_from_ne_false}
-use Rattle.mp_names.specs.declared.locations.Loc.TheVariants.{CtlMail}
+use Rattle.mp_names.specs.declared.locations.Loc.TheVariants.{CtlMail, Host}
 use Rattle.mp_names.specs.declared.names.Name.{Name}
 use Rattle.mp_names.specs.declared.names.Name.TheVariants.{Ctrl, Packet, Settled}
 use Rattle.mp_names.specs.Frontiers.{HasPassed}
@@ -22,10 +22,10 @@ use Rattle.mp_stamps.specs.Seen.{seen_at}
 use Rattle.mp_bins.specs.Notes.{Notes}
 use Rattle.mp_job.proofs.Members.{Contains-cases, Contains-here, Contains-later, nothing_in_nil}
 use Rattle.mp_ordered.specs.InOrder.{InOrder}
-use Rattle.mp_handoff.specs.Due.{MoversMatchLogAndSeen, CanSettle, LeavesBy, MaySettleHere}
+use Rattle.mp_handoff.specs.Due.{MoversMatchLogAndSeen, CanLeave, CanSettle, LeavesBy, MayLeaveHere, MaySettleHere}
 use Rattle.mp_handoff.specs.MoversState.{MoversState, Rises}
 use Rattle.mp_handoff.specs.MoversOf.{IsMoversOf}
-use Rattle.mp_handoff.proofs.Leaving.{after_unsent, leaving_is_owed, owed_is_leaving, unsent_after}
+use Rattle.mp_handoff.proofs.Leaving.{after_unsent, leaving_is_owed, owed_is_leaving, reached_earlier, unsent_after}
 use Rattle.mp_handoff.proofs.Same.{In_last, has_other}
 use Rattle.mp_handoff.proofs.Times.{comes_first, rest_rises}
 
@@ -67,6 +67,14 @@ module _ (o : Outline) (log : Log) (notes : Notes) (seen : Seen) (m : MoversStat
           let of_time = eq-eqb (control_at o c.0).time t c.4 in
           any_from (is_ctrl_of o m.stage t) x log.took (i.1.taken c.0 t p c.1 (omega arith)) (and_from ((control_at o c.0).stage == m.stage) ((control_at o c.0).time == t) of_stage of_time)
 
+  -- a packet may leave only at a time that isn't settled
+  leaves_unsettled : (b t : ℕ) → MayLeaveHere o log seen m b t → Contains m.unsettled t
+  leaves_unsettled b t y = (i.0.unsettled t).1 (owed_unsettled b t y.0.0.1 y.0.0.0.1 y.0.0.0.2)
+
+  -- so none may where no time is unsettled
+  pub none_leaves_settled : m.unsettled ≡ [] → (b t : ℕ) → MayLeaveHere o log seen m b t → ⊥
+  none_leaves_settled e b t y = nothing_in_nil t (subst (λ (l : List ℕ). Contains l t) e (leaves_unsettled b t y))
+
   module _ (t : ℕ) (rest : List ℕ) (first : m.unsettled ≡ t ∷ rest) (rises : Rises m.unsettled) where
     risen : Rises (t ∷ rest)
     risen = subst Rises first rises
@@ -88,6 +96,13 @@ module _ (o : Outline) (log : Log) (notes : Notes) (seen : Seen) (m : MoversStat
 
     only : (s : ℕ) → MaySettleHere o log seen m s → s ≡ t
     only s y = same_time m.stage s t (least_unique (IsUnsettled o log m.stage) (Settled m.stage s) (Settled m.stage t) y.least least)
+
+    -- and none may before the first such time has come
+    pub none_leaves_before : (CanLeave seen m t → ⊥) → (b s : ℕ) → MayLeaveHere o log seen m b s → ⊥
+    none_leaves_before n b s y = n (passed_earlier (seen_at seen CtlMail) s t y.0.0.1 upto, reached_earlier (seen_at seen (Host m.stage)) s t y.1 upto)
+      where
+        upto : t ≤ s
+        upto = ⊎_elim (λ (e : t ≡ s). omega arith) (λ (c : Contains rest s). let l = comes_first t rest s risen c in omega arith) (later s (leaves_unsettled b s y))
 
     -- a bin leaves up to then
     none_while : (s : ℕ) → MaySettleHere o log seen m s → LeavesBy notes m t → ⊥

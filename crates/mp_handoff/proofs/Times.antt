@@ -1,16 +1,16 @@
 -- Times in ascending order, each once, with one more at its place.
-use Rattle.std.proofs.Common.{◌≡◌, ◌↔◌, ◌⊎◌, ◌<◌, ◌≤◌, ◌==◌, ℕ, nat_lt, true, false, List, [], ◌∷◌, All, Contains, IsTrue, Result, Ok, Err, OnOk, OnErr, is_ok, length, get_or, refl, sym, ap, ◌∙◌, subst, inl, inr, ⊎_elim, arith}
-use Rattle.std.proofs.lemmas.Bool.{cases_lt, cases_order, eq-eqb, false≢true, le-ltb, lt-ltb, ne_eqb}
-use Rattle.std.specs.List.Sorted.{IsBinarySearchResult}
-use Rattle.std.specs.Ordering.{nat_cmp}
+use Rattle.std.proofs.Common.{◌≡◌, ◌↔◌, ◌⊎◌, ◌<◌, ◌≤◌, ◌-◌, ◌==◌, ℕ, nat_le, nat_lt, Bool, true, false, List, [], ◌∷◌, All, Contains, IsTrue, Some, Result, Ok, Err, OnOk, OnErr, length, get_or, refl, sym, ap, ◌∙◌, subst, inl, inr, ⊎_elim, arith}
+use Rattle.std.proofs.lemmas.Bool.{both_ways, cases_lt, cases_order, eq-eqb, eqb-true, le-leb, le-ltb, leb-true, lt-ltb, ne_eqb}
+use Rattle.std.specs.List.{prefix_len}
+use Rattle.std.specs.List.Sorted.{IsPartitionPoint, IsPartitionedBy}
+use Rattle.std.specs.Prelude.{slice_get}
 use Rattle.std.proofs.lemmas.List.{get_or_default}
-use Rattle.std.proofs.lemmas.List.Sorted.{searched}
 use Rattle.std.proofs.lemmas.List.Elements.{All-cons, All-contains, All-head, All-nil, All-tail, All-weaker}
 use Rattle.std.proofs.lemmas.List.Kept.{AllPairs-cons}
 use Rattle.mp_model.specs.Ascending.{placed}
 use Rattle.mp_job.proofs.Members.{Contains-cases, Contains-here, Contains-later}
 use Rattle.mp_ordered.specs.InOrder.{InOrder, put_in_order}
-use Rattle.mp_ordered.proofs.Placing.{pairs_head, pairs_tail}
+use Rattle.mp_ordered.proofs.Placing.{count_parts, pairs_head, pairs_tail, read_at}
 use Rattle.mp_handoff.specs.MoversState.{Rises}
 
 -- what follows where a call answers `Ok`
@@ -123,14 +123,44 @@ module _ (ts : List ℕ) (t : ℕ) (rises : Rises ts) where
   never_falls : (i j : ℕ) → i ≤ j → j < length ts → get_or ts i 0 ≤ get_or ts j 0
   never_falls i j l k = ⊎_elim (λ (e : i < j). let m = rises i j 0 e k in omega arith) (λ (e : j ≤ i). let same : i ≡ j = omega arith in let f = ap (λ (n : ℕ). get_or ts n 0) same in omega arith) (cases_lt i j)
 
-  pub found : (r : Result ℕ ℕ) → IsBinarySearchResult (λ y. nat_cmp y t) ts r → IsTrue (is_ok r) ↔ Contains ts t
-  found (Ok i) h = let s = searched ts t (Ok i) h never_falls in ((λ e. (i, s.0, sym (get_or_default ts i 0 t s.0) ∙ s.1)), (λ c. refl))
-  found (Err i) h =
-      let s = searched ts t (Err i) h never_falls in (
-        (λ e. absurd (false≢true e)),
+  abbrev pub upto : ℕ → Bool
+  upto u = nat_le u t
+
+  -- those up to the time stand first
+  pub upto_first : IsPartitionedBy upto ts
+  upto_first i k d l m e =
+      let f = never_falls i k l m in
+      let g = get_or_default ts i 0 d (omega arith) in
+      let h = get_or_default ts k 0 d m in
+      let n = leb-true (get_or ts k d) t e in
+      le-leb (get_or ts i d) t (omega arith)
+
+  parts : IsPartitionPoint (λ u. upto u ≡ true) (λ u. upto u ≡ false) ts (prefix_len upto ts)
+  parts = count_parts upto ts upto_first
+
+  in_front : (c : Contains ts t) → c.0 < prefix_len upto ts
+  in_front c =
+      ⊎_elim
+      (λ (l : c.0 < prefix_len upto ts). l)
+      (λ (l : prefix_len upto ts ≤ c.0). absurd (both_ways (upto (get_or ts c.0 t)) (parts.1 c.0 t l c.1) (ap upto c.2 ∙ le-leb t t (omega arith))))
+      (cases_lt c.0 (prefix_len upto ts))
+
+  -- if it is there it is the last of them
+  pub none_found : prefix_len upto ts ≡ 0 → Contains ts t → ⊥
+  none_found e c = let l = in_front c in omega arith
+
+  pub last_found : (x : ℕ) → 0 < prefix_len upto ts → slice_get ts (prefix_len upto ts - 1) ≡ Some x → IsTrue (x == t) ↔ Contains ts t
+  last_found x some e =
+      let p = prefix_len upto ts in
+      let read = read_at ts (p - 1) x e in (
+        (λ h. (p - 1, read.0, read.1 t ∙ eqb-true x t h)),
         (λ c.
-            let there = get_or_default ts c.0 0 t c.1 ∙ c.2 in
-            absurd (⊎_elim (λ (l : c.0 < i). let m = s.1 c.0 l in omega arith) (λ (l : i ≤ c.0). let m = s.2 c.0 l c.1 in omega arith) (cases_lt c.0 i))),
+            let l = in_front c in
+            let low = never_falls c.0 (p - 1) (omega arith) read.0 in
+            let is = get_or_default ts c.0 0 t c.1 ∙ c.2 in
+            let last = read.1 0 in
+            let high = leb-true (get_or ts (p - 1) 0) t (parts.0 (p - 1) 0 (omega arith) (omega arith)) in
+            eq-eqb x t (omega arith)),
       )
 
 -- a time that was put at its place, or was refused

@@ -13,12 +13,12 @@ ghost use Rattle.mp_handoff.specs.Due.{MoversMatchLogAndSeen, CanLeave, CanSettl
 ghost use Rattle.mp_handoff.specs.Keys.{HasKeys, SentHasKeys};
 ghost use Rattle.mp_handoff.specs.MoversOf.{IsMoversOf, IsNewControl};
 
-use crate::by_time::ByTime;
+use crate::by_time::{ByTime, UptoTime};
 use crate::sent::Sent;
 use mp_bins::{Move, Owners};
 use mp_model::{Naming, Query, Time};
 use mp_names::{Frontier, Loc, TimedBin};
-use mp_ordered::Ordered;
+use mp_ordered::OrderedBlocks;
 use mp_stamps::{Seen, passed};
 use std::alloc::{AllocError, Global};
 use std::marker::{Model, PhantomData};
@@ -31,7 +31,7 @@ pub struct Movers<Q: Query, J: Naming> {
     stage: u32,
     worker: u32,
     // Each once.
-    unsettled: Ordered<Time, ByTime>,
+    unsettled: OrderedBlocks<Time, ByTime>,
     // The last packet that was sent.
     last: Option<TimedBin>,
     // In the order in which they were sent.
@@ -76,7 +76,7 @@ impl<Q: Query, J: Naming> Movers<Q, J> {
         Movers {
             stage,
             worker,
-            unsettled: Ordered::new(alloc),
+            unsettled: OrderedBlocks::new(alloc),
             last: None,
             sent: Vec::new(alloc),
             of: PhantomData,
@@ -133,13 +133,36 @@ impl<Q: Query, J: Naming> Movers<Q, J> {
             → IsNewControl o log self.now time i
             → (result ≡ is_noted o log self.now.stage time) × (has log.settled (Settled self.now.stage time) ≡ false) }
     {
-        self.unsettled.as_slice().binary_search(&time).is_ok()
+        match self.unsettled.last_in_front(&UptoTime { time }) {
+            Some(last) => *last == time,
+            None => false,
+        }
     }
 
     /// The move of the packet that is to be sent now: the least that is due, by time and then by bin, once the frontier of
     /// the stage's hosts that was seen has come to its time. `None` exactly where there is none. This worker's log says
     /// what the movers hold, and the owners are noted as far as the frontier of control records on their way has passed.
     pub fn due(&self, seen: &Seen, owners: &Owners) -> Option<Move>
+        requires { owners.now.shape ≡ J.job.shape }
+        ensures away { IfSome result (λ m. (log : Log) → let o = outline_of (Q.facts J.job.rules) J.job in
+            MoversMatchLogAndSeen o log owners.now seen.now self.now → IsMoveAway o self.now.stage self.now.worker m) }
+        ensures may_leave { IfSome result (λ m. (log : Log) → let o = outline_of (Q.facts J.job.rules) J.job in
+            MoversMatchLogAndSeen o log owners.now seen.now self.now → MayLeaveHere o log seen.now self.now m.bin m.time) }
+        ensures none_may { IfNone result ((log : Log) (b t : ℕ) → let o = outline_of (Q.facts J.job.rules) J.job in
+            MoversMatchLogAndSeen o log owners.now seen.now self.now → MayLeaveHere o log seen.now self.now b t → ⊥) }
+    {
+        // No packet leaves before the first time that isn't settled, and to ask for that one costs less.
+        let Some(first) = self.unsettled.first() else {
+            return None;
+        };
+        if !self.may_leave(seen, *first) {
+            return None;
+        }
+        self.due_by(seen, owners)
+    }
+
+    // The same, by a search of the owners.
+    fn due_by(&self, seen: &Seen, owners: &Owners) -> Option<Move>
         requires { owners.now.shape ≡ J.job.shape }
         ensures away { IfSome result (λ m. (log : Log) → let o = outline_of (Q.facts J.job.rules) J.job in
             MoversMatchLogAndSeen o log owners.now seen.now self.now → IsMoveAway o self.now.stage self.now.worker m) }

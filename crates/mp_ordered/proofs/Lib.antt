@@ -1,4 +1,3 @@
-mod Behind
 mod Blocked
 mod Changed
 mod Dropped

@@ -75,6 +75,7 @@ fn numbers_are_parted(rt: HostRuntime) -> Result<(), Fail> {
     assert_eq!(rt; take_below(&mut numbers, 150), Some(149));
     assert_eq!(rt; drop_below(&mut numbers, 296), 295);
     assert_eq!(rt; numbers.pop_first(), Some(296));
+    assert_eq!(rt; numbers.first(), Some(&297));
     assert_eq!(rt; numbers.to_vec()?.as_slice(), [297, 298, 299].as_slice());
     assert_eq!(rt; numbers.as_blocks().len(), 1);
     Ok(())

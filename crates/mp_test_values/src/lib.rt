@@ -12,8 +12,6 @@ mod blocks;
 #[cfg(test)]
 mod gate;
 #[cfg(test)]
-mod ordered;
-#[cfg(test)]
 mod outside;
 #[cfg(test)]
 mod postdated;

@@ -14,3 +14,14 @@ fn wakes_come_by_time(rt: HostRuntime) -> Result<(), Fail> {
     assert_eq!(rt; wakes.as_slice(), [(8, 9)].as_slice());
     Ok(())
 }
+
+#[test]
+fn wakes_are_sorted(rt: HostRuntime) -> Result<(), Fail> {
+    let mut wakes = Wakes::new(rt.alloc());
+    wakes.add(7, 1)?;
+    wakes.make_room(2)?;
+    wakes.add_all(9, &[8, 5]);
+    wakes.sort()?;
+    assert_eq!(rt; wakes.as_slice(), [(5, 9), (7, 1), (8, 9)].as_slice());
+    Ok(())
+}
