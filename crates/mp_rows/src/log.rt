@@ -16,6 +16,7 @@ use crate::new_names::NewNames;
 use crate::outlined::Outlined;
 use mp_model::Rec;
 use mp_names::Name;
+use mp_stamps::Hints;
 use std::alloc::{AllocError, Global};
 use std::marker::{Model, PhantomData};
 use std::mem;
@@ -41,6 +42,8 @@ pub struct Log<O: Outlined> {
     applied: u64,
     // Their sum at each location and time is what the names since then add to the log's contribution.
     changes: Vec<Change>,
+    // Where the entries of some locations and times stand among them.
+    hints: Hints,
     // For how many more names and changes there is room.
     room_for_names: u64,
     room_for_changes: u64,
@@ -93,6 +96,7 @@ impl<O: Outlined> Log<O> {
             ingested: 0,
             applied: 0,
             changes: Vec::new(alloc),
+            hints: Hints::new(),
             room_for_names: 0,
             room_for_changes: 0,
             of: PhantomData,
@@ -116,7 +120,7 @@ impl<O: Outlined> Log<O> {
             return Err(AllocError);
         }
         self.changes.reserve(changes.len())?;
-        net_all(&mut self.changes, changes);
+        net_all(&mut self.changes, &mut self.hints, changes);
         let before = mem::replace(&mut self.names, no_names());
         self.names = one_more(before, list, name);
         self.size += 1;
@@ -174,7 +178,7 @@ impl<O: Outlined> Log<O> {
             return Err(AllocError);
         }
         self.changes.reserve(changes.len())?;
-        net_all(&mut self.changes, changes);
+        net_all(&mut self.changes, &mut self.hints, changes);
         let before = mem::replace(&mut self.names, no_names());
         self.names = several_more(before, list, names);
         self.size += count;

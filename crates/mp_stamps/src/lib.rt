@@ -18,7 +18,9 @@ mod stamps;
 
 pub use counts::Counts;
 pub use frontiers::passed;
+pub use hints::Hints;
 pub use mp_names::{Frontier, Loc};
+pub use place::place_of;
 pub use reaching::reaches;
 pub use seen::Seen;
 pub use stamps::is_stamp;

@@ -5,8 +5,11 @@ ghost use Rattle.std.specs.Ordering.{nat_cmp};
 
 use mp_names::Time;
 
+// How often a step doubles. A time that is farther away is as quickly found among all.
+const DOUBLINGS: u32 = 8;
+
 /// The index of a time among times that ascend, or where it would stand. It takes time by the logarithm of how far that is
-/// from the index `near`, where the time is there.
+/// from the index `near`, where the time is there and no more than 256 away, else by that of how many they are.
 pub(crate) fn index_of(times: &[Time], near: usize, time: Time) -> Result<usize, usize>
     ensures { IsBinarySearchResult (λ t. nat_cmp t time) times.now result }
 {
@@ -28,7 +31,7 @@ fn back_to(times: &[Time], middle: usize, time: Time) -> usize
     ensures { result ≤ middle }
 {
     let mut step = 1;
-    for _ in 0..64 {
+    for _ in 0..DOUBLINGS {
         if step > middle {
             return 0;
         }
@@ -47,7 +50,7 @@ fn on_to(times: &[Time], middle: usize, time: Time) -> usize
     ensures inside { result ≤ length times.now }
 {
     let mut step = 1;
-    for _ in 0..64 {
+    for _ in 0..DOUBLINGS {
         if step >= times.len() - middle {
             return times.len();
         }

@@ -8,8 +8,8 @@ use mp_names::Loc;
 /// How many places there may be: five of locations without a stage, and five of each stage.
 pub(crate) const PLACES: usize = 25;
 
-/// The place of a location.
-pub(crate) fn place_of(loc: Loc) -> usize
+/// The place of a location: its number among all, those without a stage first, then five for each stage.
+pub fn place_of(loc: Loc) -> usize
     ensures { result ≡ place_of loc }
 {
     match loc {
