@@ -3,3 +3,4 @@ pub mod Among
 pub mod Climbing
 pub mod Roots
 pub mod OfStates
+pub mod Same

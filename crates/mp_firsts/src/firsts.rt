@@ -44,6 +44,16 @@ impl Firsts {
         requires { at < length self.old }
         ensures { self.new ≡ slice_set self.old at wake }
     {
+        if self.tree[self.count + at] != wake {
+            self.put(at, wake);
+        }
+    }
+
+    // Changes the wake at a place, and the entries above it.
+    fn put(&mut self, at: usize, wake: Option<(Time, u64)>)
+        requires { at < length self.old }
+        ensures { self.new ≡ slice_set self.old at wake }
+    {
         let leaf = self.count + at;
         self.tree[leaf] = wake;
         renew(&mut self.tree, self.count, leaf / 2);

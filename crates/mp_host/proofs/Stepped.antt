@@ -1,5 +1,5 @@
 -- What the state of a bin is once a group of a key of it is stepped.
-use Rattle.std.proofs.Common.{◌≡◌, ◌≢◌, ◌↔◌, ◌⊎◌, ℕ, ◌==◌, nat_eq, true, cond, Some, List, Contains, inl, inr, ⊎_elim}
+use Rattle.std.proofs.Common.{◌≡◌, ◌≢◌, ◌↔◌, ◌⊎◌, ℕ, ◌==◌, nat_eq, true, cond, Some, List, Contains, inl, inr, subst, ⊎_elim}
 use Rattle.indexmap.specs.IndexMap.{IndexMap, get}
 use Rattle.mp_model.specs.Entry.{Entry}
 use Rattle.mp_model.specs.Facts.{QueryFacts}
@@ -31,6 +31,10 @@ module _ {Cell S : Type 0} (q : QueryFacts Cell) (j : ℕ) (cells : IndexMap ℕ
       (f l c ((there-by_key new.entries l c).0 i))
 
 -- the wakes
+
+-- where a group has no wake, there are the others
+pub none_taken : (ws : List (ℕ × ℕ)) (t k : ℕ) → (Has ws t k → ⊥) → (u l : ℕ) → Has ws u l ↔ (Has ws u l × (IsWake t k (u, l) → ⊥))
+none_taken ws t k none u l = ((λ i. (i, λ is. none (subst (λ (n : ℕ). Has ws n k) is.0 (subst (λ (m : ℕ). Has ws u m) is.1 i)))), (λ both. both.0))
 
 module _ (ws : List (ℕ × ℕ)) (t k : ℕ) (posts : List ℕ) where
   -- with the group's own taken out and its posts added there are the others and the posts

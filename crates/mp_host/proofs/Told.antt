@@ -170,6 +170,10 @@ module _ {Cell : Type 0} (q : QueryFacts Cell) (keeps : QueryKeeps q) (job its :
       is_this : ◌≡◌ {A = Option (ℕ × ℕ)} (Some g) (Some (t, k)) → IsReadyHere job seen notes h t k
       is_this e = let same : ◌≡◌ {A = ℕ × ℕ} g (t, k) = cc in subst (λ (p : ℕ × ℕ). IsReadyHere job seen notes h p.0 p.1) same some
 
+  -- where no group is ready here none is by the log
+  pub none_by_log : OwnersAreCurrent q job notes seen h.stage → ((t k : ℕ) → IsReadyHere job seen notes h t k → ⊥) → (t k : ℕ) → IsReadyAt q job log seen h t k → ⊥
+  none_by_log knows none t k ready = none t k (ready_by_host knows t k ready)
+
   -- the group that was ready here is applied by the log too
   pub applies_group : (new : Hosted Cell) (t k : ℕ) (woke : List ℕ) → IsReadyHere job seen notes h t k → IsApplied q job t k h new → woke ≡ woken_by q h t k → AppliesGroup q job log seen h new t k woke
   applies_group new t k woke ready applied same = record {

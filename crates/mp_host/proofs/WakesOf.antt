@@ -1,6 +1,6 @@
 -- Which states have a wake.
 use Rattle.std.proofs.Common.{◌≡◌, ◌&&◌, ◌||◌, ◌==◌, ℕ, Bool, true, false, List, [], ◌∷◌, All, refl, sym, ◌∙◌}
-use Rattle.std.proofs.lemmas.Bool.{eq-eqb, or_left}
+use Rattle.std.proofs.lemmas.Bool.{eq-eqb, or_left, or_right}
 use Rattle.std.proofs.lemmas.List.Elements.{All-head, All-tail, All-weaker}
 use Rattle.std.specs.List.{list_any}
 use Rattle.mp_bins.specs.Bins.{bin_of_key}
@@ -40,3 +40,11 @@ by_first r a b e f = f ∙ sym (or_left a b (sym e ∙ f))
 
 pub by_second : (r s a b : Bool) → r ≡ a → r ≡ false → s ≡ b → s ≡ (a || b)
 by_second r s a b e f g = rw (← e, f) g
+
+-- where the second is asked for first
+pub by_second_alone : (r a b : Bool) → r ≡ b → r ≡ true → r ≡ (a || b)
+by_second_alone r a b e f = f ∙ sym (or_right a b (sym e ∙ f))
+
+pub by_first_then : (r s a b : Bool) → r ≡ b → r ≡ false → s ≡ a → s ≡ (a || b)
+by_first_then r s true b e f g = g
+by_first_then r s false b e f g = g ∙ (sym f ∙ e)

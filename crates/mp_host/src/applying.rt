@@ -108,7 +108,7 @@ impl<'a, Q: Query, J: Naming> Host<'a, Q, J> {
         let mut list = times
             .iter()
             .copied()
-            .filter(|time| !self.waits(*time, key))
+            .filter(|time| !self.waits_at_post(*time, key))
             .collect(alloc)?;
         put_in_order(&mut list);
         Ok(list)
@@ -133,7 +133,7 @@ impl<'a, Q: Query, J: Naming> Host<'a, Q, J> {
             IfOk result (λ v. v.items ≡ q.gives h.stage (cell_at (q.fresh h.stage) J.job.shape.bins h time key) (group_here h time key)) }
         ensures unchanged { OnErr result (self.new ≡ self.old) }
     {
-        let woken = self.is_woken(time, key);
+        let woken = self.is_first_woken(time, key);
         let Some(at) = self.place_at(time, key) else {
             unreachable!()
         };

@@ -1,5 +1,5 @@
 //! How many groups wait at a time, and how much a group may give.
-ghost use Rattle.std.specs.Prelude.{◌≡◌, ◌≤◌, ◌+◌, ◌<◌, ◌-◌, ◌^◌, ℕ, IsSome, drop, length, min, option_map, true};
+ghost use Rattle.std.specs.Prelude.{◌≡◌, ◌≤◌, ◌+◌, ◌<◌, ◌-◌, ◌^◌, ℕ, IfNone, IfSome, IsSome, Some, drop, length, min, option_map, true};
 ghost use Rattle.mp_names.specs.Frontiers.{number_at};
 ghost use Rattle.mp_names.specs.Logs.{Log, LogIsLegal, is_pending};
 ghost use Rattle.mp_names.specs.Outlines.{groups_of};
@@ -9,8 +9,8 @@ ghost use Rattle.mp_model.specs.Stages.{stage_records};
 ghost use Rattle.mp_outline.specs.JobOutline.{outline_of};
 ghost use Rattle.mp_outline.specs.Laws.{group_at};
 ghost use Rattle.mp_host_laws.specs.Applying.{group_here, posts_here, woken_by};
-ghost use Rattle.mp_host_laws.specs.Hosted.{cell_at, keys_at, state_at};
-ghost use Rattle.mp_host_laws.specs.HostOf.{IsHostOf, HostMatchesLogAndSeen, OwnersAreCurrent};
+ghost use Rattle.mp_host_laws.specs.Hosted.{cell_at, first_group, keys_at, state_at};
+ghost use Rattle.mp_host_laws.specs.HostOf.{IsHostOf, IsReadyAt, HostMatchesLogAndSeen, OwnersAreCurrent};
 ghost use Rattle.mp_host.specs.Hosts.{IsHosted};
 ghost use Rattle.mp_host.specs.Ready.{IsReadyHere};
 ghost use Rattle.mp_host.specs.Waiting.{begins_unwoken, is_new, new_keys, unwoken_keys, woken_keys};
@@ -103,26 +103,47 @@ impl<'a, Q: Query, J: Naming> Host<'a, Q, J> {
     }
 
     /// No fewer than the outputs and the new wakes of the group that may be applied, or 2^64 - 1 where that is greater: what
-    /// the query says of its outputs, and the posts of its records. 0 where there is none. The worker's log and the owners
-    /// are as for `apply`. Takes no memory.
-    pub fn most(&self, alloc: Global, seen: &Seen, owners: &Owners) -> u64
+    /// the query says of its outputs, and the posts of its records. `None` exactly where no group may be applied (`ready`).
+    /// The worker's log and the owners are as for `apply`. Takes no memory.
+    pub fn most_if_ready(&self, alloc: Global, seen: &Seen, owners: &Owners) -> Option<u64>
         requires shape { owners.now.shape ≡ J.job.shape }
         requires informed { let q = Q.facts J.job.rules in
             (log : Log) × HostMatchesLogAndSeen q J.job log seen.now self.now × OwnersAreCurrent q J.job owners.now seen.now self.now.stage }
-        ensures ready { let q = Q.facts J.job.rules in let h = self.now in
-            (t k : ℕ) → IsReadyHere J.job seen.now owners.now h t k
-            → result ≡ min (q.most h.stage (cell_at (q.fresh h.stage) J.job.shape.bins h t k) (group_here h t k) + length (posts_here q h t k)) (2 ^ 64 - 1) }
-        ensures none { ((t k : ℕ) → ¬ IsReadyHere J.job seen.now owners.now self.now t k) → result ≡ 0 }
+
+        // Whether there is such a group.
+        ensures some { IfSome result (λ _. (t : ℕ) × (k : ℕ) × IsReadyHere J.job seen.now owners.now self.now t k) }
+        ensures none { IfNone result ((t k : ℕ) → ¬ IsReadyHere J.job seen.now owners.now self.now t k) }
+        ensures none_by_log { let q = Q.facts J.job.rules in
+            IfNone result ((log : Log) → HostMatchesLogAndSeen q J.job log seen.now self.now → OwnersAreCurrent q J.job owners.now seen.now self.now.stage
+            → (t k : ℕ) → ¬ IsReadyAt q J.job log seen.now self.now t k) }
+
+        // What it may give.
+        ensures most { let q = Q.facts J.job.rules in let h = self.now in
+            IfSome result (λ most. (t k : ℕ) → IsReadyHere J.job seen.now owners.now h t k
+            → most ≡ min (q.most h.stage (cell_at (q.fresh h.stage) J.job.shape.bins h t k) (group_here h t k) + length (posts_here q h t k)) (2 ^ 64 - 1)) }
         ensures enough { let q = Q.facts J.job.rules in let h = self.now in let j = h.stage in
-            (t k : ℕ) → IsReadyHere J.job seen.now owners.now h t k → result < 2 ^ 64 - 1
-            → length (q.gives j (cell_before q j (stage_records q J.job.events j) k t) (group_at q J.job j t k)) + length (woken_by q h t k) ≤ result }
+            IfSome result (λ most. (t k : ℕ) → IsReadyHere J.job seen.now owners.now h t k → most < 2 ^ 64 - 1
+            → length (q.gives j (cell_before q j (stage_records q J.job.events j) k t) (group_at q J.job j t k)) + length (woken_by q h t k) ≤ most) }
     {
         let Some((time, key)) = self.first_ready(seen, owners) else {
-            return 0;
+            return None;
         };
+        Some(self.most_of_first(alloc, time, key))
+    }
+
+    // No fewer than the outputs and the new wakes of the first group, whose bin is in hand, where the sums and counts of its
+    // key's cell with it fit their types; or 2^64 - 1 where that is greater.
+    fn most_of_first(&self, alloc: Global, time: Time, key: u64) -> u64
+        requires first { first_group self.now ≡ Some (time, key) }
+        requires in_hand { IsSome (state_at self.now (bin_of_key key J.job.shape.bins) time) }
+        requires fits { let q = Q.facts J.job.rules in let h = self.now in
+            q.fits h.stage (cell_at (q.fresh h.stage) J.job.shape.bins h time key) (group_here h time key) ≡ true }
+        ensures { let q = Q.facts J.job.rules in let h = self.now in
+            result ≡ min (q.most h.stage (cell_at (q.fresh h.stage) J.job.shape.bins h time key) (group_here h time key) + length (posts_here q h time key)) (2 ^ 64 - 1) }
+    {
         let query = self.job.query();
         let recs = first_records(&self.records, time, key);
-        let group = Group::new(time, key, self.is_woken(time, key), recs);
+        let group = Group::new(time, key, self.is_first_woken(time, key), recs);
         let outputs = self.most_outputs(alloc, &group);
         outputs.saturating_add(count_posts(query, self.stage, recs))
     }

@@ -44,6 +44,18 @@ impl<'a, Q: Query, J: Naming> Host<'a, Q, J> {
         Ok(numbers)
     }
 
+    /// Sorts the wakes of the bin's state that is in hand just before a time, if there is one, so that `leaving` here and
+    /// `coming` where the bin goes count them faster. `AllocError`: no memory. The host is as it was either way.
+    pub fn sort_wakes(&mut self, bin: u32, time: Time) -> Result<(), AllocError>
+        ensures { self.new ≡ self.old }
+    {
+        let Some(at) = self.place_before(bin, u128::from(time)) else {
+            return Ok(());
+        };
+        let one = &mut self.held[at];
+        one.state.wakes.sort()
+    }
+
     /// Takes out the bin's state that is in hand just before a time: the first here that began before it; `None` exactly where
     /// there is none, and then nothing changes. Takes no memory, and leaves room to put it back.
     pub fn take_bin(&mut self, bin: u32, time: Time) -> Option<Held<Q::Cell>>

@@ -3,7 +3,7 @@ ghost use Rattle.std.specs.Prelude.{◌≡◌, ◌==◌, ◌↔◌, ℕ, suc, So
 ghost use Rattle.mp_names.specs.Logs.{Log};
 ghost use Rattle.mp_bins.specs.Bins.{bin_of_key};
 ghost use Rattle.mp_bins.specs.Notes.{owner_at};
-ghost use Rattle.mp_host_laws.specs.Hosted.{first_group, first_wake_of, is_held_before};
+ghost use Rattle.mp_host_laws.specs.Hosted.{StandsInOrder, first_group, first_wake_of, has_wake_at, is_held_before};
 ghost use Rattle.mp_host_laws.specs.HostOf.{HostMatchesLogAndSeen, IsReadyAt, OwnersAreCurrent};
 ghost use Rattle.mp_host.specs.Hosts.{IsHosted};
 ghost use Rattle.mp_host.specs.Ready.{IsReadyHere};
@@ -57,9 +57,18 @@ impl<'a, Q: Query, J: Naming> Host<'a, Q, J> {
         earlier_of(record, self.first_wake())
     }
 
+    // Whether the key of the first group is to be woken at its time: the first wake is then that group's.
+    pub(crate) fn is_first_woken(&self, time: Time, key: u64) -> bool
+        requires { first_group self.now ≡ Some (time, key) }
+        ensures { result ≡ has_wake_at self.now time key }
+    {
+        self.first_wake() == Some((time, key))
+    }
+
     // The first wake of the states in hand, by time and then by key.
     fn first_wake(&self) -> Option<(Time, u64)>
-        ensures { result ≡ first_wake_of self.now.held }
+        ensures first { result ≡ first_wake_of self.now.held }
+        ensures denotes { StandsInOrder (Q.facts J.job.rules) J.job self.now }
     {
         self.firsts.first()
     }

@@ -1,11 +1,12 @@
 //! What a group makes of the state of its key's bin.
-ghost use Rattle.std.specs.Prelude.{◌≡◌, ◌≢◌, ◌↔◌, ◌⊎◌, ◌==◌, ℕ, true, cond, Contains, IfOk, OnErr, OnOk};
+ghost use Rattle.std.specs.Prelude.{◌≡◌, ◌≢◌, ◌↔◌, ◌⊎◌, ◌==◌, ◌≤◌, ℕ, true, cond, Contains, IfOk, OnErr, OnOk};
 ghost use Rattle.mp_msg.specs.States.{IsInOrder, cell_in};
 ghost use Rattle.mp_postdated.specs.Wakes.{Has, IsWake};
 
 use crate::cells::{most_in, step_in};
 use mp_model::{Group, Query, Time, Value};
 use mp_msg::BinState;
+use mp_postdated::Wakes;
 use std::alloc::{AllocError, Global};
 
 /// Applies a group to the state of its key's bin: the outputs, in order. Its wake is used up, the times that its records
@@ -20,6 +21,7 @@ pub fn step_state<Q: Query>(
 ) -> Result<Vec<Value>, AllocError>
     requires fits { let q = Q.facts (Q.rules query.now) in
         q.fits stage (cell_in (q.fresh stage) state.old.cells group.now.key) group.now ≡ true }
+    requires woken { Has state.old.wakes group.now.time group.now.key → group.now.woken ≡ true }
     ensures wakes { OnOk result ((t k : ℕ) → Has state.new.wakes t k
         ↔ ((Has state.old.wakes t k × (IsWake group.now.time group.now.key (t, k) → ⊥)) ⊎ ((k ≡ group.now.key) × Contains posts.now t))) }
     ensures cells { let q = Q.facts (Q.rules query.now) in
@@ -35,10 +37,20 @@ pub fn step_state<Q: Query>(
 {
     state.wakes.make_room(posts.len())?;
     let outputs = step_in(alloc, query, stage, &mut state.cells, group)?;
-    let key = group.key();
-    state.wakes.take_due(group.time(), key);
-    state.wakes.add_all(key, posts);
+    take_wake(&mut state.wakes, group);
+    state.wakes.add_all(group.key(), posts);
     Ok(outputs)
+}
+
+// Takes the wake of a group out, if it has one.
+fn take_wake(wakes: &mut Wakes, group: &Group)
+    requires { Has wakes.old.wakes group.now.time group.now.key → group.now.woken ≡ true }
+    ensures exact { (t k : ℕ) → Has wakes.new.wakes t k ↔ (Has wakes.old.wakes t k × (IsWake group.now.time group.now.key (t, k) → ⊥)) }
+    ensures room { wakes.old.room ≤ wakes.new.room }
+{
+    if group.is_woken() {
+        wakes.take_due(group.time(), group.key());
+    }
 }
 
 /// No fewer than the outputs that a group of a key of the state's bin will give.

@@ -27,6 +27,14 @@ impl<'a, Q: Query, J: Naming> Host<'a, Q, J> {
         self.has_record(time, key) || self.is_woken(time, key)
     }
 
+    // Whether the group of a key waits at a time that a record of the key posts. Others often posted it before, so the wake is
+    // asked for first.
+    pub(crate) fn waits_at_post(&self, time: Time, key: u64) -> bool
+        ensures { result ≡ waits_at self.now time key }
+    {
+        self.is_woken(time, key) || self.has_record(time, key)
+    }
+
     pub(crate) fn has_record(&self, time: Time, key: u64) -> bool
         ensures here { result ≡ list_any (is_of time key) self.now.records }
         ensures hosted { IsHosted (Q.facts J.job.rules) J.job J.job self.now }

@@ -1,8 +1,8 @@
 -- What becomes of the parts of a worker where a group is applied.
-use Rattle.std.proofs.Common.{IfSome, None, Option, is_some, not, ◌≡◌, ◌≢◌, ◌↔◌, ℕ, suc, ◌+◌, ◌<◌, ◌≤◌, ◌⊎◌, ◌==◌, Bool, true, false, if◌then◌else◌, List, [], ◌∷◌, ◌++◌, All, AllPairs, Contains, IsSome, Some, drop, get_or, length, map, pos, set, slice_get, take, sym, ap, ◌∙◌, subst, ⊎_elim, arith}
+use Rattle.std.proofs.Common.{◌≡◌, ◌≢◌, ◌↔◌, ℕ, suc, ◌+◌, ◌<◌, ◌≤◌, ◌⊎◌, ◌==◌, Bool, true, false, if◌then◌else◌, List, [], ◌∷◌, ◌++◌, All, AllPairs, Contains, IsSome, Some, drop, get_or, length, map, pos, set, slice_get, take, sym, ap, ◌∙◌, subst, ⊎_elim, arith}
 use Rattle.std.proofs.Math.ListN.{drop_of_length-le}
 use Rattle.std.proofs.Math.Seq.{take-length}
-use Rattle.std.proofs.lemmas.Bool.{cases_order, false≢true}
+use Rattle.std.proofs.lemmas.Bool.{cases_order}
 use Rattle.std.proofs.lemmas.List.{append-nil, length-map}
 use Rattle.std.proofs.lemmas.Option.{slice_get-get_or}
 use Rattle.mp_names.specs.declared.kinds.Kind.TheVariants.{Apply}
@@ -74,11 +74,6 @@ module _ {Cell : Type 0} (q : QueryFacts Cell) (job : JobFacts) (w : ℕ) (log :
   -- routers that hold what others do
   routers_still : (old new : List Routed) → map content new ≡ map content old → AtEach old (IsRouterAt q job w log) → AtEach new (IsRouterAt q job w log)
   routers_still = same_each content (IsRouterAt q job w log) (λ j x y is at. content_router j y (subst (IsRouterAt q job w log j) (sym is) (router_content j x at)))
-
--- where there is something, not none of it is so
-pub not_none : {A : Type 0} {P : A → Type 0} (r : Option A) (none : Bool) → is_some r ≡ not none → none ≡ false → IfSome r P → ((a : A) → P a → ⊥) → ⊥
-not_none (Some a) none is said so denies = denies a so
-not_none None none is said so denies = false≢true (is ∙ ap not said)
 
 -- the host that is found is the one that stands there
 pub same_host_there : {Cell : Type 0} (hosts : List (Hosted Cell)) (j : ℕ) (here h : Hosted Cell) → j < length hosts → here ≡ get_or hosts j here → slice_get hosts j ≡ Some h → h ≡ here

@@ -2,7 +2,7 @@
 use Rattle.std.proofs.Common.{◌≡◌, ◌↔◌, ◌⊎◌, ℕ, ◌==◌, Bool, true, false, cond, not, nat_eq, ◌&&◌, ◌||◌, IsTrue, List, [], ◌∷◌, length, IsPermutation, refl, sym, ap, ◌∙◌, subst, ◌<◌, inl, inr, arith}
 use Rattle.std.proofs.lemmas.Bool.{false≢true}
 use Rattle.std.proofs.lemmas.List.Kept.{IsStrictlySortedBy-filter}
-use Rattle.std.proofs.lemmas.List.Sorted.{IsPermutation-cons, IsPermutation-refl, IsPermutation-sym, IsPermutation-trans}
+use Rattle.std.proofs.lemmas.List.Sorted.{Contains-permutation, IsPermutation-cons, IsPermutation-refl, IsPermutation-sym, IsPermutation-trans}
 use Rattle.std.proofs.lemmas.Map.Keys.{IsDistinct-head, IsDistinct-tail}
 use Rattle.std.specs.List.{AllByRecursion, IsDistinct, list_any}
 use Rattle.std.specs.List.Sorted.{IsStrictlySortedBy}
@@ -32,6 +32,15 @@ has-ordered ws t k = (
 pub is_ordered : (ws vs : List (ℕ × ℕ)) → IsAscending vs → ((t k : ℕ) → Has ws t k ↔ Has vs t k) → ordered ws ≡ vs
 is_ordered ws vs a same =
     same_wakes (ordered ws) vs (ordered-ascends ws) a (λ t k h. (same t k).0 ((has-ordered ws t k).0 h)) (λ t k h. (has-ordered ws t k).1 ((same t k).1 h))
+
+-- wakes in another order are the same
+pub ordered-reordered : (ws vs : List (ℕ × ℕ)) → IsPermutation ws vs → ordered vs ≡ ordered ws
+ordered-reordered ws vs moved =
+    is_ordered vs (ordered ws) (ordered-ascends ws)
+    (λ t k. (
+      λ h. (has-ordered ws t k).1 (Contains-permutation vs ws (t, k) (IsPermutation-sym ws vs moved) h),
+      λ h. Contains-permutation ws vs (t, k) moved ((has-ordered ws t k).0 h),
+    ))
 
 module _ (eq : ℕ × ℕ → ℕ × ℕ → Bool) (exact : (v w : ℕ × ℕ) → eq v w ≡ eq_by_cmp wake_cmp v w) where
   none_equal : (w : ℕ × ℕ) (ws : List (ℕ × ℕ)) → AllByRecursion (λ v. eq w v ≡ false) ws → list_any (eq_by_cmp wake_cmp w) ws ≡ false

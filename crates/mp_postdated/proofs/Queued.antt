@@ -2,7 +2,7 @@
 use Rattle.std.proofs.Common.{◌≡◌, ◌⊎◌, ℕ, zero, suc, ◌<◌, ◌≤◌, ◌+◌, Bool, true, false, not, List, [], ◌∷◌, Option, None, Some, IfSome, IsSome, OnSome, IsPermutation, Contains, cond, drop, length, get_or, slice_get, slice_index_or, refl, sym, ap, ◌∙◌, subst, inl, inr, ⊎_elim, arith}
 use Rattle.std.proofs.lemmas.Bool.{false≢true}
 use Rattle.std.proofs.lemmas.Cmp.{tied_itself}
-use Rattle.std.proofs.lemmas.List.Sorted.{Contains-permutation}
+use Rattle.std.proofs.lemmas.List.Sorted.{Contains-permutation, IsPermutation-sym}
 use Rattle.std.proofs.lemmas.Map.Keys.{sorted_head}
 use Rattle.std.specs.BinaryHeap.{IsHeap, IsUpperBound, PopsGreatest, lt_by_cmp}
 use Rattle.std.specs.Bool.{OnFalse}
@@ -14,7 +14,7 @@ use Rattle.std.specs.declared.cmp.Ordering.TheVariants.{Less}
 use Rattle.std.specs.declared.cmp.Reverse.{Reverse}
 use Rattle.mp_postdated.proofs.Membership.{remove_key-is_without_wake, wake_cmp-total}
 use Rattle.mp_postdated.proofs.Ordered.{Finds, has-ordered, has_found, has_in, is_ordered, same_pair}
-use Rattle.mp_postdated.specs.Wakes.{AreQueued, BeginsLive, ComesNoLater, Has, IsAscending, IsWake, ordered, queue_cmp, reversed, wake_cmp, without_wake}
+use Rattle.mp_postdated.specs.Wakes.{AreQueued, BeginsLive, ComesNoLater, Has, IsAscending, IsQueueOf, IsWake, ordered, queue_cmp, reversed, wake_cmp, without_wake}
 
 nothing_in_nil : {X : Type 0} (x : X) → Contains [] x → ⊥
 nothing_in_nil x h = let l : h.0 < 0 = h.1 in omega arith
@@ -73,6 +73,18 @@ module _ (live : List (ℕ × ℕ)) where
       (λ (i : Contains live w). let q = all w i in let l : q.0 < length old = q.1 in (suc q.0, omega arith, q.2))
       (λ (same : IsWake t k w). subst (λ (v : ℕ × ℕ). Contains (reversed (t, k) ∷ old) (reversed v)) (λ i. (sym same.0 i, sym same.1 i)) (0, omega arith, refl))
       ((has_in t k live more f w.0 w.1).0 there))
+
+  begins_reordered : (more : List (ℕ × ℕ)) (o : Option (Reverse (ℕ × ℕ))) → IsPermutation live more → IfSome o (λ r. Contains live r.0) → IfSome o (λ r. Contains more r.0)
+  begins_reordered more None moved begins = begins
+  begins_reordered more (Some r) moved begins = Contains-permutation live more r.0 moved begins
+
+  -- a queue of live wakes is that of the same wakes in another order
+  pub queue-reordered : (more : List (ℕ × ℕ)) (queue : List (Reverse (ℕ × ℕ))) → IsPermutation live more → IsQueueOf live queue → IsQueueOf more queue
+  queue-reordered more queue moved is_queue = record {
+    heap = is_queue.heap;
+    all = λ w there. is_queue.all w (Contains-permutation more live w (IsPermutation-sym live more moved) there);
+    first = begins_reordered more (slice_get queue 0) moved is_queue.first;
+  }
 
   no_later : (v w : ℕ × ℕ) → is_lt (wake_cmp w v) ≡ false → ComesNoLater v w
   no_later v w e = grind arith

@@ -42,6 +42,7 @@ pub fn extract<'a, Q: Query, J: Naming, P: Post<Msg<Q, J>>>(
     let Some(moved) = due(parts, stage) else {
         return Ok(None);
     };
+    sort_wakes(parts, stage, moved)?;
     let changes = make_room_to_extract(parts, stage, moved)?;
     send_bin(parts, stage, moved, changes, post)
 }
@@ -55,6 +56,20 @@ fn due<'a, Q: Query, J: Naming>(parts: &Parts<'a, Q, J>, stage: u32) -> Option<M
         IfSome result (IsDueNow o s.number s.log s.seen stage) }
 {
     parts.movers[stage as usize].due(&parts.seen, &parts.owners)
+}
+
+// Sorts the wakes of the bin that is to leave, so that they are counted faster here and where it comes. `AllocError`: no
+// memory. Nothing changes either way.
+fn sort_wakes<'a, Q: Query, J: Naming>(
+    parts: &mut Parts<'a, Q, J>,
+    stage: u32,
+    moved: Move,
+) -> Result<(), AllocError>
+    requires stage { stage < J.job.shape.stages }
+    ensures { parts.new.worker ≡ parts.old.worker }
+{
+    let host = &mut parts.hosts[stage as usize];
+    host.sort_wakes(moved.bin, moved.time)
 }
 
 // Makes room for a packet that is sent, and the list of the changes that it brings. `AllocError`: no memory, and nothing

@@ -1,5 +1,5 @@
 -- What a worker keeps to where its parts are others, and what its parts say of its steps.
-use Rattle.std.proofs.Common.{◌≡◌, ◌<◌, ℕ, List, [], ◌∷◌, None, Some, refl}
+use Rattle.std.proofs.Common.{◌≡◌, ◌<◌, ℕ, List, [], ◌∷◌, IfNone, None, Option, Some, refl}
 use Rattle.mp_names.specs.declared.kinds.Kind.{Kind}
 use Rattle.mp_names.specs.declared.kinds.Kind.TheVariants.{Receive}
 use Rattle.mp_names.specs.declared.names.Name.{Name}
@@ -26,6 +26,11 @@ module _ {Cell : Type 0} {q : QueryFacts Cell} {job its : JobFacts} {p : Parts C
   -- where the parts hold what these names say, a worker whose log has them keeps to what it is to
   pub kept_by : (new : WorkerLog) {made : Parts Cell} → new.worker ≡ made.number → new.log ≡ made.log → ArePartsOf q job made → IsKept q job its (record made { number = new.worker; log = new.log })
   kept_by new e f are = kept_as (rw (e, f) are)
+
+-- what follows from what holds on `None`
+pub on_none : {A : Type 0} (o : Option A) {P Q : Type 0} → IfNone o P → (P → Q) → IfNone o Q
+on_none None p f = f p
+on_none (Some a) p f = tt
 
 -- the worker as contracts see it
 abbrev pub state : {Cell : Type 0} → Parts Cell → WorkerState

@@ -57,10 +57,7 @@ impl<'a, Q: Query, J: Naming> Parts<'a, Q, J> {
             → IsEnoughFor (Q.facts J.job.rules) J.job stage most self.now) }
     {
         let host = &self.hosts[stage as usize];
-        if host.ready(&self.seen, &self.owners).is_none() {
-            return None;
-        }
-        Some(host.most(self.alloc, &self.seen, &self.owners))
+        host.most_if_ready(self.alloc, &self.seen, &self.owners)
     }
 
     // Makes room for a group that gives and wakes no more than `most` in all, and whose outputs go to a stage, and the list of

@@ -44,12 +44,13 @@ fn bin_is_installed<J: Naming>(
     bin_comes_back(rt, alloc, &mut host)
 }
 
-// The bin leaves with the wake at 15, and comes back with it.
+// The bin leaves with the wake at 15, once its wakes are sorted, and comes back with it.
 fn bin_comes_back<J: Naming>(
     rt: &impl Abort,
     alloc: Global,
     host: &mut Host<'_, AnsweringBids, J>,
 ) -> Result<(), Fail> {
+    host.sort_wakes(1, 20)?;
     assert_eq!(rt;
         host.leaving(alloc, 1, 20)?.as_slice(),
         [(15, 1)].as_slice()

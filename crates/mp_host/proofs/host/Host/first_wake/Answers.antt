@@ -4,8 +4,8 @@ use Rattle.mp_host_laws.specs.Hosted.{StateStands}
 use Rattle.mp_host.proofs.FirstWakes.{firsts_tell}
 use Rattle.mp_host.proofs.host.Host.first_wake.Goals as goal
 
-pub returns : goal.returns
-returns g c =
+pub returns-clause-first : goal.returns-clause-first
+returns-clause-first g c =
     let i = c.self.inside in
     let job = g.J.Naming.job in
     let stand = All-weaker (StateStands (g.Q.Query.facts job.rules) job i.stage) (λ s. s.bin < job.shape.bins) (λ s f. f.bin) i.held.items c.self.invariant.order.states in

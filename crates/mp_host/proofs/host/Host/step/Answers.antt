@@ -10,6 +10,7 @@ use Rattle.mp_msg.specs.Contents.{IsRecordOf}
 use Rattle.mp_ordered.specs.InOrder.{IsInOrder}
 use Rattle.mp_ordered.proofs.Placing.{pairs_drop}
 use Rattle.mp_host_laws.specs.Hosted.{group_rank}
+use Rattle.mp_host_laws.proofs.Waiting.{state_wakes}
 use Rattle.mp_host.specs.Hosts.{hosted_of}
 use Rattle.mp_host.specs.Spans.{AreSpans}
 use Rattle.mp_host.proofs.FirstWakes.{others_changed}
@@ -38,12 +39,22 @@ step_state-requires-clause-fits g c = λ κs b.
     let i = c.self.inside in
     let h = hosted_of i.stage i.worker i.records i.held.items (vec_capacity i.held - length i.held.items) in
     let rules = c.query-query.ensures ∙ ap (λ (j : JobFacts). j.rules) c.self.invariant.same in
-    let woken = rw (← c.self.view_is) at c.is_woken-woken.ensures in
+    let woken = rw (← c.self.view_is) at c.is_first_woken-woken.ensures in
     let is = group_is h c.args.time c.args.key c.new-group.result _ _ c.new-group.ensures woken c.first_records-recs.ensures.records in
     let place = rw (← c.self.view_is) at (sym c.in-Some.ensures) in
     let cell = cell_here (q.fresh i.stage) job.shape.bins h c.args.time c.args.key c.in-Some.at place c.index_mut-one.result.now c.index_mut-one.ensures.value in
     let fits = rw (← c.self.view_is) at c.requires.fits in
     rw (rules, is, ← cell) fits
+
+pub step_state-requires-clause-woken : goal.step_state-requires-clause-woken
+step_state-requires-clause-woken g c = λ κs b.
+    let i = c.self.inside in
+    let h = hosted_of i.stage i.worker i.records i.held.items (vec_capacity i.held - length i.held.items) in
+    let one = c.index_mut-one.result.now in
+    let woken = rw (← c.self.view_is) at c.is_first_woken-woken.ensures in
+    let place = rw (← c.self.view_is) at (sym c.in-Some.ensures) in
+    let at = place_is _ i.held.items c.in-Some.at place one in
+    rw c.new-group.ensures (λ there. woken ∙ state_wakes h c.args.time c.args.key one (c.in-Some.at, at.inside, sym c.index_mut-one.ensures.value) there)
 
 pub invariant_of-self-inside-2 : goal.invariant_of-self-inside-2
 invariant_of-self-inside-2 g c =
@@ -100,7 +111,7 @@ returns-clause-applied g c =
     let state = c.step_state.new.state in
     let posts = rw (← c.self.view_is) at c.requires.posts in
     let rules = c.query-query.ensures ∙ ap (λ (j : JobFacts). j.rules) c.self.invariant.same in
-    let woken = rw (← c.self.view_is) at c.is_woken-woken.ensures in
+    let woken = rw (← c.self.view_is) at c.is_first_woken-woken.ensures in
     let is = group_is h c.args.time c.args.key c.new-group.result _ _ c.new-group.ensures woken c.first_records-recs.ensures.records in
     let place = rw (← c.self.view_is) at (sym c.in-Some.ensures) in
     let wakes = rw (c.new-group.ensures, posts) at c.in_ok-outputs.ensures.wakes in
@@ -115,7 +126,7 @@ returns-clause-outputs g c =
     let i = c.self.inside in
     let h = hosted_of i.stage i.worker i.records i.held.items (vec_capacity i.held - length i.held.items) in
     let rules = c.query-query.ensures ∙ ap (λ (j : JobFacts). j.rules) c.self.invariant.same in
-    let woken = rw (← c.self.view_is) at c.is_woken-woken.ensures in
+    let woken = rw (← c.self.view_is) at c.is_first_woken-woken.ensures in
     let is = group_is h c.args.time c.args.key c.new-group.result _ _ c.new-group.ensures woken c.first_records-recs.ensures.records in
     let place = rw (← c.self.view_is) at (sym c.in-Some.ensures) in
     let cell = cell_here (q.fresh i.stage) job.shape.bins h c.args.time c.args.key c.in-Some.at place c.index_mut-one.result.now c.index_mut-one.ensures.value in
