@@ -37,15 +37,11 @@ impl LineKind {
     pub fn of(fields: &FieldList) -> Option<LineKind>
         ensures { result ≡ kind_of (field_at fields.now 0) }
     {
-        let first = fields.get(0)?;
-        if first == b"P".as_slice() {
-            Some(LineKind::Person)
-        } else if first == b"A".as_slice() {
-            Some(LineKind::Auction)
-        } else if first == b"B".as_slice() {
-            Some(LineKind::Bid)
-        } else {
-            None
+        match fields.get(0)? {
+            [b'P'] => Some(LineKind::Person),
+            [b'A'] => Some(LineKind::Auction),
+            [b'B'] => Some(LineKind::Bid),
+            _ => None,
         }
     }
 

@@ -33,6 +33,16 @@ is_read limit field n e = cases (is_number field) (nat_le (value_of field) (boun
     cases true false e = absurd (cc)
     cases false low e = absurd (cc)
 
+-- the number that was read isn't above it
+pub is_read-low : (limit : NumberLimit) (field : List ℕ) (n : ℕ) → Ok n ≡ number_of field (bound_of limit) → n ≤ bound_of limit
+unfolding number_of
+is_read-low limit field n e = cases (is_number field) (nat_le (value_of field) (bound_of limit)) refl e
+  where
+    cases : (digits low : Bool) → nat_le (value_of field) (bound_of limit) ≡ low → Ok n ≡ cond digits (cond low (Ok (value_of field)) (Err Range)) (Err Digits) → n ≤ bound_of limit
+    cases true true is e = let same : n ≡ value_of field = cc in omega (arith, same, leb-true _ _ is)
+    cases true false is e = absurd (cc)
+    cases false low is e = absurd (cc)
+
 -- and is within the limit
 pub within_limit : (limit : NumberLimit) (field : List ℕ) (n : ℕ) → Ok n ≡ number_of field (bound_of limit) → is_within limit n ≡ true
     → AnswersChecks (Ok n) (failures_of_number limit field) (λ m. m ≡ value_of field)

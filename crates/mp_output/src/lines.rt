@@ -9,6 +9,9 @@ use mp_row_text::put_line;
 use std::alloc::{AllocError, Global};
 use std::collections::VecDeque;
 
+/// Bytes that most lines need no more than, so that one allocation serves most answers.
+const ROOM_FOR_LINE: usize = 32;
+
 /// The lines of the first rows, so many of them. `AllocError`: no memory.
 pub fn lines_of_first(
     alloc: Global,
@@ -18,7 +21,7 @@ pub fn lines_of_first(
     requires { count ≤ length rows.now.items }
     ensures { IfOk result (λ v. v.items ≡ lines_of (take count rows.now.items)) }
 {
-    let mut lines = Vec::new(alloc);
+    let mut lines = Vec::with_capacity(alloc, count.saturating_mul(ROOM_FOR_LINE))?;
     let mut left = count;
     for block in rows.as_blocks() {
         if left <= block.len() {

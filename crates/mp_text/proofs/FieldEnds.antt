@@ -1,7 +1,8 @@
 -- Where the fields of a line end, and where they stand in it.
-use Rattle.std.proofs.Common.{◌≡◌, ◌<◌, ◌≤◌, ◌+◌, ◌-◌, ℕ, zero, suc, Bool, List, [], ◌∷◌, ◌++◌, length, get_or, refl, ap, sym, ◌∙◌, arith, take, drop, min, ⊎_elim, length-take, get_or-take, length-drop, length-append}
+use Rattle.std.proofs.Common.{◌≡◌, ◌<◌, ◌≤◌, ◌+◌, ◌-◌, ◌≢◌, ℕ, zero, suc, Bool, true, false, List, [], ◌∷◌, ◌++◌, length, get_or, refl, ap, sym, ◌∙◌, arith, take, drop, min, ⊎_elim, length-take, get_or-take, length-drop, length-append}
+use Rattle.std.specs.Prelude.{if◌then◌else◌}
 use Rattle.std.specs.List.{slice_split, join_with_byte, onto_first}
-use Rattle.std.proofs.lemmas.Bool.{cases_Bool, cond-true, cond-false}
+use Rattle.std.proofs.lemmas.Bool.{cases_Bool, cond-true, cond-false, eq-eqb, ne_eqb}
 use Rattle.std.proofs.lemmas.List.{drop_more, drop_all, length_push, take_all, drop-drop, take_at, drop_at}
 use Rattle.std.proofs.lemmas.List.Splits.{slice_split-cons_yes, slice_split-cons_no, length-slice_split, join_with_byte-slice_split}
 use Rattle.memchr.specs.Find.{places_from, places}
@@ -41,7 +42,7 @@ ends_from-split p xs i (suc n) total =
     (cases_Bool (p (get_or xs i 0)))
 
 -- the fields of a line end at its separators and at its end
-pub ends_from-fields_of : (line : List ℕ) → ends_from 0 (fields_of line) ≡ places is_separator line ++ length line ∷ []
+ends_from-fields_of : (line : List ℕ) → ends_from 0 (fields_of line) ≡ places is_separator line ++ length line ∷ []
 unfolding fields_of
 ends_from-fields_of line =
     ends_from-split is_separator line 0 (length line) (omega arith)
@@ -50,12 +51,6 @@ ends_from-fields_of line =
 pub length-ends_from : (parts : List (List ℕ)) (place : ℕ) → length (ends_from place parts) ≡ length parts
 length-ends_from [] place = refl
 length-ends_from (part ∷ parts) place = ap suc (length-ends_from parts _)
-
--- a line has a field more than separators
-pub length-fields_of : (line : List ℕ) → length (fields_of line) ≡ length (places is_separator line) + 1
-length-fields_of line =
-    let ends : length (ends_from 0 (fields_of line)) ≡ length (places is_separator line ++ length line ∷ []) = ap length (ends_from-fields_of line) in
-    sym (length-ends_from (fields_of line) 0) ∙ ends ∙ length_push _ _
 
 -- the bytes of a line from start up to end are a field
 pub record StandsAt (line : List ℕ) (start end : ℕ) (field : List ℕ) : Type 0 where
@@ -167,3 +162,70 @@ held-past n line ends i same past low =
     let all : List ℕ = ends_from 0 (fields_of line) in
     let short : length ends ≡ min n (length all) = ap length same ∙ length-take n all in
     omega (arith, short, low, past, length-ends_from (fields_of line) 0)
+
+-- a choice to put an element first leaves the end of the list as it is
+kept : (first : Bool) (i : ℕ) (xs ys : List ℕ) → (if first then i ∷ (xs ++ ys) else xs ++ ys) ≡ (if first then i ∷ xs else xs) ++ ys
+kept true i xs ys = refl
+kept false i xs ys = refl
+
+-- one byte more, at k, which passes the test
+places_from-passes : (p : ℕ → Bool) (xs : List ℕ) (k i n : ℕ) → i + n ≡ k → p (get_or xs k 0) ≡ true → places_from p xs i (suc n) ≡ places_from p xs i n ++ k ∷ []
+unfolding places_from
+places_from-passes p xs k i zero at passes =
+    let here : k ≡ i = omega (arith, at) in
+    let told : p (get_or xs i 0) ≡ true = ap (λ j. p (get_or xs j 0)) (sym here) ∙ passes in
+    cond-true _ (i ∷ []) [] told ∙ ap (λ j. j ∷ []) (sym here)
+places_from-passes p xs k i (suc n) at passes =
+    ap (λ later. if p (get_or xs i 0) then i ∷ later else later) (places_from-passes p xs k (i + 1) n (omega (arith, at)) passes)
+    ∙ kept (p (get_or xs i 0)) i (places_from p xs (i + 1) n) (k ∷ [])
+
+-- and one that doesn't
+places_from-fails : (p : ℕ → Bool) (xs : List ℕ) (k i n : ℕ) → i + n ≡ k → p (get_or xs k 0) ≡ false → places_from p xs i (suc n) ≡ places_from p xs i n
+unfolding places_from
+places_from-fails p xs k i zero at fails =
+    let here : k ≡ i = omega (arith, at) in
+    let told : p (get_or xs i 0) ≡ false = ap (λ j. p (get_or xs j 0)) (sym here) ∙ fails in
+    cond-false _ (i ∷ []) [] told
+places_from-fails p xs k i (suc n) at fails =
+    ap (λ later. if p (get_or xs i 0) then i ∷ later else later) (places_from-fails p xs k (i + 1) n (omega (arith, at)) fails)
+
+-- the separators before a place of a line
+unfoldable pub separators_before : List ℕ → ℕ → List ℕ
+separators_before line place = places_from is_separator line 0 place
+
+-- there is none before the first
+pub separators_before-zero : (line : List ℕ) → separators_before line 0 ≡ []
+unfolding separators_before places_from
+separators_before-zero line = refl
+
+-- one more where the byte is a separator, and no more where it isn't
+pub separators_before-yes : (line : List ℕ) (place : ℕ) → get_or line place 0 ≡ 124 → separators_before line (place + 1) ≡ separators_before line place ++ place ∷ []
+unfolding separators_before
+separators_before-yes line place is =
+    ap (places_from is_separator line 0) (omega arith) ∙ places_from-passes is_separator line place 0 place (omega arith) (eq-eqb _ _ is)
+
+pub separators_before-no : (line : List ℕ) (place : ℕ) → get_or line place 0 ≢ 124 → separators_before line (place + 1) ≡ separators_before line place
+unfolding separators_before
+separators_before-no line place other =
+    ap (places_from is_separator line 0) (omega arith) ∙ places_from-fails is_separator line place 0 place (omega arith) (ne_eqb _ _ other)
+
+-- there are no more of them than places
+length-places_from : (p : ℕ → Bool) (xs : List ℕ) (i n : ℕ) → length (places_from p xs i n) ≤ n
+unfolding places_from
+length-places_from p xs i zero = omega arith
+length-places_from p xs i (suc n) = one_more (p (get_or xs i 0)) (length-places_from p xs (i + 1) n)
+  where
+    one_more : (first : Bool) → length (places_from p xs (i + 1) n) ≤ n
+        → length (if first then i ∷ places_from p xs (i + 1) n else places_from p xs (i + 1) n) ≤ suc n
+    one_more true few = omega (arith, few)
+    one_more false few = omega (arith, few)
+
+pub length-separators_before : (line : List ℕ) (place : ℕ) → length (separators_before line place) ≤ place
+unfolding separators_before
+length-separators_before line place = length-places_from is_separator line 0 place
+
+-- with the end of the line, all of them are the ends of its fields
+pub ends_from-separators : (line : List ℕ) (place : ℕ) → place ≡ length line → ends_from 0 (fields_of line) ≡ separators_before line place ++ length line ∷ []
+unfolding separators_before
+ends_from-separators line place end =
+    ends_from-fields_of line ∙ ap (λ n. places_from is_separator line 0 n ++ length line ∷ []) (omega (arith, end))

@@ -1,12 +1,14 @@
 //! Reading and writing numbers.
-ghost use Rattle.std.specs.Prelude.{◌≡◌, ◌≤◌, ◌++◌, OnOk, OnErr};
+ghost use Rattle.std.specs.Prelude.{◌≡◌, ◌≤◌, ◌++◌, IsTrue, OnOk, OnErr, length};
 ghost use Rattle.std.specs.Char.{is_ascii_digit};
 ghost use Rattle.std.specs.Fmt.{decimal};
 ghost use Rattle.std.specs.List.{list_all};
 ghost use Rattle.std.specs.Option.{SomeIff};
 ghost use Rattle.std.specs.Str.Parse.{AllDigits};
+ghost use Rattle.mp_text.specs.declared.numbers.TheConstants.{DIGITS_THAT_FIT};
 ghost use Rattle.mp_text.specs.Numbers.{is_number, number_of, value_of};
 
+use itoa::write_digits;
 use std::alloc::AllocError;
 use std::error::Error;
 use std::fmt;
@@ -31,11 +33,49 @@ impl fmt::Display for BadNumber {
 
 impl Error for BadNumber {}
 
+/// The greatest `u64` has so many digits.
+const MOST_DIGITS: usize = 20;
+
+/// A text of so many digits, or of fewer, is worth less than 10^19, which a `u64` holds.
+const DIGITS_THAT_FIT: usize = 19;
+
 /// The number that `text` says in decimal digits, of which any count may be leading zeros.
 ///
 /// `Digits` comes exactly where `text` is empty or has a byte other than `0` to `9`, and `Range`
 /// exactly where it is digits alone that are worth more than `max`.
 pub fn number(text: &[u8], max: u64) -> Result<u64, BadNumber>
+    ensures { result ≡ number_of text.now max }
+{
+    if text.len() > DIGITS_THAT_FIT {
+        return number_of_any_length(text, max);
+    }
+    match value_that_fits(text) {
+        Some(value) if value <= max => Ok(value),
+        Some(_) => Err(BadNumber::Range),
+        None => Err(BadNumber::Digits),
+    }
+}
+
+/// What a text of few bytes is worth, or `None` where it is empty or has a byte that is no digit.
+fn value_that_fits(text: &[u8]) -> Option<u64>
+    requires { length text.now ≤ DIGITS_THAT_FIT }
+    ensures { SomeIff result (IsTrue (is_number text.now)) (value_of text.now) }
+{
+    if text.is_empty() {
+        return None;
+    }
+    let mut value = 0u64;
+    for byte in text {
+        if !byte.is_ascii_digit() {
+            return None;
+        }
+        value = value * 10 + u64::from(*byte - b'0');
+    }
+    Some(value)
+}
+
+/// As [`number`], whatever the length of the text.
+fn number_of_any_length(text: &[u8], max: u64) -> Result<u64, BadNumber>
     ensures { result ≡ number_of text.now max }
 {
     if !is_digits(text) {
@@ -81,6 +121,7 @@ pub fn put_number(out: &mut Vec<u8>, n: u64) -> Result<(), AllocError>
     ensures written { OnOk result (out.new.items ≡ out.old.items ++ decimal n) }
     ensures unchanged { OnErr result (out.new.items ≡ out.old.items) }
 {
-    let mut buffer = itoa::Buffer::new();
-    out.extend_from_slice(buffer.format(n).as_bytes())
+    let mut buffer = [0; MOST_DIGITS];
+    let start = write_digits(n, &mut buffer, MOST_DIGITS);
+    out.extend_from_slice(&buffer[start..])
 }

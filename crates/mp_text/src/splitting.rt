@@ -3,7 +3,6 @@ ghost use Rattle.std.specs.Prelude.{◌≡◌, ◌↔◌, ◌<◌, [], ◌∷◌
 ghost use Rattle.mp_text.specs.Fields.{fields_of, ends_from};
 
 use arrayvec::ArrayVec;
-use memchr::memchr_iter;
 use std::marker::Model;
 
 /// How many fields of a line a [`FieldList`] holds: those from the first on.
@@ -40,9 +39,11 @@ pub fn fields<'a>(line: &'a [u8]) -> FieldList<'a>
 {
     let mut separators = 0usize;
     let mut ends = ArrayVec::new();
-    for separator in memchr_iter(SEPARATOR, line) {
-        hold_end(&mut ends, separator);
-        separators += 1;
+    for (place, byte) in line.iter().enumerate() {
+        if *byte == SEPARATOR {
+            hold_end(&mut ends, place);
+            separators += 1;
+        }
     }
     hold_end(&mut ends, line.len());
     FieldList {

@@ -1,17 +1,18 @@
--- The test and the value together are the definition's answer.
-use Rattle.std.proofs.Common.{sym, ◌∙◌}
-use Rattle.std.proofs.lemmas.Bool.{and_parts}
-use Rattle.mp_text.proofs.NumberLemmas.{number_of-digits, number_of-ok_or, AllDigits-from_all_ascii_digits}
+-- The value and one comparison are the definition's answer.
+use Rattle.std.proofs.Common.{◌∙◌, Ok, ap, arith, sym}
+use Rattle.std.proofs.lemmas.Bool.{false_from_ne_true}
+use Rattle.mp_text.proofs.NumberLemmas.{number_of-digits, number_of-ok, number_of-range}
 use Rattle.mp_text.proofs.numbers.number.Goals as goal
 
-pub returns-then-not-is_digits : goal.returns-then-not-is_digits
-returns-then-not-is_digits c = sym (number_of-digits c.args.text.now c.args.max (sym c.is_digits.ensures ∙ c.if-not-is_digits.true))
+pub returns-in-Some : goal.returns-in-Some
+returns-in-Some c =
+    let value = c.in-Some.ensures in
+    ap Ok value.1 ∙ sym (number_of-ok c.args.text.now c.args.max value.0 (omega (arith, value.1, c.if-value-max.true)))
 
-pub value_within-requires : goal.value_within-requires
-value_within-requires c =
-    AllDigits-from_all_ascii_digits c.args.text.now (and_parts _ _ (sym c.is_digits.ensures ∙ c.if-not-is_digits.false)).1
+pub returns-in-Some-2 : goal.returns-in-Some-2
+returns-in-Some-2 c =
+    let value = c.in-Some.ensures in
+    sym (number_of-range c.args.text.now c.args.max value.0 (omega (arith, value.1, c.if-value-max.false)))
 
-pub returns : goal.returns
-returns c =
-    c.ok_or.ensures.value
-    ∙ number_of-ok_or c.args.text.now c.args.max c.value_within.result (sym c.is_digits.ensures ∙ c.if-not-is_digits.false) c.value_within.ensures
+pub returns-in-None : goal.returns-in-None
+returns-in-None c = sym (number_of-digits c.args.text.now c.args.max (false_from_ne_true _ c.in-None.ensures))

@@ -1,0 +1,7 @@
+-- The digits of a `u64` have room.
+use Rattle.std.proofs.Common.{rules}
+use Rattle.std.proofs.lemmas.Fmt.{length-decimal-le}
+use Rattle.mp_text.proofs.numbers.put_number.Goals as goal
+
+pub write_digits-start-requires : goal.write_digits-start-requires
+write_digits-start-requires c = search (rules, length-decimal-le 20)
