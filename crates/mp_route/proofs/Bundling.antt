@@ -1,5 +1,5 @@
 -- The records that go along with the first one are those that the outline sends in one message.
-use Rattle.std.proofs.Common.{◌≡◌, ◌⊎◌, ℕ, zero, suc, ◌<◌, ◌≤◌, ◌&&◌, ◌==◌, not, Bool, true, false, cond, List, [], ◌∷◌, ◌++◌, All, Contains, append-nil, drop, filter, get_or, length, map, take, refl, sym, ap, ◌∙◌, subst, inl, inr, ⊎_elim, arith}
+use Rattle.std.proofs.Common.{◌≡◌, ◌⊎◌, ℕ, zero, suc, ◌<◌, ◌≤◌, ◌&&◌, ◌==◌, not, Bool, true, false, cond, List, [], ◌∷◌, ◌++◌, All, append-nil, drop, filter, get_or, length, map, take, refl, sym, ap, ◌∙◌, subst, ⊎_elim, arith}
 use Rattle.std.proofs.Math.ListN.{length-take, take-append-drop}
 use Rattle.std.proofs.lemmas.List.{take_all}
 use Rattle.std.proofs.Math.Seq.{take-append_seam}
@@ -11,8 +11,8 @@ use Rattle.mp_names.specs.declared.names.Name.{Name}
 use Rattle.mp_names.specs.Frontiers.{HasPassed, is_held}
 use Rattle.mp_names.specs.Logs.{Log, LogIsLegal, is_given}
 use Rattle.mp_names.specs.Names.{Distinct, In, IsAscending, Less, ascending, has, is_before, is_rec}
-use Rattle.mp_names.specs.Outlines.{Outline, owner_at, receiver, sender, time_of}
-use Rattle.mp_names.proofs.Lists.{In_cases, In_here, In_later, In_left, In_prefix, In_filter, filter_In}
+use Rattle.mp_names.specs.Outlines.{Outline, owner_at, receiver, time_of}
+use Rattle.mp_names.proofs.Lists.{In_prefix, In_filter, filter_In}
 use Rattle.mp_names.proofs.Orders.{In_ascending, ascending_In, ascending_ascends, ascending_unique, filter_ascends, less_connected}
 use Rattle.mp_names.proofs.Steps.{given_own}
 use Rattle.mp_machine.specs.Messages.{IsMessage, bundle_of, goes_with}
@@ -27,13 +27,13 @@ use Rattle.mp_ordered.specs.Runs.{begins}
 use Rattle.mp_ordered.proofs.Placing.{pairs_drop, pairs_head, pairs_tail}
 use Rattle.mp_outline.specs.JobOutline.{name_of_record, outline_of}
 use Rattle.mp_outline.proofs.Named.{In_named}
-use Rattle.mp_msg.specs.Bundles.{HasOneSender, IsBundle, names_in}
+use Rattle.mp_msg.specs.Bundles.{HasOneSender, IsBundle}
 use Rattle.mp_msg.specs.Contents.{IsRecordOf}
 use Rattle.mp_route.specs.declared.along.Along.{Along}
 use Rattle.mp_route.specs.Along.{IsCount, TakesAlong, along_with, goes_to, going, is_at}
-use Rattle.mp_route.specs.Routed.{Routed, tag_rank}
+use Rattle.mp_route.specs.Routed.{tag_rank}
 use Rattle.mp_route.specs.Sending.{IsBundleOf}
-use Rattle.mp_route.specs.Unsent.{HoldsUnsent, OwnersAreKnown, names_held}
+use Rattle.mp_route.specs.Unsent.{HoldsUnsent, OwnersAreKnown}
 use Rattle.mp_route.proofs.Counted.{listed_owed, owed_listed}
 use Rattle.mp_route.proofs.Going.{not_less, starts}
 use Rattle.mp_route.proofs.Holding.{routed}

@@ -1,7 +1,8 @@
 -- The first items of a list, one more at a time: those that pass, and those of several blocks.
-use Rattle.std.proofs.Common.{◌≡◌, ℕ, zero, suc, ◌+◌, ◌<◌, ◌≤◌, ◌⊎◌, Bool, true, false, cond, List, [], ◌∷◌, ◌++◌, All, drop, filter, get_or, length, length-append, take, refl, sym, ap, ◌∙◌, subst, inl, inr, ⊎_elim, arith, append-nil, append_assoc}
+use Rattle.std.proofs.Common.{◌≡◌, ℕ, zero, suc, ◌+◌, ◌<◌, ◌≤◌, Bool, true, false, cond, List, [], ◌∷◌, ◌++◌, All, drop, filter, get_or, length, length-append, take, not, refl, sym, ap, ◌∙◌, subst, arith, append-nil, append_assoc}
 use Rattle.std.proofs.lemmas.List.{drop_more, take_more}
 use Rattle.std.proofs.lemmas.List.Elements.{All-append, All-push, filter-append, filter_more}
+use Rattle.std.proofs.lemmas.List.Filters.{length-filter_both}
 use Rattle.std.specs.declared.collections.VecDeque.{VecDeque}
 use Rattle.std.proofs.Math.Seq.{drop-append_seam}
 use Rattle.mp_names.specs.Names.{is_before}
@@ -26,6 +27,26 @@ module _ {X : Type 0} (p : X → Bool) where
 
   pub one_out : (xs : List X) (i : ℕ) (x : X) → i < length xs → x ≡ get_or xs i x → p x ≡ false → filter p (take (i + 1) xs) ≡ filter p (take i xs)
   one_out xs i x l e h = with_item false x h xs i l e ∙ append-nil (filter p (take i xs))
+
+  passing : (xs : List X) → length (filter p xs) ≤ length xs
+  passing xs = let both = length-filter_both p (λ y. not (p y)) (λ y. refl) xs in omega arith
+
+  -- where as many pass as there are, these are all of them
+  pub all_pass : (xs : List X) → length (filter p xs) ≡ length xs → filter p xs ≡ xs
+  all_pass [] e = refl
+  all_pass (x ∷ xs) e = at (p x) (λ h. all_pass xs h) e
+    where
+      at : (b : Bool) → (length (filter p xs) ≡ length xs → filter p xs ≡ xs) → length (cond b (x ∷ filter p xs) (filter p xs)) ≡ length (x ∷ xs) → cond b (x ∷ filter p xs) (filter p xs) ≡ x ∷ xs
+      at true k h = ap (λ (ys : List X). x ∷ ys) (k (omega (arith, h)))
+      at false k h = let l = passing xs in absurd (omega (arith, h))
+
+  -- and none is left out
+  pub none_fails : (xs : List X) → length (filter p xs) ≡ length xs → filter (λ y. not (p y)) xs ≡ []
+  none_fails xs e = let both = length-filter_both p (λ y. not (p y)) (λ y. refl) xs in no_items (filter (λ y. not (p y)) xs) (omega arith)
+    where
+      no_items : (ys : List X) → length ys ≡ 0 → ys ≡ []
+      no_items [] l = refl
+      no_items (y ∷ ys) l = absurd (omega arith)
 
   -- of fewer no more pass
   pub filter_grows : (xs : List X) (i n : ℕ) → i ≤ n → length (filter p (take i xs)) ≤ length (filter p (take n xs))

@@ -4,5 +4,6 @@ pub mod Going
 pub mod Counted
 pub mod Parted
 pub mod Counting
+pub mod Firsts
 pub mod Bundling
 pub mod Sent

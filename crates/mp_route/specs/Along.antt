@@ -1,5 +1,5 @@
 -- Which of the records that are held go along with another.
-use Rattle.std.specs.Prelude.{◌≡◌, ◌⊎◌, ℕ, ◌+◌, ◌≤◌, ◌==◌, Bool, true, false, not, List, ◌++◌, All, drop, filter, length, take}
+use Rattle.std.specs.Prelude.{◌≡◌, ◌⊎◌, ℕ, ◌+◌, ◌≤◌, ◌==◌, Bool, true, false, not, List, [], ◌∷◌, ◌++◌, All, drop, filter, length, take}
 use Rattle.mp_bins.specs.Bins.{bin_of_key}
 use Rattle.mp_bins.specs.Notes.{Notes, owner_at}
 use Rattle.mp_model.specs.declared.record.Rec.{Rec}
@@ -18,6 +18,11 @@ is_at a r = r.time == a.time
 -- its bin has the owner at that time, by what is noted
 abbrev pub goes_to : Notes → Along → Rec → Bool
 goes_to notes a r = owner_at notes a.stage (bin_of_key r.key a.bins) a.time == a.owner
+
+-- the first of these records, if there is one, does
+abbrev pub FirstGoes : Notes → Along → List Rec → Type 0
+FirstGoes notes a [] = Unit {0}
+FirstGoes notes a (r ∷ rs) = goes_to notes a r ≡ true
 
 -- So many of the first records are of the time, and so many of these go to the owner; no more may go, or the next record is of another time
 pub record IsCount (notes : Notes) (a : Along) (most : ℕ) (held : List Rec) (looked chosen : ℕ) : Type 0 where

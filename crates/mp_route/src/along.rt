@@ -4,7 +4,7 @@ ghost use Rattle.std.specs.Vec.{vec_capacity};
 ghost use Rattle.mp_bins.specs.Bins.{IsBinCount};
 ghost use Rattle.mp_ordered.specs.InOrder.{IsInOrder};
 ghost use Rattle.mp_ordered.specs.Runs.{begins};
-ghost use Rattle.mp_route.specs.Along.{IsCount, TakesAlong, along_with, goes_to, going, is_at, staying};
+ghost use Rattle.mp_route.specs.Along.{FirstGoes, IsCount, TakesAlong, along_with, goes_to, going, is_at, staying};
 ghost use Rattle.mp_route.specs.Routed.{tag_rank};
 
 use crate::by_tag::ByTag;
@@ -60,8 +60,19 @@ fn goes_to(owners: &Owners, along: Along, rec: &Rec) -> bool
     owners.owner(along.stage, bin, along.time) == along.owner
 }
 
-// Counts the first records, as far as they are of the time and no more than travel in one message go.
+// The same, where so many in front of it go. The first one does, so its owner isn't asked for.
+fn goes_next(owners: &Owners, along: Along, before: usize, rec: &Rec) -> bool
+    requires stage { along.stage < owners.now.shape.stages }
+    requires bins { IsBinCount along.bins × (along.bins ≡ owners.now.shape.bins) }
+    requires first { before ≡ 0 → goes_to owners.now along rec.now ≡ true }
+    ensures { result ≡ goes_to owners.now along rec.now }
+{
+    before == 0 || goes_to(owners, along, rec)
+}
+
+// Counts the first records, as far as they are of the time and no more than travel in one message go. The first one goes.
 fn count_along(held: &OrderedBlocks<Rec, ByTag>, owners: &Owners, along: Along) -> Count
+    requires first { FirstGoes owners.now along held.now.items }
     requires stage { along.stage < owners.now.shape.stages }
     requires bins { IsBinCount along.bins × (along.bins ≡ owners.now.shape.bins) }
     ensures count { IsCount owners.now along 64 held.now.items result.looked result.chosen }
@@ -88,12 +99,14 @@ fn count_along(held: &OrderedBlocks<Rec, ByTag>, owners: &Owners, along: Along) 
 // ends.
 fn count_in(block: &VecDeque<Rec>, owners: &Owners, along: Along, before: usize) -> Count
     requires few { before ≤ 64 }
+    requires first { before ≡ 0 → FirstGoes owners.now along block.now.items }
     requires stage { along.stage < owners.now.shape.stages }
     requires bins { IsBinCount along.bins × (along.bins ≡ owners.now.shape.bins) }
     ensures inside { result.looked ≤ length block.now.items }
     ensures time { All (λ r. is_at along r ≡ true) (take result.looked block.now.items) }
     ensures chosen { result.chosen ≡ before + length (going owners.now along result.looked block.now.items) }
     ensures few { result.chosen ≤ 64 }
+    ensures some { 0 < result.looked → 0 < result.chosen }
     ensures ends { (result.looked ≡ length block.now.items)
         ⊎ ((result.chosen ≡ 64) ⊎ (begins (is_at along) (drop result.looked block.now.items) ≡ false)) }
 {
@@ -103,7 +116,7 @@ fn count_in(block: &VecDeque<Rec>, owners: &Owners, along: Along, before: usize)
         if chosen == MAX_BUNDLE || rec.time != along.time {
             return Count { looked, chosen };
         }
-        if goes_to(owners, along, rec) {
+        if goes_next(owners, along, chosen, rec) {
             chosen += 1;
         }
     }
@@ -113,14 +126,15 @@ fn count_in(block: &VecDeque<Rec>, owners: &Owners, along: Along, before: usize)
     }
 }
 
-/// Takes out the first records of the time that go to the owner, as many as travel in one message. The others stay, and
-/// those that are gone leave their room. `AllocError`: no memory, and nothing changes.
+/// Takes out the first records of the time that go to the owner, as many as travel in one message. The first of all does. The
+/// others stay, and those that are gone leave their room. `AllocError`: no memory, and nothing changes.
 pub fn take_along(
     held: &mut OrderedBlocks<Rec, ByTag>,
     alloc: Global,
     owners: &Owners,
     along: Along,
 ) -> Result<Vec<Rec>, AllocError>
+    requires first { FirstGoes owners.now along held.old.items }
     requires stage { along.stage < owners.now.shape.stages }
     requires bins { IsBinCount along.bins × (along.bins ≡ owners.now.shape.bins) }
     ensures taken { IfOk result (λ v. TakesAlong owners.now along 64 held.old v.items held.new) }
@@ -128,10 +142,31 @@ pub fn take_along(
 {
     let count = count_along(held, owners, along);
     let mut gone = Vec::with_capacity(alloc, count.chosen)?;
+    if count.chosen == count.looked {
+        take_all(held, count.looked, &mut gone);
+        return Ok(gone);
+    }
     let mut kept = Vec::with_capacity(alloc, count.looked - count.chosen)?;
     take_first(held, owners, along, count.looked, &mut gone, &mut kept);
     put_back(held, &mut kept);
     Ok(gone)
+}
+
+// Takes out the first so many records, which all go.
+fn take_all(held: &mut OrderedBlocks<Rec, ByTag>, count: usize, gone: &mut Vec<Rec>)
+    requires inside { count ≤ length held.old.items }
+    requires none { gone.old.items ≡ [] }
+    requires memory { count ≤ vec_capacity gone.old }
+    ensures gone { gone.new.items ≡ take count held.old.items }
+    ensures held { held.new.items ≡ drop count held.old.items }
+    ensures room { held.new.room ≡ held.old.room + count }
+{
+    for _taken in 0..count {
+        let Some(rec) = held.pop_first() else {
+            unreachable!()
+        };
+        gone.push_reserved(rec);
+    }
 }
 
 // Takes out the first so many records: those that go, and those that stay.

@@ -1,11 +1,22 @@
-use Rattle.std.proofs.Common.{◌≡◌, ◌<◌, ◌≤◌, ◌+◌, ◌⊎◌, ◌∙◌, ℕ, List, false, ap, arith, drop, get_or, inl, inr, length, subst, sym, take, ⊎_elim}
+use Rattle.std.proofs.Common.{◌≡◌, ◌<◌, ◌+◌, ◌⊎◌, ◌∙◌, ℕ, List, false, ap, arith, drop, inl, inr, length, subst, sym, take, ⊎_elim}
 use Rattle.std.proofs.lemmas.List.{length-drop}
 use Rattle.mp_model.specs.declared.record.Rec.{Rec}
 use Rattle.mp_ordered.specs.Blocks.{items_of}
 use Rattle.mp_ordered.specs.Runs.{begins}
-use Rattle.mp_route.specs.Along.{IsCount, goes_to, is_at}
+use Rattle.mp_route.specs.Along.{FirstGoes, IsCount, goes_to, is_at}
 use Rattle.mp_route.proofs.Counting.{all_upto, begins_from, count_upto, upto_within}
+use Rattle.mp_route.proofs.Firsts.{first_in_block, none_looked}
 use Rattle.mp_route.proofs.along.count_along.Goals as goal
+
+pub count_in-here-requires-clause-first : goal.count_in-here-requires-clause-first
+count_in-here-requires-clause-first c none =
+    let bs = c.as_blocks-block-items.result.now in
+    let notes = c.args.owners.now in
+    let a = c.args.along in
+    let i = c.loop-block.block-index in
+    let looked = none_looked c.loop-block.all.looked c.loop-block.all.chosen c.loop-block.invariant.some none in
+    let first = subst (FirstGoes notes a) (sym c.as_blocks-block-items.ensures.items) c.requires.first in
+    first_in_block notes a bs i c.block-item.result c.loop-block-test.true c.block-item.is (sym c.loop-block.invariant.looked ∙ looked) first
 
 pub overflow_add-all : goal.overflow_add-all
 overflow_add-all c =

@@ -1,14 +1,35 @@
-use Rattle.std.proofs.Common.{◌≡◌, ◌+◌, ◌≤◌, ◌∙◌, ◌++◌, ap, arith, drop, false, length, not, refl, subst, sym, take}
+use Rattle.std.proofs.Common.{◌≡◌, ◌∙◌, ◌++◌, [], ap, arith, drop, false, filter, length, not, refl, subst, sym, take}
 use Rattle.std.proofs.Math.ListN.{take-append-drop}
 use Rattle.std.proofs.lemmas.List.{length-take-le}
 use Rattle.std.proofs.lemmas.List.Filters.{length-filter_both}
 use Rattle.mp_names.specs.Names.{is_before}
 use Rattle.mp_model.specs.declared.record.Rec.{Rec}
 use Rattle.mp_ordered.specs.InOrder.{IsInOrder}
-use Rattle.mp_route.specs.Along.{TakesAlong, goes_to, staying}
+use Rattle.mp_route.specs.Along.{goes_to, going, staying}
 use Rattle.mp_route.specs.Routed.{tag_rank}
+use Rattle.mp_route.proofs.Counting.{all_pass, none_fails}
 use Rattle.mp_route.proofs.Parted.{left_pairs}
 use Rattle.mp_route.proofs.along.take_along.Goals as goal
+
+pub returns-then-count-clause-taken : goal.returns-then-count-clause-taken
+returns-then-count-clause-taken c =
+    let p = goes_to c.args.owners.now c.args.along in
+    let n = c.count_along-count.result.looked in
+    let held = c.args.held.now.items in
+    let front = take n held in
+    let count = c.count_along-count.ensures.count in
+    let len : length front ≡ n = omega (arith, length-take-le n held count.inside) in
+    let all : length (filter p front) ≡ length front = omega (arith, count.chosen_is, c.if-count.true, len) in
+    let gone : c.take_all.new.gone.items ≡ going c.args.owners.now c.args.along n held = c.take_all.ensures.gone ∙ sym (all_pass p front all) in
+    let none : filter (λ r. not (p r)) front ≡ [] = none_fails p front all in
+    let long : c.count_along-count.result.chosen ≡ length c.take_all.new.gone.items = count.chosen_is ∙ ap length (sym gone) in
+    record {
+      looked = n;
+      count = rw (← long) count;
+      gone_is = gone;
+      left = c.take_all.ensures.held ∙ ap (λ xs. xs ++ drop n held) (sym none);
+      room = omega (arith, c.take_all.ensures.room, ap length c.take_all.ensures.gone, len);
+    }
 
 pub overflow_sub-count : goal.overflow_sub-count
 overflow_sub-count c =

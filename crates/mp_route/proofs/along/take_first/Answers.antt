@@ -1,4 +1,4 @@
-use Rattle.std.proofs.Common.{◌≡◌, ◌<◌, ◌≤◌, ◌+◌, ◌∙◌, ◌++◌, ◌∷◌, [], ap, arith, filter, length, length-append, not, sym, take}
+use Rattle.std.proofs.Common.{◌≡◌, ◌<◌, ◌+◌, ◌∙◌, ◌++◌, ◌∷◌, [], ap, arith, filter, length, length-append, not, sym, take}
 use Rattle.mp_route.specs.Along.{goes_to}
 use Rattle.mp_route.proofs.Counting.{drop_head, filter_grows, one_in, one_out}
 use Rattle.mp_route.proofs.along.take_first.Goals as goal

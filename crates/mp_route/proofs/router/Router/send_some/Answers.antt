@@ -1,20 +1,24 @@
-use Rattle.std.proofs.Common.{◌≡◌, ◌∙◌, ◌++◌, ℕ, List, All, ap, drop, length, map, subst, sym, take}
-use Rattle.std.specs.Prelude.{IsSomeAnd, Some, slice_get}
+use Rattle.std.proofs.Common.{◌∙◌, ℕ, All, ap, drop, map, subst, sym, take}
 use Rattle.std.proofs.Math.ListN.{take-append-drop}
 use Rattle.mp_names.specs.declared.locations.Loc.TheVariants.{CtlMail}
 use Rattle.mp_names.specs.declared.names.Name.{Name}
 use Rattle.mp_names.specs.Frontiers.{HasPassed}
 use Rattle.mp_stamps.specs.Seen.{seen_at}
-use Rattle.mp_model.specs.declared.record.Rec.{Rec}
 use Rattle.mp_outline.specs.JobOutline.{name_of_record}
 use Rattle.mp_msg.specs.Contents.{IsRecordOf}
 use Rattle.mp_route.specs.Along.{along_with, goes_to}
-use Rattle.mp_route.specs.Unsent.{HoldsAllBut, MayGo}
+use Rattle.mp_route.specs.Unsent.{MayGo}
 use Rattle.mp_route.proofs.Bundling.{sends}
+use Rattle.mp_route.proofs.Firsts.{goes_with_itself}
 use Rattle.mp_route.proofs.Going.{first_is}
 use Rattle.mp_route.proofs.Parted.{left_all}
-use Rattle.mp_route.proofs.Sent.{all_but, all_sent, taken_out}
+use Rattle.mp_route.proofs.Sent.{all_sent, taken_out}
 use Rattle.mp_route.proofs.router.Router.send_some.Goals as goal
+
+pub take_along-requires-clause-first : goal.take_along-requires-clause-first
+take_along-requires-clause-first g c =
+    let s = c.self.inside in
+    goes_with_itself c.args.owners.now c.along_with-along.result s.stage c.args.bins c.in-Some-first.first.now s.held.items c.along_with-along.ensures c.in-Some-first.ensures.some
 
 pub invariant_of-self : goal.invariant_of-self
 invariant_of-self g c =
