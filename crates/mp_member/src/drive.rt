@@ -78,9 +78,10 @@ impl<'a, Q: Query, J: Naming, R: Wait + Drop> Member<'a, Q, J, R> {
         unreachable!()
     }
 
-    /// One round: tries each kind of step in their order, each again as long as its steps are made, up to 64 times. `Over`:
-    /// the worker then knows that all is over, and its log is full. Where a step answers `Write` or `Memory` it tells the others why; that waits while another holds the
-    /// board. `Other`: another worker stopped before.
+    /// One round: tries each kind of step in their order, each again as long as its steps are made, up to 64 times, but an
+    /// exchange once. Before it writes it receives a second time. `Over`: the worker then knows that all is over, and its log
+    /// is full. Where a step answers `Write` or `Memory` it tells the others why; that waits while another holds the board.
+    /// `Other`: another worker stopped before.
     pub fn turn<T: Wait, G: Gate, S: Sink>(
         &mut self,
         rt: &T,
@@ -119,7 +120,51 @@ impl<'a, Q: Query, J: Naming, R: Wait + Drop> Member<'a, Q, J, R> {
         let shape = self.worker.shape();
         let mut made = false;
         for number in 0..count_of_kinds(shape) {
-            match self.repeat(kind_at(shape, number), gate, sink) {
+            match self.try_kind(kind_at(shape, number), gate, sink) {
+                Ok(was_made) => made = made || was_made,
+                Err(why) => return Err(why),
+            }
+        }
+        Ok(made)
+    }
+
+    // Makes steps of a kind. After those that send rows it receives again, so that rows don't wait for a round, and leave the
+    // mailbox to its next records: whether a step was made.
+    fn try_kind<G: Gate, S: Sink>(
+        &mut self,
+        kind: Kind,
+        gate: &G,
+        sink: &mut S,
+    ) -> Result<bool, Stop>
+        ensures goes_on { let q = Q.facts J.job.rules in
+            OnOk result (GoesOn q J.job S.written S.faults S.frame
+            self.old.worker self.new.worker sink.old sink.new) }
+        ensures stops { let q = Q.facts J.job.rules in
+            IfErr result (λ stop. StopsBy q J.job S.written S.faults S.frame stop
+            self.old.worker self.new.worker sink.old sink.new) }
+    {
+        let made = self.repeat(kind, gate, sink)?;
+        if kind != Kind::SendRow {
+            return Ok(made);
+        }
+        match self.receive_from_all(gate, sink) {
+            Ok(received) => Ok(made || received),
+            Err(why) => Err(why),
+        }
+    }
+
+    // Receives from each worker: whether a step was made.
+    fn receive_from_all<G: Gate, S: Sink>(&mut self, gate: &G, sink: &mut S) -> Result<bool, Stop>
+        ensures goes_on { let q = Q.facts J.job.rules in
+            OnOk result (GoesOn q J.job S.written S.faults S.frame
+            self.old.worker self.new.worker sink.old sink.new) }
+        ensures stops { let q = Q.facts J.job.rules in
+            IfErr result (λ stop. StopsBy q J.job S.written S.faults S.frame stop
+            self.old.worker self.new.worker sink.old sink.new) }
+    {
+        let mut made = false;
+        for from in 0..self.worker.shape().workers {
+            match self.repeat(Kind::Receive(from), gate, sink) {
                 Ok(was_made) => made = made || was_made,
                 Err(why) => return Err(why),
             }
