@@ -219,6 +219,10 @@ pub fn put_in<T: Drop>(block: &mut VecDeque<T>, at: usize, item: T)
     ensures items { block.new.items ≡ insert block.old.items at item }
     ensures memory { deque_capacity block.old ≤ deque_capacity block.new }
 {
+    if at == block.len() {
+        block.push_back_reserved(item);
+        return;
+    }
     let Ok(()) = block.insert(at, item) else {
         unreachable!()
     };
@@ -232,6 +236,19 @@ pub fn take_at<T: Drop>(block: &mut VecDeque<T>, at: usize) -> T
     ensures memory { deque_capacity block.new ≡ deque_capacity block.old }
 {
     let Some(item) = block.remove(at) else {
+        unreachable!()
+    };
+    item
+}
+
+/// Takes the first item out of a block.
+pub fn take_first<T: Drop>(block: &mut VecDeque<T>) -> T
+    requires { 0 < length block.old.items }
+    ensures item { slice_get block.old.items 0 ≡ Some result }
+    ensures items { block.new.items ≡ remove block.old.items 0 }
+    ensures memory { deque_capacity block.new ≡ deque_capacity block.old }
+{
+    let Some(item) = block.pop_front() else {
         unreachable!()
     };
     item

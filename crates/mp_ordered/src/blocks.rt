@@ -7,7 +7,7 @@ ghost use Rattle.mp_ordered.specs.InOrder.{IsInOrder, first_from, put_in_order};
 
 use crate::block::{
     FULL, block_of, copied, cut_block, cut_in, have_blocks, item_at, item_from, past_half,
-    place_in, put_in, retire, split, take_at,
+    place_in, put_in, retire, split, take_at, take_first,
 };
 use crate::cut::Cut;
 use crate::front::{count_of, drop_front, end_of, retire_first};
@@ -149,7 +149,7 @@ impl<T: Drop, O: Order<T>> Blocks<T, O> {
             return None;
         }
         let block = &mut self.blocks[0];
-        let item = take_at(block, 0);
+        let item = take_first(block);
         let count = block.len();
         self.len -= 1;
         self.past -= past_half(count + 1) - past_half(count);

@@ -69,6 +69,9 @@ impl<T: Drop, O: Order<T> + Kinds<T>> OrderedRuns<T, O> {
         ensures unchanged { OnErr result (self.new ≡ self.old) }
     {
         let count = count as usize;
+        if count <= self.room() {
+            return Ok(());
+        }
         let all = self.run.len().checked_add(count).ok_or(AllocError)?;
         let more = self.rest.len().checked_add(count).ok_or(AllocError)?;
         self.run.reserve(more)?;
