@@ -53,8 +53,8 @@ fn move_at(notes: &OrderedBlocks<Note, ByBin>, of: StageBin, time: Time) -> Opti
     ensures some { IfSome result (IsMoveThere (controls_in notes.now.items) of time) }
     ensures none { IfNone result ((move : Move) → IsMoveThere (controls_in notes.now.items) of time move → ⊥) }
 {
-    let from = owner_below(notes, of, u128::from(time));
-    let to = owner_below(notes, of, u128::from(time) + 1);
+    let from = owner_below(notes, of, u128::from(time), None);
+    let to = owner_below(notes, of, u128::from(time) + 1, None);
     if from == to {
         return None;
     }

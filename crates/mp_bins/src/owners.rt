@@ -1,5 +1,5 @@
 //! The control records that were noted, and the owners that they give.
-ghost use Rattle.std.specs.Prelude.{◌≡◌, ◌<◌, ◌≤◌, ◌-◌, [], false, None, Some, cond, IfOk, OnOk, OnErr, IsOk, IfSome, IfNone};
+ghost use Rattle.std.specs.Prelude.{◌≡◌, ◌<◌, ◌≤◌, ◌+◌, ◌*◌, ◌-◌, [], length, false, None, Some, cond, IfOk, OnOk, OnErr, IsOk, IfSome, IfNone};
 ghost use Rattle.mp_bins.specs.Notes.{IsShape, IsWithin, first_owner, is_move_of, is_noted, move_of, moves_of, owner_at, owner_before, with_note};
 ghost use Rattle.mp_bins.specs.Leaving.{IsNextLeaving, NoneLeaves};
 
@@ -8,8 +8,9 @@ use crate::finding::owner_below;
 use crate::kept::{ByBin, ByOwner, StageBin};
 use crate::ranked::first_from;
 use mp_names::{Control, Move, Shape, Time, TimedBin};
-use mp_ordered::OrderedBlocks;
+use mp_ordered::{OrderedBlocks, Spot};
 use std::alloc::{AllocError, Global};
+use std::cell::Cell;
 use std::marker::Model;
 
 /// A control record and its place in the list of all control records.
@@ -32,6 +33,9 @@ pub struct Owners {
     changes: OrderedBlocks<Move, ByOwner>,
     // So many more notes there is room for, and twice as many moves.
     room: u64,
+    // Where the last look for each bin of each stage ended, by stage and bin. A look tests what stands there, and searches
+    // where it isn't the note that counts: no clause sees these hints.
+    hints: Vec<Cell<Spot>>,
 }
 
 impl Model for Owners {
@@ -65,6 +69,7 @@ impl Owners {
             notes: OrderedBlocks::new(alloc),
             changes: OrderedBlocks::new(alloc),
             room: 0,
+            hints: no_hints(alloc, shape)?,
         })
     }
 
@@ -161,7 +166,8 @@ impl Owners {
         ensures owner { result ≡ owner_before self.now stage bin limit }
         ensures worker { result < self.now.shape.workers }
     {
-        owner_below(&self.notes, self.stage_bin(stage, bin), limit)
+        let hint = self.hints.get(bin_index(self.shape, stage, bin));
+        owner_below(&self.notes, self.stage_bin(stage, bin), limit, hint)
     }
 
     fn stage_bin(&self, stage: u32, bin: u32) -> StageBin
@@ -182,4 +188,19 @@ pub fn first_owner(shape: Shape, bin: u32) -> u32
     ensures { result ≡ first_owner shape bin }
 {
     bin % shape.workers
+}
+
+// A hint for each bin of each stage. `AllocError`: no memory.
+fn no_hints(alloc: Global, shape: Shape) -> Result<Vec<Cell<Spot>>, AllocError>
+    ensures { IfOk result (λ hints. length hints.items ≡ shape.stages * shape.bins) }
+{
+    let count = bin_index(shape, shape.stages, 0);
+    Vec::from_elem(alloc, Cell::new(Spot { block: 0, place: 0 }), count)
+}
+
+// The place of a bin of a stage among all of them.
+fn bin_index(shape: Shape, stage: u32, bin: u32) -> usize
+    ensures { result ≡ stage * shape.bins + bin }
+{
+    stage as usize * shape.bins as usize + bin as usize
 }

@@ -11,8 +11,10 @@ use crate::block::{
 };
 use crate::cut::Cut;
 use crate::front::{count_of, drop_front, end_of, retire_first};
+use crate::near::{Spot, last_near};
 use crate::order::Order;
 use std::alloc::{AllocError, Global};
+use std::cell::Cell;
 use std::collections::VecDeque;
 use std::marker::{Model, PhantomData};
 
@@ -216,6 +218,17 @@ impl<T: Drop, O: Order<T>> Blocks<T, O> {
             return None;
         }
         Some(&self.blocks[at][count - 1])
+    }
+
+    /// The last item in front of a cut; `None` exactly where there is none. `near` is where an earlier look ended, or any
+    /// spot. Where it still points to that item no others are searched; else they are, and then it points to the item.
+    pub fn last_in_front_near<C: Cut<T>>(&self, cut: &C, near: &Cell<Spot>) -> Option<&T>
+        requires { IsPartitionedBy (C.front cut.now) self.now.items }
+        ensures some { IfSome result (λ x. slice_get self.now.items (prefix_len (C.front cut.now) self.now.items - 1) ≡ Some x.now) }
+        ensures some_in_front { IfSome result (λ x. 0 < prefix_len (C.front cut.now) self.now.items) }
+        ensures none { IfNone result (prefix_len (C.front cut.now) self.now.items ≡ 0) }
+    {
+        last_near(&self.blocks, cut, near)
     }
 
     /// The first item behind a cut; `None` exactly where there is none.

@@ -7,11 +7,13 @@ mod block;
 mod blocks;
 mod cut;
 mod front;
+mod near;
 mod order;
 mod runs;
 mod stored;
 
 pub use cut::Cut;
+pub use near::Spot;
 pub use order::Order;
 pub use runs::{Kinds, OrderedRuns};
 pub use stored::OrderedBlocks;

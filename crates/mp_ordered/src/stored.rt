@@ -7,8 +7,10 @@ ghost use Rattle.mp_ordered.specs.InOrder.{GoesBack, IsInOrder, put_in_order};
 
 use crate::blocks::Blocks;
 use crate::cut::Cut;
+use crate::near::Spot;
 use crate::order::Order;
 use std::alloc::{AllocError, Global};
+use std::cell::Cell;
 use std::collections::VecDeque;
 use std::marker::Model;
 
@@ -126,6 +128,17 @@ impl<T: Drop, O: Order<T>> OrderedBlocks<T, O> {
         ensures none { IfNone result (prefix_len (C.front cut.now) self.now.items ≡ 0) }
     {
         self.blocks.last_in_front(cut)
+    }
+
+    /// The last item in front of a cut; `None` exactly where there is none. `near` is where an earlier look ended, or any
+    /// spot. Where it still points to that item no others are searched; else they are, and then it points to the item.
+    pub fn last_in_front_near<C: Cut<T>>(&self, cut: &C, near: &Cell<Spot>) -> Option<&T>
+        requires { IsPartitionedBy (C.front cut.now) self.now.items }
+        ensures some { IfSome result (λ x. slice_get self.now.items (prefix_len (C.front cut.now) self.now.items - 1) ≡ Some x.now) }
+        ensures some_in_front { IfSome result (λ x. 0 < prefix_len (C.front cut.now) self.now.items) }
+        ensures none { IfNone result (prefix_len (C.front cut.now) self.now.items ≡ 0) }
+    {
+        self.blocks.last_in_front_near(cut, near)
     }
 
     /// The first item behind a cut; `None` exactly where there is none.

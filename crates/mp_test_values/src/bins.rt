@@ -120,9 +120,28 @@ fn thousands_of_records_of_one_bin(rt: HostRuntime) -> Result<(), Fail> {
     let mut owners = Owners::new(rt.alloc(), FOUR_BINS)?;
     for index in 0..3000 {
         owners.note(index, bin_to_worker(0, index % 3, u64::from(index)))?;
+        assert_eq!(rt; owners.owner(0, 0, u64::from(index / 2)), index / 2 % 3);
     }
     for time in 0..3000 {
         assert_eq!(rt; owners.owner(0, 0, u64::from(time)), time % 3);
+        assert_eq!(rt; owners.owner(0, 0, u64::from(time / 2)), time / 2 % 3);
     }
+    Ok(())
+}
+
+// Looks for a bin begin where the last one for it ended: at notes that others have come in front of, at and behind.
+#[test]
+fn looks_forth_and_back_while_notes_come(rt: HostRuntime) -> Result<(), Fail> {
+    let mut owners = Owners::new(rt.alloc(), FOUR_BINS)?;
+    owners.note(0, bin_to_worker(2, 0, 10))?;
+    owners.note(1, bin_to_worker(2, 1, 20))?;
+    assert_eq!(rt; owners.owner(0, 2, 25), 1);
+    assert_eq!(rt; owners.owner(0, 2, 15), 0);
+    owners.note(2, bin_to_worker(0, 1, 5))?;
+    owners.note(3, bin_to_worker(2, 2, 18))?;
+    assert_eq!(rt; owners.owner(0, 2, 19), 2);
+    assert_eq!(rt; owners.owner(0, 0, 4), 0);
+    assert_eq!(rt; owners.owner(0, 2, 25), 1);
+    assert_eq!(rt; owners.before(0, 2, 10), 2);
     Ok(())
 }

@@ -7,11 +7,14 @@ use Rattle.mp_names.specs.Names.{is_before}
 use Rattle.mp_ordered.proofs.Placing.{read_at}
 use Rattle.mp_bins.specs.declared.owners.Note.{Note}
 use Rattle.mp_bins.specs.Notes.{no_note, note_at, rank_of_note}
-use Rattle.mp_bins.proofs.Searching.{before_stand_first, first_owns, last_owns, limit_parts, of_test, not_of_test}
+use Rattle.mp_bins.proofs.Searching.{first_owns, last_owns, limit_parts, of_test, not_of_test, owner_is_first}
 use Rattle.mp_bins.proofs.finding.owner_below.Goals as goal
 
-pub last_in_front-requires : goal.last_in_front-requires
-last_in_front-requires c = before_stand_first c.args.notes.now.items (c.args.of.stage ∷ c.args.of.bin ∷ c.args.limit ∷ []) c.requires
+pub returns-then-is_empty : goal.returns-then-is_empty
+returns-then-is_empty c =
+    let none = c.is_empty.ensures.0 c.if-is_empty.true in
+    let of = c.args.of in
+    rw none (sym (owner_is_first [] of.first of.stage of.bin c.args.limit (λ i l. absurd (omega arith))))
 
 pub returns-in_default : goal.returns-in_default
 returns-in_default c =
@@ -19,7 +22,7 @@ returns-in_default c =
     let of = c.args.of in
     let below = λ (n : Note). is_before (rank_of_note n) (of.stage ∷ of.bin ∷ c.args.limit ∷ []) in
     let p = prefix_len below ns in
-    let none : p ≡ 0 = subst (λ (o : Option _). IfNone o (p ≡ 0)) c.in_default.is c.last_in_front.ensures.none in
+    let none : p ≡ 0 = subst (λ (o : Option _). IfNone o (p ≡ 0)) c.in_default.is c.last_below.ensures.none in
     sym (first_owns ns c.requires of.stage of.bin c.args.limit p (prefix_len-le-length below ns) (limit_parts ns of.stage of.bin c.args.limit c.requires) of.first (λ l h. absurd (omega arith)))
 
 pub returns-then-is_of : goal.returns-then-is_of
@@ -29,8 +32,8 @@ returns-then-is_of c =
     let note = c.in-Some.note.now in
     let below = λ (n : Note). is_before (rank_of_note n) (of.stage ∷ of.bin ∷ c.args.limit ∷ []) in
     let p = prefix_len below ns in
-    let some = subst (λ (o : Option _). IfSome o (λ x. slice_get ns (p - 1) ≡ Some x.now)) c.in-Some.is c.last_in_front.ensures.some in
-    let front : 0 < p = subst (λ (o : Option _). IfSome o (λ x. 0 < p)) c.in-Some.is c.last_in_front.ensures.some_in_front in
+    let some = subst (λ (o : Option _). IfSome o (λ x. slice_get ns (p - 1) ≡ Some x.now)) c.in-Some.is c.last_below.ensures.some in
+    let front : 0 < p = subst (λ (o : Option _). IfSome o (λ x. 0 < p)) c.in-Some.is c.last_below.ensures.some_in_front in
     let is : note_at ns (p - 1) ≡ note = (read_at ns (p - 1) note some).1 no_note in
     let tested = ap (λ (n : Note). n.control.stage == of.stage && n.control.bin == of.bin) is ∙ sym c.is_of.ensures ∙ c.if-is_of.true in
     ap (λ (n : Note). n.control.worker) (sym is)
@@ -43,7 +46,7 @@ returns c =
     let note = c.in-Some.note.now in
     let below = λ (n : Note). is_before (rank_of_note n) (of.stage ∷ of.bin ∷ c.args.limit ∷ []) in
     let p = prefix_len below ns in
-    let some = subst (λ (o : Option _). IfSome o (λ x. slice_get ns (p - 1) ≡ Some x.now)) c.in-Some.is c.last_in_front.ensures.some in
+    let some = subst (λ (o : Option _). IfSome o (λ x. slice_get ns (p - 1) ≡ Some x.now)) c.in-Some.is c.last_below.ensures.some in
     let is : note_at ns (p - 1) ≡ note = (read_at ns (p - 1) note some).1 no_note in
     let tested = ap (λ (n : Note). n.control.stage == of.stage && n.control.bin == of.bin) is ∙ sym c.is_of.ensures ∙ c.if-is_of.false in
     sym (first_owns ns c.requires of.stage of.bin c.args.limit p (prefix_len-le-length below ns) (limit_parts ns of.stage of.bin c.args.limit c.requires) of.first (λ l h. not_of_test of.stage of.bin (note_at ns (p - 1)) tested h))
