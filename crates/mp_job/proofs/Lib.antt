@@ -2,4 +2,5 @@ pub mod Ascents
 pub mod Gathering
 pub mod Legality
 pub mod Members
+pub mod Same
 pub mod Sharing

@@ -10,13 +10,16 @@ use Rattle.std.proofs.lemmas.List.Kept.{IsStrictlyIncreasing-filter}
 use Rattle.std.proofs.lemmas.Option.{slice_get_past}
 use Rattle.std.proofs.lemmas.Grind.{common_steps}
 use Rattle.mp_model.specs.declared.record.Event.{Event}
+use Rattle.mp_model.specs.declared.value.Value.{Value}
 use Rattle.mp_model.specs.Facts.{QueryFacts}
 use Rattle.mp_job.specs.Laws.{SharesHoldEachOnce}
 use Rattle.mp_model.specs.Folds.{times_in}
 use Rattle.mp_model.specs.Stages.{record_of}
 use Rattle.mp_job.specs.Parts.{shares_of, with_index}
 use Rattle.mp_job.specs.Records.{is_taken_by, record_at, share_of}
+use Rattle.mp_job.specs.Times.{HoldSame}
 use Rattle.mp_job.proofs.Members.{filter-Contains, Contains-filter}
+use Rattle.mp_job.proofs.Same.{same_list, same_then, same_twice}
 
 -- one more number
 pub filter-one_more : (p : ℕ → Bool) (n : ℕ) → filter p (range_with_len 0 (n + 1)) ≡ filter p (range_with_len 0 n) ++ cond (p n) (n ∷ []) []
@@ -153,9 +156,25 @@ module _ {Cell : Type 0} (q : QueryFacts Cell) (events : List Event) (workers : 
       (λ (b : is_some (record_of q n e) ≡ false). made ∙ cond-false (is_some (record_of q n e)) (with_index n shares) shares b ∙ before ∙ none_more n (there ∙ b))
       (cases_Bool (is_some (record_of q n e)))
 
-  -- and its times are added
-  pub times_added : (n : ℕ) (e : Event) (old new all : List ℕ) → n < length events → e ≡ get_or events n e → new ≡ old ++ times_in q 0 (option_to_list (record_of q n e)) → old ++ times_in q 0 (filter_map (λ p. record_of q p.0 p.1) (enumerate_from n (drop n events))) ≡ all → new ++ times_in q 0 (filter_map (λ p. record_of q p.0 p.1) (enumerate_from (n + 1) (drop (n + 1) events))) ≡ all
-  times_added n e old new all l is added before = grind (arith, common_steps)
+-- The times of one more event
+
+module _ {Cell : Type 0} (q : QueryFacts Cell) where
+  -- those of the record that it makes: its own time, and the posts
+  pub times_made : (i n k : ℕ) (e : Event) (v : Value) (key : Option ℕ) (old posts : List ℕ) → key ≡ q.key 0 e.time e.value → key ≡ Some k → n ≡ i → v ≡ e.value → posts ≡ q.posts 0 (record { time = e.time; key = k; tag = record { 0 = 0; 1 = n }; value = v }) → (old ++ e.time ∷ []) ++ posts ≡ old ++ times_in q 0 (option_to_list (record_of q i e))
+  times_made i n k e v key old posts is has index value are = grind (arith, common_steps)
+
+  module _ (events : List Event) where
+    -- those of the events from this one on
+    abbrev pub times_from : ℕ → List ℕ
+    times_from n = times_in q 0 (filter_map (λ p. record_of q p.0 p.1) (enumerate_from n (drop n events)))
+
+    -- what is added, with what the later events will add
+    pub times_added : (n : ℕ) (e : Event) (old new all : List ℕ) → n < length events → e ≡ get_or events n e → HoldSame new (old ++ times_in q 0 (option_to_list (record_of q n e))) → HoldSame (old ++ times_from n) all → HoldSame (new ++ times_from (n + 1)) all
+    times_added n e old new all l is added before = same_then (new ++ times_from (n + 1)) (old ++ times_from n) all (same_twice _ new _ (times_from (n + 1)) _ (same_list _ _ refl) added (grind (arith, common_steps))) before
+
+    -- after the last nothing is left to add
+    pub none_left : (n : ℕ) (ts : List ℕ) → length events ≤ n → ts ≡ ts ++ times_from n
+    none_left n ts l = grind (arith, common_steps)
 
 -- Shares of no events
 

@@ -1,5 +1,5 @@
 -- The times at which something happens.
-use Rattle.std.specs.Prelude.{ℕ, ◌++◌, List, map}
+use Rattle.std.specs.Prelude.{ℕ, ◌++◌, ◌↔◌, Contains, List, map}
 use Rattle.mp_names.specs.declared.controls.Control.{Control}
 use Rattle.mp_model.specs.declared.record.Event.{Event}
 use Rattle.mp_model.specs.Ascending.{ascending}
@@ -14,3 +14,11 @@ control_times controls = map (λ c. c.time) controls
 -- the times of the records of stage 0, of their posts and of the control records, ascending and each once
 abbrev pub times_of : {Cell : Type 0} → QueryFacts Cell → List Event → List Control → List ℕ
 times_of q events controls = ascending (times_in q 0 (input_records q events) ++ control_times controls)
+
+-- each of the first stands among the others
+abbrev pub AllStandIn : List ℕ → List ℕ → Type 0
+AllStandIn xs ys = (t : ℕ) → Contains xs t → Contains ys t
+
+-- the same numbers stand in both, however often
+abbrev pub HoldSame : List ℕ → List ℕ → Type 0
+HoldSame xs ys = (t : ℕ) → (Contains xs t ↔ Contains ys t)

@@ -1,19 +1,21 @@
 //! What the events of a job are looked through for, once: the workers' shares, and the times of records.
-ghost use Rattle.std.specs.Prelude.{◌≡◌, ◌<◌, ◌≤◌, ◌++◌, [], OnOk, if◌then◌else◌, is_some, length, map, option_to_list};
+ghost use Rattle.std.specs.Prelude.{◌≡◌, ◌<◌, ◌≤◌, ◌++◌, ◌∷◌, [], OnOk, if◌then◌else◌, is_some, length, map, option_to_list};
 ghost use Rattle.std.specs.List.{range_with_len};
 ghost use Rattle.mp_names.specs.Limits.{last_time};
 ghost use Rattle.mp_model.specs.Folds.{times_in};
 ghost use Rattle.mp_model.specs.Legal.{EventsAreLegal};
 ghost use Rattle.mp_model.specs.Stages.{input_records, record_of};
 ghost use Rattle.mp_job.specs.Parts.{shares_of, with_index};
+ghost use Rattle.mp_job.specs.Times.{AllStandIn, HoldSame};
 
 use crate::shares::Share;
-use mp_model::{Event, Query, Rec, Tag, Time, Value};
+use mp_model::{Event, PostList, Query, Rec, Tag, Time, Value};
 use std::alloc::AllocError;
 use std::mem;
 
 /// Puts the indices of the events that make a record into the shares of the workers, which are empty, and adds the times of
-/// these records and of their posts. The events stay. `AllocError`: no memory.
+/// these records and of their posts. Of a time that is there already it may add no other. The events stay. `AllocError`: no
+/// memory.
 pub fn gather<Q: Query>(
     query: &Q,
     events: &mut [Event],
@@ -25,30 +27,42 @@ pub fn gather<Q: Query>(
     requires empty { shares.old ≡ map (λ _. []) (range_with_len 0 (length shares.old)) }
     ensures shares { OnOk result (shares.new ≡ shares_of (Q.facts (Q.rules query.now)) events.old (length shares.old)) }
     ensures times { let q = Q.facts (Q.rules query.now) in
-        OnOk result (times.new.items ≡ times.old.items ++ times_in q 0 (input_records q events.old)) }
+        OnOk result (HoldSame times.new.items (times.old.items ++ times_in q 0 (input_records q events.old))) }
     ensures events { events.new ≡ events.old }
 {
+    let mut posted = PostList::new();
     for index in 0..events.len() {
-        take_in(query, index as u32, &mut events[index], shares, times)?;
+        take_in(
+            query,
+            index as u32,
+            &mut events[index],
+            shares,
+            times,
+            &mut posted,
+        )?;
     }
     Ok(())
 }
 
-// Puts the index of an event, if it makes a record, into the share of its worker, and adds the times of the record. The
-// event's value is the record's meanwhile, so that it isn't copied.
+// Puts the index of an event, if it makes a record, into the share of its worker, and adds the times of the record: its
+// posts only if they differ from those that were added last, which are given. The event's value is the record's
+// meanwhile, so that it isn't copied.
 fn take_in<Q: Query>(
     query: &Q,
     index: u32,
     event: &mut Event,
     shares: &mut [Share],
     times: &mut Vec<Time>,
+    posted: &mut PostList,
 ) -> Result<(), AllocError>
     requires in_time { event.old.time ≤ last_time }
     requires some_worker { 0 < length shares.old }
+    requires posted { AllStandIn posted.old times.old.items }
     ensures shares { OnOk result (shares.new ≡
         (if is_some (record_of (Q.facts (Q.rules query.now)) index event.old) then with_index index shares.old else shares.old)) }
     ensures times { let q = Q.facts (Q.rules query.now) in
-        OnOk result (times.new.items ≡ times.old.items ++ times_in q 0 (option_to_list (record_of q index event.old))) }
+        OnOk result (HoldSame times.new.items (times.old.items ++ times_in q 0 (option_to_list (record_of q index event.old)))) }
+    ensures posted { OnOk result (AllStandIn posted.new times.new.items) }
     ensures event { event.new ≡ event.old }
 {
     let Some(key) = query.key(0, event.time, &event.value) else {
@@ -63,8 +77,40 @@ fn take_in<Q: Query>(
     let posts = query.posts(0, &rec);
     event.value = rec.value;
     add_index(shares, index)?;
-    times.push(event.time)?;
-    times.extend_from_slice(posts.as_slice())
+    add_time(event.time, times)?;
+    add_posts(posts, posted, times)?;
+    Ok(())
+}
+
+// Adds a time, unless it is the last that was added.
+fn add_time(time: Time, times: &mut Vec<Time>) -> Result<(), AllocError>
+    ensures { OnOk result (HoldSame times.new.items (times.old.items ++ time ∷ [])) }
+{
+    if let Some(last) = times.last() {
+        if *last == time {
+            return Ok(());
+        }
+    }
+    times.push(time)?;
+    Ok(())
+}
+
+// Adds posts, unless they are those that were added last: neighbours in one window post the same.
+fn add_posts(
+    posts: PostList,
+    posted: &mut PostList,
+    times: &mut Vec<Time>,
+) -> Result<(), AllocError>
+    requires { AllStandIn posted.old times.old.items }
+    ensures times { OnOk result (HoldSame times.new.items (times.old.items ++ posts)) }
+    ensures posted { OnOk result (AllStandIn posted.new times.new.items) }
+{
+    if posts.as_slice() == posted.as_slice() {
+        return Ok(());
+    }
+    times.extend_from_slice(posts.as_slice())?;
+    *posted = posts;
+    Ok(())
 }
 
 // Puts an index into the share of its worker.

@@ -55,6 +55,21 @@ fn times_of_records_posts_and_controls(rt: HostRuntime) -> Result<(), Fail> {
 }
 
 #[test]
+fn times_that_come_again_count_once(rt: HostRuntime) -> Result<(), Fail> {
+    let table = [
+        (5, true),
+        (5, true),
+        (20, true),
+        (5, true),
+        (10, true),
+        (20, true),
+    ];
+    let job = job_of_events(rt.alloc(), &table, &[20])?;
+    assert_eq!(rt; job.times(), [5, 10, 15, 20, 30].as_slice());
+    Ok(())
+}
+
+#[test]
 fn a_job_shows_what_it_was_made_of(rt: HostRuntime) -> Result<(), Fail> {
     let job = job_of_events(rt.alloc(), &[(30, true), (8, false)], &[12])?;
     assert!(rt; job.query().is_fresh(0, &0));

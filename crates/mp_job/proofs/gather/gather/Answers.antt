@@ -1,6 +1,7 @@
-use Rattle.std.proofs.Common.{◌≡◌, ◌<◌, ◌∙◌, ap, get_or, length, set}
+use Rattle.std.proofs.Common.{◌≡◌, ◌++◌, ◌<◌, ◌∙◌, ap, arith, get_or, length, set}
 use Rattle.std.proofs.lemmas.List.{get_or_default, set-get_or}
-use Rattle.mp_job.proofs.Sharing.{taken_in, times_added}
+use Rattle.mp_job.proofs.Same.{same_list, same_then}
+use Rattle.mp_job.proofs.Sharing.{none_left, taken_in, times_added, times_from}
 use Rattle.mp_job.proofs.gather.gather.Goals as goal
 
 pub loop-index-preserved : goal.loop-index-preserved
@@ -17,5 +18,12 @@ loop-index-preserved g c =
     record {
       stay = ap (λ e. set l.events l.index e) c.in_ok-take_in.ensures.event ∙ set-get_or l.events l.index given ∙ l.invariant.stay;
       taken = taken_in q events workers some l.index event l.shares c.take_in.new.shares inside there l.invariant.taken c.in_ok-take_in.ensures.shares;
-      added = times_added q events workers some l.index event l.times.items c.take_in.new.times.items _ inside there c.in_ok-take_in.ensures.times l.invariant.added;
+      added = times_added q events l.index event l.times.items c.take_in.new.times.items _ inside there c.in_ok-take_in.ensures.times l.invariant.added;
+      posted = c.in_ok-take_in.ensures.posted;
     }
+
+pub returns-clause-times : goal.returns-clause-times
+returns-clause-times g c =
+    let q = g.Q.Query.facts (g.Q.Query.rules c.args.query.now) in
+    let l = c.loop-index in
+    same_then _ (l.times.items ++ times_from q c.args.events.now l.index) _ (same_list _ _ (none_left q c.args.events.now l.index l.times.items (omega (arith, c.loop-index-test.false)))) l.invariant.added

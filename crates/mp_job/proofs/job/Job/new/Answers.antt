@@ -1,8 +1,12 @@
-use Rattle.std.proofs.Common.{◌≡◌, ◌++◌, ◌∙◌, List, ℕ, ap, arith, drop, length, rules, subst, sym, take}
+use Rattle.std.proofs.Common.{◌≡◌, ◌++◌, ◌∙◌, List, [], ℕ, ap, arith, drop, length, rules, subst, subst₂, sym, take}
 use Rattle.mp_model.specs.declared.record.Event.{Event}
+use Rattle.mp_model.specs.Ascending.{ascending}
+use Rattle.mp_model.specs.Folds.{times_in}
+use Rattle.mp_model.specs.Stages.{input_records}
 use Rattle.mp_job.specs.Legal.{JobIsLegal}
 use Rattle.mp_job.specs.Parts.{HoldsParts, job_of, shares_of}
-use Rattle.mp_job.specs.Times.{times_of}
+use Rattle.mp_job.specs.Times.{HoldSame, control_times, times_of}
+use Rattle.mp_job.proofs.Same.{ascending-same, same_before}
 use Rattle.mp_job.proofs.Sharing.{as_many, empty_there, length-shares, written_back}
 use Rattle.mp_job.proofs.job.Job.new.Goals as goal
 
@@ -35,7 +39,13 @@ invariant_of-result g c =
     let legal : JobIsLegal q (job_of rules_of events controls shape) =
     record { shape = c.requires.shape; stages = c.requires.stages ∙ sym (laws.stages_are rules_of); events = c.requires.events; controls = c.requires.controls }
     in
-    let times_are : times ≡ times_of q events controls = search rules in
+    let gathered = c.gather.new.times.items in
+    let none : c.new-times.result.items ≡ [] = search rules in
+    let own : HoldSame gathered (times_in q 0 (input_records q events)) =
+    subst₂ (λ (ts : List ℕ) (es : List Event). HoldSame gathered (ts ++ times_in q 0 (input_records q es))) none c.deref_mut.ensures.value c.in_ok-gather.ensures.times
+    in
+    let in_order : times ≡ ascending (gathered ++ control_times controls) = search rules in
+    let times_are : times ≡ times_of q events controls = in_order ∙ ascending-same _ _ (same_before gathered _ (control_times controls) own) in
     subst (λ (es : List Event). HoldsParts q (job_of rules_of es controls shape) (take c.in_ok-shares.shares.len (shares ++ drop (length shares) c.in_ok-shares.shares.items)) times) (sym all_events)
     (subst (λ (ss : List (List ℕ)). HoldsParts q (job_of rules_of events controls shape) ss times) (sym all_shares)
     (record { legal = legal; shares_are = are; times_are = times_are }))
