@@ -17,4 +17,4 @@ pub use laws::{
 };
 pub use message::{Body, Msg};
 pub use names::Names;
-pub use state::BinState;
+pub use state::{BinState, BoxedState};

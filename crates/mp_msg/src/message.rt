@@ -10,7 +10,7 @@ ghost use Rattle.mp_msg.specs.Bodies.{IsContentOf, names_of_body};
 ghost use Rattle.mp_msg.specs.Bundles.{HasOneSender, IsBundle, names_in};
 ghost use Rattle.mp_msg.specs.Contents.{IsControlOf, IsPacketOf, IsRowOf};
 
-use crate::{BinState, Bundle, Names};
+use crate::{BoxedState, Bundle, Names};
 use mp_mailbox::Named;
 use mp_model::{Fields, Naming, Query, Time};
 use mp_names::{Control, Name, Tag};
@@ -32,7 +32,7 @@ pub enum Body<C: Drop> {
         stage: u32,
         bin: u32,
         time: Time,
-        state: BinState<C>,
+        state: BoxedState<C>,
     },
     /// An answer row: its time, what tells it from the others of that time, and its fields.
     Row {
@@ -87,7 +87,7 @@ impl<Q: Query, J: Naming> Msg<Q, J> {
     }
 
     /// A message that takes what a bin has just before a move to its new owner.
-    pub fn packet(stage: u32, bin: u32, time: Time, state: BinState<Q::Cell>) -> Msg<Q, J>
+    pub fn packet(stage: u32, bin: u32, time: Time, state: BoxedState<Q::Cell>) -> Msg<Q, J>
         requires { IsPacketOf (Q.facts J.job.rules) J.job stage bin time state }
         ensures { result ≡ PacketName stage bin time ∷ [] }
     {

@@ -1,9 +1,9 @@
 //! What a bin has.
-ghost use Rattle.std.specs.Prelude.{◌≡◌, []};
+ghost use Rattle.std.specs.Prelude.{◌≡◌, [], IfOk};
 
 use indexmap::IndexMap;
 use mp_postdated::Wakes;
-use std::alloc::Global;
+use std::alloc::{AllocError, Global};
 use std::marker::Model;
 
 /// The state of a bin of a stage: the cells of its keys and the wakes of its keys. A key that has no cell has a fresh one.
@@ -36,5 +36,49 @@ impl<C: Drop> BinState<C> {
             cells: IndexMap::new(alloc),
             wakes: Wakes::new(alloc),
         }
+    }
+}
+
+/// The state of a bin in a place of its own on the heap, as a message carries it, so that all messages are small. Contracts
+/// see the state.
+#[derive(Drop)]
+pub struct BoxedState<C: Drop> {
+    state: Box<BinState<C>>,
+}
+
+impl<C: Drop> Model for BoxedState<C> {
+    ghost use Rattle.mp_msg.specs.States.{BinContent};
+
+    ghost Value = { BinContent C };
+
+    ghost view = { λ b. b.state.value };
+}
+
+impl<C: Drop> BoxedState<C> {
+    /// A place with the state of a bin whose keys have had no group. `AllocError`: no memory.
+    pub fn new(alloc: Global) -> Result<BoxedState<C>, AllocError>
+        ensures cells { IfOk result (λ boxed. boxed.cells ≡ []) }
+        ensures wakes { IfOk result (λ boxed. boxed.wakes ≡ []) }
+    {
+        Ok(BoxedState {
+            state: Box::new(alloc, BinState::new(alloc))?,
+        })
+    }
+
+    /// This place with another state. Takes no memory.
+    pub fn with(self, state: BinState<C>) -> BoxedState<C>
+        ensures { result ≡ state }
+    {
+        let BoxedState { state: mut place } = self;
+        Box::replace(&mut place, state);
+        BoxedState { state: place }
+    }
+
+    /// The state.
+    pub fn into_state(self) -> BinState<C>
+        ensures { result ≡ self }
+    {
+        let BoxedState { state } = self;
+        Box::into_inner(state)
     }
 }

@@ -15,7 +15,7 @@ use mp_handoff::count_of_keys;
 use mp_host_laws::Held;
 use mp_mailbox::Post;
 use mp_model::{Naming, Query};
-use mp_msg::{Body, Msg, Names};
+use mp_msg::{Body, BoxedState, Msg, Names};
 use mp_names::{Move, Name};
 use mp_parts::changes_of_leaving;
 use mp_rows::{Change, NewNames};
@@ -44,7 +44,8 @@ pub fn extract<'a, Q: Query, J: Naming, P: Post<Msg<Q, J>>>(
     };
     sort_wakes(parts, stage, moved)?;
     let changes = make_room_to_extract(parts, stage, moved)?;
-    send_bin(parts, stage, moved, changes, post)
+    let place = BoxedState::new(parts.alloc)?;
+    send_bin(parts, stage, moved, changes, place, post)
 }
 
 // The move of the packet that is to leave the stage now, `None` exactly where none may.
@@ -95,13 +96,14 @@ fn make_room_to_extract<'a, Q: Query, J: Naming>(
     Ok(changes)
 }
 
-// Sends the packet of this move. There is room for it.
+// Sends the packet of this move, in this place on the heap. There is room for it.
 #[tactic(auto, using(crate::proofs::Kept::messages_stay))]
 fn send_bin<'a, Q: Query, J: Naming, P: Post<Msg<Q, J>>>(
     parts: &mut Parts<'a, Q, J>,
     stage: u32,
     moved: Move,
     changes: Vec<Change>,
+    place: BoxedState<Q::Cell>,
     post: &mut P,
 ) -> Result<Option<Names>, AllocError>
     requires stage { stage < J.job.shape.stages }
@@ -123,7 +125,7 @@ fn send_bin<'a, Q: Query, J: Naming, P: Post<Msg<Q, J>>>(
         unreachable!()
     };
     let keys = count_of_keys(&state);
-    let packet = Msg::packet(stage, bin, moved.time, state);
+    let packet = Msg::packet(stage, bin, moved.time, place.with(state));
     let names = NewNames::one(Name::Packet {
         stage,
         bin,
@@ -140,6 +142,7 @@ fn send_bin<'a, Q: Query, J: Naming, P: Post<Msg<Q, J>>>(
     let Body::Packet { state, .. } = message.into_body() else {
         unreachable!()
     };
+    let state = state.into_state();
     host.put_back(Held { bin, since, state });
     Ok(None)
 }

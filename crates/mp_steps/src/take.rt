@@ -35,7 +35,7 @@ impl<'a, Q: Query, J: Naming> Parts<'a, Q, J> {
                 bin,
                 time,
                 state,
-            } => self.take_packet(stage, bin, time, state),
+            } => self.take_packet(stage, bin, time, state.into_state()),
             Body::Row { time, tag, fields } => self.take_row(time, tag, fields),
         }
     }

@@ -9,8 +9,8 @@ ghost use Rattle.mp_samples.specs.Jobs.{one_move};
 use mp_mailbox::{PlainPost, Post};
 use mp_model::{Naming, Value};
 use mp_msg::{
-    Body, Bundle, Msg, contents_are_messages, messages_are_owed, messages_go_where_they_are_owed,
-    names_tell_contents,
+    Body, BoxedState, Bundle, Msg, contents_are_messages, messages_are_owed,
+    messages_go_where_they_are_owed, names_tell_contents,
 };
 use mp_samples::{AnsweringBids, record_of_bid, state_of_bin, to_worker_two};
 use std::alloc::Global;
@@ -75,10 +75,12 @@ fn control_is_sent<J: Naming>(rt: &impl Abort, alloc: Global) -> Result<(), Fail
 fn packet_is_sent<J: Naming>(rt: &impl Abort, alloc: Global) -> Result<(), Fail>
     requires { J.job ≡ one_move }
 {
-    let message = Msg::<AnsweringBids, J>::packet(0, 1, 10, state_of_bin(alloc)?);
+    let boxed = BoxedState::new(alloc)?.with(state_of_bin(alloc)?);
+    let message = Msg::<AnsweringBids, J>::packet(0, 1, 10, boxed);
     let Body::Packet { state, .. } = carried(rt, alloc, 1, 2, message)? else {
         return Err("no packet".into());
     };
+    let state = state.into_state();
     assert_eq!(rt; state.cells.get(&7).copied(), Some(1));
     assert!(rt; state.wakes.has(15, 7));
     Ok(())

@@ -283,8 +283,10 @@ fn join_all<'a, Q: Query, J: Naming, R: Wait + Drop, T: Threads>(
     rt: &T,
 ) {
     for place in places {
-        if let Place::Away(handle) = place {
-            drop(handle.join(rt));
+        match place {
+            Place::Away(handle) => drop(handle.join(rt)),
+            Place::Here(member) => drop(member),
+            Place::Lost(_) => {}
         }
     }
 }

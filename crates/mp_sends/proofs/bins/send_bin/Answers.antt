@@ -31,7 +31,7 @@ packet-packet-requires-after_bounds g c κs within =
     let due = rw (← c.parts.view_is) at c.requires.due in
     let one = c.in-Some in
     let told = leaving kept.sound kept.parts j c.requires.stage c.args.moved due h at one.field-0 c.take_bin.new.self one.ensures.taken one.ensures.held in
-    told.content
+    rw c.with.ensures told.content
 
 pub send-requires-clause-may : goal.send-requires-clause-may
 send-requires-clause-may g c κs within =
@@ -144,7 +144,7 @@ put_back-requires-clause-fits g c κs within =
     let job = g.J.Naming.job in
     let back = c.in-Packet in
     let named = back.ensures.names ∙ c.in-Err.ensures.back ∙ c.packet-packet.ensures in
-    let same = bin_back one.field-0 back.state (state_back (g.Q.Query.facts job.rules) job back.stage j back.bin one.field-0.bin back.time c.args.moved.time back.state one.field-0.state back.ensures.content told.content named) in
+    let same = bin_back one.field-0 c.into_state-state.result (c.into_state-state.ensures ∙ state_back (g.Q.Query.facts job.rules) job back.stage j back.bin one.field-0.bin back.time c.args.moved.time back.state one.field-0.state back.ensures.content told.content named) in
     rw (one.ensures.taken.stage, same) one.ensures.fits
 
 pub invariant_of-parts-2 : goal.invariant_of-parts-2
@@ -159,7 +159,7 @@ invariant_of-parts-2 g c =
     let job = g.J.Naming.job in
     let back = c.in-Packet in
     let named = back.ensures.names ∙ c.in-Err.ensures.back ∙ c.packet-packet.ensures in
-    let same = bin_back one.field-0 back.state (state_back (g.Q.Query.facts job.rules) job back.stage j back.bin one.field-0.bin back.time c.args.moved.time back.state one.field-0.state back.ensures.content told.content named) in
+    let same = bin_back one.field-0 c.into_state-state.result (c.into_state-state.ensures ∙ state_back (g.Q.Query.facts job.rules) job back.stage j back.bin one.field-0.bin back.time c.args.moved.time back.state one.field-0.state back.ensures.content told.content named) in
     let m = c.index_mut-movers.result.now in
     let movers = movers_at kept.parts j c.requires.stage m c.index_mut-movers.ensures.value in
     let i = c.parts.inside in

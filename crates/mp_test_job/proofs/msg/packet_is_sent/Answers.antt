@@ -4,7 +4,7 @@ use Rattle.mp_samples.proofs.Moving.{state_is_packet}
 use Rattle.mp_test_job.proofs.msg.packet_is_sent.Goals as goal
 
 pub packet-message-requires-after_bounds : goal.packet-message-requires-after_bounds
-packet-message-requires-after_bounds g c κs within = rw (c.requires, c.in_ok-state_of_bin.ensures) state_is_packet
+packet-message-requires-after_bounds g c κs within = rw (c.requires, c.with-boxed.ensures, c.in_ok-state_of_bin.ensures) state_is_packet
 
 pub carried-requires-clause-sender : goal.carried-requires-clause-sender
 unfolding owner_before
