@@ -1,25 +1,24 @@
-//! Room for what a step changes at the counts. It is made before the step, as nothing may be refused after that.
-ghost use Rattle.std.specs.Prelude.{◌≡◌, ◌≤◌, ◌<◌, ◌+◌, ◌^◌, [], IfOk, OnOk};
+//! Lists of what a step changes at the counts. Room in them is made before the step, as nothing may be refused after that.
+ghost use Rattle.std.specs.Prelude.{◌≡◌, ◌≤◌, ◌<◌, ◌+◌, ◌^◌, [], OnOk};
 ghost use Rattle.std.specs.Vec.{vec_capacity};
 
-use mp_model::{Naming, Query, Time};
-use mp_rows::{Change, Log, OutlineOf};
+use mp_model::Time;
+use mp_rows::Change;
 use std::alloc::{AllocError, Global};
 
-/// What a packet that is taken changes: how many groups of each time begin to wait, and the changes at the counts. A
-/// worker keeps these lists, so that a message takes memory only the first time.
+/// Lists that a worker keeps, so that its steps take memory only the first time, and where one changes more than all before.
 #[derive(Drop)]
-pub struct PacketLists {
-    /// How many groups of each time begin to wait.
+pub struct ChangeLists {
+    /// How many groups of each time begin to wait with a packet that is taken.
     pub numbers: Vec<(Time, u64)>,
-    /// At the counts of outstanding work.
+    /// What a packet that is taken, or a group that is applied, changes at the counts of outstanding work.
     pub changes: Vec<Change>,
 }
 
-impl PacketLists {
+impl ChangeLists {
     /// Empty lists, with no room.
-    pub fn new(alloc: Global) -> PacketLists {
-        PacketLists {
+    pub fn new(alloc: Global) -> ChangeLists {
+        ChangeLists {
             numbers: Vec::new(alloc),
             changes: Vec::new(alloc),
         }
@@ -36,27 +35,13 @@ impl PacketLists {
         self.numbers.reserve(times)?;
         self.changes.reserve(times + 1)
     }
-}
 
-/// Makes room in the log for the name and the changes of a group that gives and wakes no more than `most` in all, and the
-/// list of these changes, which is still empty. `AllocError`: no memory, and nothing but rooms changes.
-pub fn room_in_log<Q: Query, J: Naming>(
-    alloc: Global,
-    most: u64,
-    log: &mut Log<OutlineOf<Q, J>>,
-) -> Result<Vec<Change>, AllocError>
-    ensures log { log.new.log ≡ log.old.log }
-    ensures posted { log.new.posted ≡ log.old.posted }
-    ensures worker { log.new.worker ≡ log.old.worker }
-    ensures names { OnOk result (1 ≤ log.new.room_for_names) }
-    ensures changes { OnOk result (most + 2 ≤ log.new.room_for_changes) }
-    ensures empty { IfOk result (λ changes. changes.items ≡ []) }
-    ensures room { IfOk result (λ changes. most + 2 ≤ vec_capacity changes) }
-    ensures whole { OnOk result (most + 2 < 2 ^ 64) }
-{
-    let Some(count) = most.checked_add(2) else {
-        return Err(AllocError);
-    };
-    log.make_room(count)?;
-    Vec::with_capacity(alloc, count as usize)
+    /// Empties the list of changes and makes room for so many. `AllocError`: no memory.
+    pub fn make_room_for_changes(&mut self, count: u64) -> Result<(), AllocError>
+        ensures empty { self.new.changes.items ≡ [] }
+        ensures room { OnOk result (count ≤ vec_capacity self.new.changes) }
+    {
+        self.changes.clear();
+        self.changes.reserve(count as usize)
+    }
 }

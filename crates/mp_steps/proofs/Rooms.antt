@@ -1,5 +1,5 @@
 -- Parts in which room is made: they hold what they held. And calls that are never refused, as there is room.
-use Rattle.std.proofs.Common.{◌≡◌, ◌≤◌, ◌++◌, ◌∷◌, [], ℕ, List, Result, Ok, Err, arith, drop, length, length-take, take, refl, sym, ap, ◌∙◌, subst}
+use Rattle.std.proofs.Common.{◌≡◌, ◌≤◌, ◌++◌, ◌∷◌, [], ℕ, List, Result, Ok, Err, arith, drop, length, length-take, map, take, refl, sym, ap, ◌∙◌, subst}
 use Rattle.std.specs.Result.{IsOk}
 use Rattle.std.proofs.lemmas.Bool.{false≢true}
 use Rattle.mp_names.specs.declared.pointstamps.Change.{Change}
@@ -12,6 +12,7 @@ use Rattle.mp_model.specs.declared.record.Output.{Output}
 use Rattle.mp_model.specs.Facts.{JobFacts, QueryFacts}
 use Rattle.mp_outline.specs.JobOutline.{outline_of}
 use Rattle.mp_rows.specs.WorkerLog.{WorkerLog}
+use Rattle.mp_route.specs.Routed.{Routed}
 use Rattle.mp_host_laws.specs.Hosted.{Hosted}
 use Rattle.mp_host_laws.specs.HostOf.{IsHostOf}
 use Rattle.mp_handoff.specs.MoversState.{MoversState}
@@ -19,6 +20,8 @@ use Rattle.mp_handoff.specs.MoversOf.{IsMoversOf}
 use Rattle.mp_worker_invariant.specs.Parts.{AreMoversAt, AreTaken, IsHostAt, Parts}
 use Rattle.mp_worker_invariant.proofs.Items.{same_each, same_length, written_back}
 use Rattle.mp_worker_invariant.proofs.Others.{other_hosts, other_movers, other_notes}
+use Rattle.mp_parts.specs.Onward.{content}
+use Rattle.mp_parts.proofs.Applied.{all_written, routers_roomy}
 use Rattle.mp_steps.specs.Kept.{IsKept}
 use Rattle.mp_steps.specs.Rooms.{SameHosts, SameMovers, roomless, without_room}
 use Rattle.mp_steps.proofs.Keeping.{kept_as, kept_by}
@@ -78,6 +81,12 @@ module _ {Cell : Type 0} {q : QueryFacts Cell} {job its : JobFacts} {p : Parts C
       let there = subst (λ (ms : List MoversState). SameMovers ms roomy) is same in
       rw (written_back roomless p.movers lent roomy n count same)
       (kept_as kept (other_movers kept.parts roomy (same_length roomless p.movers roomy there) (same_each roomless (AreMoversAt q job p.number p.log) (same_movers q job p.number p.log) p.movers roomy there kept.parts.movers)))
+
+  -- and where the outputs of a group go
+  pub onward_roomy : (roomy : List Routed) (n : ℕ) (others : List Output) → n ≡ length p.routers → map content roomy ≡ map content p.routers → others ≡ p.unsent
+      → IsKept q job its (record p { routers = take n (roomy ++ drop (length roomy) p.routers); unsent = others })
+  onward_roomy roomy n others count same still =
+      rw (all_written n p.routers roomy count (same_length content p.routers roomy same), still) (kept_as kept (routers_roomy kept.sound kept.parts roomy same))
 
   -- room is made in the log, the notes and the rows
   pub front_roomy : (new : WorkerLog) → new.worker ≡ p.number → (more : Notes) (others : List Output) → new.log ≡ p.log → (more.shape ≡ p.notes.shape) × (more.noted ≡ p.notes.noted) → others ≡ p.unwritten

@@ -1,5 +1,6 @@
 -- What is needed before a group is applied, as nothing may be refused after that.
-use Rattle.std.specs.Prelude.{◌≡◌, ◌+◌, ◌≤◌, ℕ, None, Some, length, slice_get}
+use Rattle.std.specs.Prelude.{◌≡◌, ◌+◌, ◌≤◌, ℕ, [], None, Some, length, slice_get}
+use Rattle.std.specs.Vec.{vec_capacity}
 use Rattle.mp_model.specs.Facts.{JobFacts, QueryFacts}
 use Rattle.mp_model.specs.Folds.{cell_before}
 use Rattle.mp_model.specs.Stages.{stage_records}
@@ -10,11 +11,12 @@ use Rattle.mp_host_laws.specs.Applying.{woken_by}
 use Rattle.mp_host.specs.Ready.{IsReadyHere}
 use Rattle.mp_steps.specs.Contents.{Contents}
 
--- There is room for so many outputs and wakes of a group whose outputs go to the stage: in the log, in the list of its changes, which has room for so many, and in the router of the stage, or in the rows to be sent where there is no such stage
-pub record HasRoomToApply {Cell : Type 0} (j most listed : ℕ) (p : Contents Cell) : Type 0 where
+-- There is room for so many outputs and wakes of a group whose outputs go to the stage: in the log, in the list of changes, which is empty, and in the router of the stage, or in the rows to be sent where there is no such stage
+pub record HasRoomToApply {Cell : Type 0} (j most : ℕ) (p : Contents Cell) : Type 0 where
   pub names : 1 ≤ p.names
   pub changes : most + 2 ≤ p.changes
-  pub list : most + 2 ≤ listed
+  pub empty : p.lists.changes.items ≡ []
+  pub list : most + 2 ≤ vec_capacity p.lists.changes
   pub router : (r : Routed) → slice_get p.routers j ≡ Some r → most ≤ r.room
   pub unsent : slice_get p.routers j ≡ None → most ≤ p.unsent.room
 

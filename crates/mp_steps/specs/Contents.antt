@@ -12,9 +12,9 @@ use Rattle.mp_handoff.specs.MoversState.{MoversState}
 use Rattle.mp_output.specs.Unwritten.{Unwritten}
 use Rattle.mp_worker_invariant.specs.Kept.{with_all_took}
 use Rattle.mp_refinement.specs.State.{WorkerState}
-use Rattle.mp_parts.specs.declared.room.PacketLists.{PacketLists}
+use Rattle.mp_parts.specs.declared.room.ChangeLists.{ChangeLists}
 
--- the worker; for how many more names and changes its log has room; the control records that it noted; by stage its routers, hosts and movers; the answer rows that it has to send, and those that it has to write; and its lists for packets
+-- the worker; for how many more names and changes its log has room; the control records that it noted; by stage its routers, hosts and movers; the answer rows that it has to send, and those that it has to write; and its lists for what a step changes
 pub record Contents (Cell : Type 0) : Type 0 where
   pub worker : WorkerState
   pub names : ℕ
@@ -25,7 +25,7 @@ pub record Contents (Cell : Type 0) : Type 0 where
   pub movers : List MoversState
   pub unsent : Unwritten
   pub unwritten : Unwritten
-  pub lists : PacketLists
+  pub lists : ChangeLists
 
 -- the worker that they are of
 abbrev pub worker_of : {Cell : Type 0} → Contents Cell → WorkerState

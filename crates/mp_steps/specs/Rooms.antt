@@ -25,7 +25,7 @@ roomless m = record m { room = 0 }
 abbrev pub SameMovers : List MoversState → List MoversState → Type 0
 SameMovers old new = map roomless new ≡ map roomless old
 
--- There is room for one message, whatever it holds: in the log for the names that may travel in one, the notes, the rows to be written, each host, the movers of each stage, and the lists for packets, which are empty. A packet has wakes of no more times than the job has
+-- There is room for one message, whatever it holds: in the log for the names that may travel in one, the notes, the rows to be written, each host, the movers of each stage, and the lists of changes, which are empty. A packet has wakes of no more times than the job has
 pub record HasRoomToTake {Cell : Type 0} (q : QueryFacts Cell) (job : JobFacts) (p : Contents Cell) : Type 0 where
   pub names : most_in_bundle ≤ p.names
   pub changes : number_of_times q job + 2 ≤ p.changes

@@ -1,5 +1,5 @@
 //! How a worker applies groups.
-ghost use Rattle.std.specs.Prelude.{◌≡◌, ◌≤◌, ◌<◌, ◌+◌, ◌^◌, ◌++◌, ◌∷◌, ℕ, [], IfNone, IfOk, IfSome, IsOk, OnErr, get_or, length, map};
+ghost use Rattle.std.specs.Prelude.{◌≡◌, ◌≤◌, ◌<◌, ◌+◌, ◌^◌, ◌++◌, ◌∷◌, ℕ, [], IfNone, IfOk, IfSome, IsOk, OnErr, OnOk, get_or, length, map};
 ghost use Rattle.std.specs.Vec.{vec_capacity};
 ghost use Rattle.mp_names.specs.declared.locations.Loc.TheVariants.{Host as HostLoc};
 ghost use Rattle.mp_names.specs.declared.kinds.Kind.TheVariants.{Apply};
@@ -25,7 +25,6 @@ use mp_msg::Names;
 use mp_names::{Loc, Name};
 use mp_parts::{
     hold_records, hold_rows, location_after, make_room_onward, one_less, one_more, push_more,
-    room_in_log,
 };
 use mp_rows::{Change, LogList};
 use mp_stamps::Seen;
@@ -43,8 +42,8 @@ impl<'a, Q: Query, J: Naming> Parts<'a, Q, J> {
         let Some(most) = self.most_of_ready(stage) else {
             return Ok(None);
         };
-        let changes = self.make_room_to_apply(stage as usize + 1, most)?;
-        self.apply_ready(stage, changes)
+        self.make_room_to_apply(stage as usize + 1, most)?;
+        self.apply_ready(stage)
     }
 
     // No fewer than the outputs and the wakes of the group of a stage that may be applied, `None` exactly where there is none.
@@ -60,30 +59,29 @@ impl<'a, Q: Query, J: Naming> Parts<'a, Q, J> {
         host.most_if_ready(self.alloc, &self.seen, &self.owners)
     }
 
-    // Makes room for a group that gives and wakes no more than `most` in all, and whose outputs go to a stage, and the list of
-    // its changes, which is still empty. `AllocError`: no memory, and nothing but rooms changes.
-    fn make_room_to_apply(&mut self, onward: usize, most: u64) -> Result<Vec<Change>, AllocError>
+    // Makes room for a group that gives and wakes no more than `most` in all, and whose outputs go to a stage. `AllocError`: no
+    // memory, and nothing changes but rooms and the list of changes.
+    fn make_room_to_apply(&mut self, onward: usize, most: u64) -> Result<(), AllocError>
         ensures same { self.new.worker ≡ self.old.worker }
         ensures held { (self.new.hosts ≡ self.old.hosts) × (self.new.notes ≡ self.old.notes) }
-        ensures room { IfOk result (λ changes. HasRoomToApply onward most (vec_capacity changes) self.new) }
-        ensures empty { IfOk result (λ changes. (changes.items ≡ []) × (most + 2 < 2 ^ 64)) }
+        ensures room { OnOk result (HasRoomToApply onward most self.new) }
+        ensures whole { OnOk result (most + 2 < 2 ^ 64) }
     {
+        let Some(count) = most.checked_add(2) else {
+            return Err(AllocError);
+        };
+        self.log.make_room(count)?;
+        self.lists.make_room_for_changes(count)?;
         make_room_onward(onward, most, &mut self.routers, &mut self.unsent)?;
-        let changes = room_in_log(self.alloc, most, &mut self.log)?;
-        Ok(changes)
+        Ok(())
     }
 
     // Applies the group of a stage that may be applied. There is room for it.
-    fn apply_ready(
-        &mut self,
-        stage: u32,
-        mut changes: Vec<Change>,
-    ) -> Result<Option<Names>, AllocError>
+    fn apply_ready(&mut self, stage: u32) -> Result<Option<Names>, AllocError>
         requires stage { stage < J.job.shape.stages }
-        requires empty { changes.items ≡ [] }
         requires ready { SomeGroupIsReady J.job stage self.old }
         requires room { (most : ℕ)
-            × HasRoomToApply (stage + 1) most (vec_capacity changes) self.old
+            × HasRoomToApply (stage + 1) most self.old
             × IsEnoughFor (Q.facts J.job.rules) J.job stage most self.old }
         ensures { let o = outline_of (Q.facts J.job.rules) J.job in
             StepsAlone o (Apply stage) self.old.worker self.new.worker result }
@@ -97,7 +95,8 @@ impl<'a, Q: Query, J: Naming> Parts<'a, Q, J> {
             key: applied.key,
         };
         let onward = location_after(stage, stages);
-        push_changes(&mut changes, stage, onward, &applied)?;
+        let changes = &mut self.lists.changes;
+        push_changes(changes, stage, onward, &applied)?;
         self.log.push(LogList::Applied, name, changes.as_slice())?;
         if stage + 1 < stages {
             let router = &mut self.routers[stage as usize + 1];

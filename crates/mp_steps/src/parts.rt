@@ -8,7 +8,7 @@ use mp_job::Job;
 use mp_model::{Naming, Query};
 use mp_names::ControlCursor;
 use mp_output::{Rows, Unsent};
-use mp_parts::PacketLists;
+use mp_parts::ChangeLists;
 use mp_route::Router;
 use mp_rows::{Log, OutlineOf};
 use mp_stamps::Seen;
@@ -46,8 +46,8 @@ pub struct Parts<'a, Q: Query, J: Naming> {
     pub unsent: Unsent<Q, J>,
     // The answer rows that it took, on worker 0.
     pub(crate) rows: Rows<Q, J>,
-    // For the next packet that it takes.
-    pub(crate) lists: PacketLists,
+    // For the next packet that it takes, and the next group that it applies.
+    pub(crate) lists: ChangeLists,
     ghost posted_once: { log.posted ≡ posted.value.log },
 }
 

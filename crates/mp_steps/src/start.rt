@@ -15,7 +15,7 @@ use mp_job::Job;
 use mp_model::{Naming, Query};
 use mp_names::ControlCursor;
 use mp_output::{Rows, Unsent};
-use mp_parts::PacketLists;
+use mp_parts::ChangeLists;
 use mp_route::Router;
 use mp_rows::Log;
 use mp_stamps::Seen;
@@ -60,7 +60,7 @@ impl<'a, Q: Query, J: Naming> Parts<'a, Q, J> {
             movers,
             unsent: Unsent::new(alloc),
             rows: Rows::new(alloc),
-            lists: PacketLists::new(alloc),
+            lists: ChangeLists::new(alloc),
         };
         Ok(parts)
     }

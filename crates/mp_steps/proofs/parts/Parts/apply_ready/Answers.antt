@@ -40,6 +40,11 @@ push-requires g c = record {
       rw (c.as_slice.ensures.value, c.in_ok-push_changes.ensures.changes) (told.changes c.location_after-onward.result to);
 }
 
+pub push_changes-requires-clause-empty : goal.push_changes-requires-clause-empty
+push_changes-requires-clause-empty g c =
+    let room = rw (← c.self.view_is) at c.requires.room in
+    room.1.empty
+
 pub push_changes-requires-clause-room : goal.push_changes-requires-clause-room
 push_changes-requires-clause-room g c =
     let told = c.in_ok-applied.ensures.told _ _ c.self.invariant c.index_mut-host.ensures.value refl refl in
