@@ -5,6 +5,8 @@
 #![tactic(auto)]
 
 #[cfg(test)]
+mod firsts;
+#[cfg(test)]
 mod handoff;
 #[cfg(test)]
 mod host;
