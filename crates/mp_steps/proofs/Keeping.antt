@@ -1,5 +1,5 @@
 -- What a worker keeps to where its parts are others, and what its parts say of its steps.
-use Rattle.std.proofs.Common.{◌≡◌, ◌<◌, ℕ, List, [], ◌∷◌, IfNone, None, Option, Some, refl}
+use Rattle.std.proofs.Common.{◌≡◌, ◌<◌, ℕ, List, [], ◌∷◌, Err, IfNone, None, Ok, OnOk, Option, Result, Some, refl}
 use Rattle.mp_names.specs.declared.kinds.Kind.{Kind}
 use Rattle.mp_names.specs.declared.kinds.Kind.TheVariants.{Receive}
 use Rattle.mp_names.specs.declared.names.Name.{Name}
@@ -15,7 +15,9 @@ use Rattle.mp_worker_invariant.specs.Laws.{CanDo}
 use Rattle.mp_worker_invariant.specs.Parts.{ArePartsOf, Parts}
 use Rattle.mp_refinement.specs.State.{CanMake, Makes, WorkerState}
 use Rattle.mp_refinement.specs.Steps.{MakesAlone, MakesByMail, Tells}
-use Rattle.mp_steps.specs.Contents.{with_taken}
+use Rattle.mp_output.specs.Unwritten.{Unwritten}
+use Rattle.mp_parts.specs.declared.room.ChangeLists.{ChangeLists}
+use Rattle.mp_steps.specs.Contents.{Contents, with_taken}
 use Rattle.mp_steps.specs.Kept.{IsKept}
 
 module _ {Cell : Type 0} {q : QueryFacts Cell} {job its : JobFacts} {p : Parts Cell} (kept : IsKept q job its p) where
@@ -32,9 +34,19 @@ pub on_none : {A : Type 0} (o : Option A) {P Q : Type 0} → IfNone o P → (P �
 on_none None p f = f p
 on_none (Some a) p f = tt
 
+-- and from what holds on `Ok`
+pub on_ok : {A E : Type 0} (r : Result A E) {P Q : Type 0} → OnOk r P → (P → Q) → OnOk r Q
+on_ok (Ok a) p f = f p
+on_ok (Err e) p f = tt
+
 -- the worker as contracts see it
 abbrev pub state : {Cell : Type 0} → Parts Cell → WorkerState
 state p = record { number = p.number; log = p.log; posted = p.posted; seen = p.seen }
+
+-- the parts as contracts see them
+abbrev pub contents : {Cell : Type 0} → Parts Cell → ℕ → ℕ → Unwritten → Unwritten → ChangeLists → Contents Cell
+contents p names changes unsent unwritten lists =
+    record { worker = state p; names = names; changes = changes; notes = p.notes; routers = p.routers; hosts = p.hosts; movers = p.movers; unsent = unsent; unwritten = unwritten; lists = lists }
 
 module _ {Cell : Type 0} {q : QueryFacts Cell} {job its : JobFacts} {p : Parts Cell} (kept : IsKept q job its p) (kind : Kind) (x : Name) where
   pub can_make : KindFits (outline_of q job) kind → CanDo q job p kind x → CanMake (outline_of q job) kind (state p) x

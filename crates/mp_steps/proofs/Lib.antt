@@ -1,4 +1,5 @@
 pub mod Begun
 pub mod Keeping
 pub mod Rooms
+pub mod Stepping
 pub mod Written

@@ -5,7 +5,6 @@ use Rattle.std.specs.declared.result.Result.{Result}
 use Rattle.mp_names.specs.declared.kinds.Kind.TheVariants.{Write}
 use Rattle.mp_names.specs.declared.locations.Frontier.{Frontier}
 use Rattle.mp_names.specs.declared.locations.Loc.TheVariants.{OutMail}
-use Rattle.mp_names.specs.declared.names.Name.{Name}
 use Rattle.mp_names.specs.declared.names.Name.TheVariants.{Written}
 use Rattle.mp_names.specs.Frontiers.{HasPassed, IsClosedForOne}
 use Rattle.mp_names.specs.Keeping.{IsUnwritten}
@@ -34,7 +33,7 @@ passed : (frontier : Frontier) (rows : List Output) (t : ℕ) → IsDue frontier
 passed frontier [] t due = absurd due
 passed frontier (row ∷ rows) t due = due.1
 
-module _ {Cell : Type 0} (q : QueryFacts Cell) (job : JobFacts) (p : Parts Cell) (parts : ArePartsOf q job p) (first : p.number ≡ 0) (t : ℕ) (due : IsDue (seen_at p.seen OutMail) p.unwritten t) where
+module _ {Cell : Type 0} {q : QueryFacts Cell} {job : JobFacts} {p : Parts Cell} (parts : ArePartsOf q job p) (first : p.number ≡ 0) (t : ℕ) (due : IsDue (seen_at p.seen OutMail) p.unwritten t) where
   -- all rows of a time that is due have come
   pub rows_have_come : IsClosedForOne (outline_of q job) 0 p.log OutMail t
   rows_have_come = subst (λ (v : ℕ). IsClosedForOne (outline_of q job) v p.log OutMail t) first (parts.done OutMail t tt (passed _ p.unwritten t due))

@@ -23,8 +23,7 @@ impl<'a, Q: Query, J: Naming> Parts<'a, Q, J> {
         self.lists.make_room(times)?;
         make_room_to_take(times, &mut self.log, &mut self.rows, &mut self.owners)?;
         make_room_in_hosts(&mut self.hosts)?;
-        make_room_in_movers(&mut self.movers)?;
-        Ok(())
+        make_room_in_movers(&mut self.movers)
     }
 }
 

@@ -3,7 +3,6 @@ ghost use Rattle.std.specs.Prelude.{◌≡◌, ◌<◌, ◌≤◌, ◌+◌, ◌^
 ghost use Rattle.std.specs.Vec.{vec_capacity};
 ghost use Rattle.mp_names.specs.declared.names.Name.TheVariants.{Ctrl, Packet, Row};
 ghost use Rattle.mp_names.specs.Names.{has};
-ghost use Rattle.mp_names.specs.Outlines.{IsOwedTo};
 ghost use Rattle.mp_count_laws.specs.Changes.{packet_taken_at};
 ghost use Rattle.mp_outline.specs.JobOutline.{outline_of};
 ghost use Rattle.mp_msg.specs.Bundles.{IsBundle, names_in};
@@ -102,8 +101,7 @@ impl<'a, Q: Query, J: Naming> Parts<'a, Q, J> {
     // The state of a bin is in hand from now on.
     fn take_packet(&mut self, stage: u32, bin: u32, time: Time, state: BinState<Q::Cell>)
         requires state { IsPacketOf (Q.facts J.job.rules) J.job stage bin time state }
-        requires owed { IsOwedTo (outline_of (Q.facts J.job.rules) J.job) self.old.worker.number (Packet stage bin time) }
-        requires fresh { has self.old.worker.log.took (Packet stage bin time) ≡ false }
+        requires new { AreOwedAndNew (outline_of (Q.facts J.job.rules) J.job) self.old.worker.number self.old.worker.log (Packet stage bin time ∷ []) }
         requires room { HasRoomToTake (Q.facts J.job.rules) J.job self.old }
         ensures { self.new.worker ≡ with_taken (Packet stage bin time ∷ []) self.old.worker }
     {
@@ -123,8 +121,7 @@ impl<'a, Q: Query, J: Naming> Parts<'a, Q, J> {
     // An answer row goes to those that are to be written.
     fn take_row(&mut self, time: Time, tag: Tag, fields: Fields)
         requires row { IsRowOf (Q.facts J.job.rules) J.job time tag fields }
-        requires owed { IsOwedTo (outline_of (Q.facts J.job.rules) J.job) self.old.worker.number (Row time tag) }
-        requires fresh { has self.old.worker.log.took (Row time tag) ≡ false }
+        requires new { AreOwedAndNew (outline_of (Q.facts J.job.rules) J.job) self.old.worker.number self.old.worker.log (Row time tag ∷ []) }
         requires room { HasRoomToTake (Q.facts J.job.rules) J.job self.old }
         ensures { self.new.worker ≡ with_taken (Row time tag ∷ []) self.old.worker }
     {

@@ -7,9 +7,8 @@ use Rattle.mp_steps.proofs.room.make_room_in_movers.Goals as goal
 pub loop-one-preserved : goal.loop-one-preserved
 loop-one-preserved g c =
     let l = c.loop-one in
-    let new = c.make_room.new.self in
     let inside : l.one-index < length l.one-items = search rules in
     record {
-      same = same_put roomless c.args.movers.now l.one-items l.one-index c.one-item.result new l.invariant.same (ap roomless c.make_room.ensures.same);
-      roomy = one_more_so (λ (m : MoversState). 1 ≤ m.room) l.one-items l.one-index new l.invariant.roomy c.in_ok-make_room.ensures.room inside;
+      same = same_put roomless c.args.movers.now l.one-items l.one-index c.one-item.result c.make_room.new.self l.invariant.same (ap roomless c.make_room.ensures.same);
+      roomy = one_more_so (λ (m : MoversState). 1 ≤ m.room) l.one-items l.one-index c.make_room.new.self l.invariant.roomy c.in_ok-make_room.ensures.room inside;
     }

@@ -8,8 +8,7 @@ apply_ready-requires-clause-ready g c κs within =
 pub apply_ready-requires-clause-room : goal.apply_ready-requires-clause-room
 apply_ready-requires-clause-room g c κs within =
     let made = c.make_room_to_apply.ensures in
-    let ok = c.in_ok-make_room_to_apply.ensures in
-    (c.in-Some.most, ok.room, rw (made.held.0, made.held.1, made.same) (c.in-Some.ensures.enough ok.whole))
+    (c.in-Some.most, c.in_ok-make_room_to_apply.ensures.room, rw (made.held.0, made.held.1, made.same) (c.in-Some.ensures.enough c.in_ok-make_room_to_apply.ensures.whole))
 
 pub returns : goal.returns
 returns g c = rw (← c.make_room_to_apply.ensures.same) c.apply_ready.ensures

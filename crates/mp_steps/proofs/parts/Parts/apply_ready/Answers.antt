@@ -1,25 +1,23 @@
-use Rattle.std.proofs.Common.{◌≡◌, ◌∙◌, ◌+◌, ◌≤◌, ap, refl, sym, Some, length, arith}
-use Rattle.std.proofs.lemmas.Option.{slice_get-get_or, slice_get_past}
-use Rattle.mp_names.specs.declared.locations.Loc.TheVariants.{Host}
+use Rattle.std.proofs.Common.{◌≡◌, ◌∙◌, ◌+◌, ap, refl, sym, Some, arith}
+use Rattle.std.proofs.lemmas.Bool.{false≢true}
+use Rattle.std.proofs.lemmas.Option.{slice_get-get_or}
 use Rattle.mp_names.specs.declared.kinds.Kind.TheVariants.{Apply}
 use Rattle.mp_names.specs.declared.names.Name.TheVariants.{Group}
 use Rattle.mp_rows.specs.WorkerLog.{WorkerLog}
-use Rattle.mp_route.specs.Routed.{Routed}
 use Rattle.mp_host_laws.specs.Hosted.{Hosted}
 use Rattle.mp_worker_invariant.proofs.Items.{again_there}
 use Rattle.mp_worker_invariant.proofs.Standing.{host_at, informed, knows, router_at}
-use Rattle.mp_parts.proofs.Applied.{changes_length}
 use Rattle.mp_steps.specs.Contents.{worker_of}
 use Rattle.mp_steps.proofs.Keeping.{kept_by, makes}
+use Rattle.mp_steps.proofs.Stepping.{group_fits}
 use Rattle.mp_steps.proofs.parts.Parts.apply_ready.Goals as goal
 use Rattle.mp_steps.proofs.parts.Parts.apply_ready.Goals.{then-stage-stages+in_ok-hold_records, else-stage-stages+in_ok-hold_rows}
 
 pub apply_group-requires-clause-informed : goal.apply_group-requires-clause-informed
 apply_group-requires-clause-informed g c κs within =
     let kept = c.self.invariant in
-    let h = c.index_mut-host.result.now in
-    let at = host_at kept.parts c.args.stage c.requires.stage h c.index_mut-host.ensures.value in
-    (c.self.inside.log.log, informed kept.sound kept.parts c.args.stage h at, knows kept.sound kept.parts c.args.stage c.requires.stage h at)
+    let at = host_at kept.parts c.args.stage c.requires.stage c.index_mut-host.result.now c.index_mut-host.ensures.value in
+    (c.self.inside.log.log, informed kept.sound kept.parts c.args.stage _ at, knows kept.sound kept.parts c.args.stage c.requires.stage _ at)
 
 pub apply_group-requires-clause-ready : goal.apply_group-requires-clause-ready
 apply_group-requires-clause-ready g c κs within =
@@ -33,36 +31,21 @@ pub invariant_of-self : goal.invariant_of-self
 invariant_of-self g c = rw (again_there c.self.inside.hosts.items c.args.stage c.index_mut-host.result.now c.apply_group.new.host c.index_mut-host.ensures.value c.in_err-applied.ensures.unchanged) c.self.invariant
 
 pub push-requires : goal.push-requires
-push-requires g c = record {
-  changes =
-      let told = c.in_ok-applied.ensures.told _ _ c.self.invariant c.index_mut-host.ensures.value refl refl in
-      let to = rw (c.shape-stages.ensures.shape, c.self.invariant.same) at c.location_after-onward.ensures in
-      rw (c.as_slice.ensures.value, c.in_ok-push_changes.ensures.changes) (told.changes c.location_after-onward.result to);
-}
-
-pub push_changes-requires-clause-empty : goal.push_changes-requires-clause-empty
-push_changes-requires-clause-empty g c =
-    let room = rw (← c.self.view_is) at c.requires.room in
-    room.1.empty
-
-pub push_changes-requires-clause-room : goal.push_changes-requires-clause-room
-push_changes-requires-clause-room g c =
+push-requires g c =
     let told = c.in_ok-applied.ensures.told _ _ c.self.invariant c.index_mut-host.ensures.value refl refl in
-    let room = rw (← c.self.view_is) at c.requires.room in
-    let fits = told.fits room.0 room.2 in
-    let list = room.1.list in
-    omega arith
+    let to = rw (c.shape-stages.ensures.shape, c.self.invariant.same) at c.location_after-onward.ensures in
+    record { changes = rw (c.as_slice.ensures.value, c.in_ok-push_changes.ensures.changes) (told.changes c.location_after-onward.result to) }
+
+pub push_changes-requires : goal.push_changes-requires
+push_changes-requires g c =
+    let fits = group_fits c.self.invariant c.self.view_is (c.in_ok-applied.ensures.told _ _ c.self.invariant c.index_mut-host.ensures.value refl refl) c.requires.room in
+    record { empty = fits.empty; room = fits.list }
 
 pub invariant_of-self-in_err-push : goal.invariant_of-self-in_err-push
 invariant_of-self-in_err-push g c =
-    let told = c.in_ok-applied.ensures.told _ _ c.self.invariant c.index_mut-host.ensures.value refl refl in
-    let room = rw (← c.self.view_is) at c.requires.room in
-    let fits = told.fits room.0 room.2 in
-    let applied = c.in_ok-applied.applied in
-    let changes : length c.as_slice.result.now ≤ length applied.woke.items + 2 = rw (c.as_slice.ensures.value, c.in_ok-push_changes.ensures.changes) (changes_length (Host c.args.stage) c.location_after-onward.result applied.time (length applied.outputs.items) applied.woke.items) in
-    let roomy = room.1.changes in
-    let done = c.in_err-push.ensures.ready room.1.names (omega arith) in
-    absurd (cc)
+    let fits = group_fits c.self.invariant c.self.view_is (c.in_ok-applied.ensures.told _ _ c.self.invariant c.index_mut-host.ensures.value refl refl) c.requires.room in
+    let few = fits.changes c.location_after-onward.result c.as_slice.result.now (c.as_slice.ensures.value ∙ c.in_ok-push_changes.ensures.changes) in
+    absurd (false≢true (c.in_err-push.ensures.ready fits.names few))
 
 pub hold_records-requires-clause-time : goal.hold_records-requires-clause-time
 hold_records-requires-clause-time g c κs within = (c.in_ok-applied.ensures.told _ _ c.self.invariant c.index_mut-host.ensures.value refl refl).in_time
@@ -83,21 +66,14 @@ hold_records-requires-clause-records g c κs within =
 pub hold_records-requires-clause-room : goal.hold_records-requires-clause-room
 hold_records-requires-clause-room g c κs within =
     let told = c.in_ok-applied.ensures.told _ _ c.self.invariant c.index_mut-host.ensures.value refl refl in
-    let room = rw (← c.self.view_is) at c.requires.room in
-    let fits = told.fits room.0 room.2 in
     let next = rw (c.shape-stages.ensures.shape, c.self.invariant.same) at c.if-stage-stages.true in
-    let r = c.index_mut-router.result.now in
-    let all = c.self.invariant.parts.all_routers in
-    let found = slice_get-get_or c.self.inside.routers.items (c.args.stage + 1) r (omega arith) ∙ ap (λ (x : Routed). Some x) (sym c.index_mut-router.ensures.value) in
-    let roomy = room.1.router r found in
-    omega arith
+    (group_fits c.self.invariant c.self.view_is told c.requires.room).router next c.index_mut-router.result.now c.index_mut-router.ensures.value
 
 pub invariant_of-self-in-Continue-branch-4 : goal.invariant_of-self-in-Continue-branch-4
 invariant_of-self-in-Continue-branch-4 g c =
     let told = c.in_ok-applied.ensures.told _ _ c.self.invariant c.index_mut-host.ensures.value refl refl in
     let next = rw (c.shape-stages.ensures.shape, c.self.invariant.same) at c.if-stage-stages.true in
-    let pushed = c.in_ok-push.ensures.pushed in
-    kept_by c.self.invariant c.push.new.self (ap (λ (l : WorkerLog). l.worker) pushed) (ap (λ (l : WorkerLog). l.log) pushed)
+    kept_by c.self.invariant c.push.new.self (ap (λ (l : WorkerLog). l.worker) c.in_ok-push.ensures.pushed) (ap (λ (l : WorkerLog). l.log) c.in_ok-push.ensures.pushed)
     (told.next next c.index_mut-router.result.now c.hold_records.new.router c.index_mut-router.ensures.value c.in_ok-hold_records.ensures.stage c.in_ok-hold_records.ensures.held)
 
 pub hold_rows-requires-clause-rows : goal.hold_rows-requires-clause-rows
@@ -107,25 +83,20 @@ hold_rows-requires-clause-rows g c κs within =
 pub hold_rows-requires-clause-room : goal.hold_rows-requires-clause-room
 hold_rows-requires-clause-room g c κs within =
     let told = c.in_ok-applied.ensures.told _ _ c.self.invariant c.index_mut-host.ensures.value refl refl in
-    let room = rw (← c.self.view_is) at c.requires.room in
-    let fits = told.fits room.0 room.2 in
-    let ends = rw (c.shape-stages.ensures.shape, c.self.invariant.same) at c.if-stage-stages.false in
-    let all = c.self.invariant.parts.all_routers in
-    let roomy = room.1.unsent (slice_get_past c.self.inside.routers.items (c.args.stage + 1) (omega arith)) in
-    omega arith
+    (group_fits c.self.invariant c.self.view_is told c.requires.room).unsent (rw (c.shape-stages.ensures.shape, c.self.invariant.same) at c.if-stage-stages.false)
 
 pub invariant_of-self-in-Continue-branch-5 : goal.invariant_of-self-in-Continue-branch-5
 invariant_of-self-in-Continue-branch-5 g c =
-    let told = c.in_ok-applied.ensures.told _ _ c.self.invariant c.index_mut-host.ensures.value refl refl in
     let ends = rw (c.shape-stages.ensures.shape, c.self.invariant.same) at c.if-stage-stages.false in
-    let pushed = c.in_ok-push.ensures.pushed in
-    kept_by c.self.invariant c.push.new.self (ap (λ (l : WorkerLog). l.worker) pushed) (ap (λ (l : WorkerLog). l.log) pushed)
-    (told.last ends c.hold_rows.new.unsent.rows c.in_ok-hold_rows.ensures.held)
+    kept_by c.self.invariant c.push.new.self (ap (λ (l : WorkerLog). l.worker) c.in_ok-push.ensures.pushed) (ap (λ (l : WorkerLog). l.log) c.in_ok-push.ensures.pushed)
+    ((c.in_ok-applied.ensures.told _ _ c.self.invariant c.index_mut-host.ensures.value refl refl).last ends c.hold_rows.new.unsent.rows c.in_ok-hold_rows.ensures.held)
 
 pub returns : goal.returns
 returns g c =
     let told = c.in_ok-applied.ensures.told _ _ c.self.invariant c.index_mut-host.ensures.value refl refl in
     let i = c.self.inside in
     let applied = c.in_ok-applied.applied in
-    let self_is : c.if-stage-stages.self.worker ≡ record { number = i.log.worker; log = c.push.new.self.log; posted = i.posted.value.log; seen = i.seen } = elim c.if-stage-stages.branch [ then-stage-stages+in_ok-hold_records w ↦ ap worker_of w.self-is ∙ ap (λ (l : WorkerLog). record { number = l.worker; log = c.push.new.self.log; posted = i.posted.value.log; seen = i.seen }) c.in_ok-push.ensures.pushed | else-stage-stages+in_ok-hold_rows w ↦ ap worker_of w.self-is ∙ ap (λ (l : WorkerLog). record { number = l.worker; log = c.push.new.self.log; posted = i.posted.value.log; seen = i.seen }) c.in_ok-push.ensures.pushed ] in
+    let pushed = ap (λ (l : WorkerLog). record { number = l.worker; log = c.push.new.self.log; posted = i.posted.value.log; seen = i.seen }) c.in_ok-push.ensures.pushed in
+    let self_is : c.if-stage-stages.self.worker ≡ record { number = i.log.worker; log = c.push.new.self.log; posted = i.posted.value.log; seen = i.seen } =
+    elim c.if-stage-stages.branch [ then-stage-stages+in_ok-hold_records w ↦ ap worker_of w.self-is ∙ pushed | else-stage-stages+in_ok-hold_rows w ↦ ap worker_of w.self-is ∙ pushed ] in
     rw (← c.self.view_is, self_is) (makes c.self.invariant (Apply c.args.stage) (Group c.args.stage applied.time applied.key) c.requires.stage told.can refl c.push.new.self.log (ap (λ (l : WorkerLog). l.log) c.in_ok-push.ensures.pushed))

@@ -35,10 +35,9 @@ invariant_of-self g c = rw c.in_err-seen.ensures.same_log c.self.invariant
 
 pub invariant_of-self-2 : goal.invariant_of-self-2
 invariant_of-self-2 g c =
-    let kept = c.self.invariant in
     let log = rw c.in-Got.is at c.in_ok-seen.ensures.log in
     let told = rw (c.in-Got.is, c.worker-number.ensures) at c.in_ok-seen.ensures.told in
-    rw log (kept_as kept ((steps kept.sound kept.parts).see _ c.in-Got.seen told))
+    rw log (kept_as c.self.invariant ((steps c.self.invariant.sound c.self.invariant.parts).see _ c.in-Got.seen told))
 
 pub returns-clause-at_hub : goal.returns-clause-at_hub
 returns-clause-at_hub g c =
@@ -46,5 +45,4 @@ returns-clause-at_hub g c =
     let at = rw (← c.self.view_is) at c.requires.at_hub in
     let version = rw c.in-Got.is at c.in_ok-seen.ensures.version in
     let posted = rw (c.in-Got.is, c.worker-number.ensures) at c.in_ok-seen.ensures.posted in
-    let serves = c.in_ok-seen.ensures.still_serves in
-    rw (c.of.ensures, log) (record { served = serves _ at.served; has_posted = posted; grows = grows_refl _; later = omega (arith, version) })
+    rw (c.of.ensures, log) (record { served = c.in_ok-seen.ensures.still_serves _ at.served; has_posted = posted; grows = grows_refl _; later = omega (arith, version) })

@@ -1,13 +1,6 @@
 use Rattle.mp_steps.proofs.parts.Parts.log_is_known.Goals as goal
 
-pub returns-clause-inside : goal.returns-clause-inside
-returns-clause-inside g c = rw (← c.self.view_is) c.self.invariant.parts.worker
-
-pub returns-clause-sound : goal.returns-clause-sound
-returns-clause-sound g c = c.self.invariant.sound
-
-pub returns-clause-legal : goal.returns-clause-legal
-returns-clause-legal g c = rw (← c.self.view_is) c.self.invariant.parts.legal
-
-pub returns-clause-done : goal.returns-clause-done
-returns-clause-done g c = rw (← c.self.view_is) c.self.invariant.parts.done
+pub returns : goal.returns
+returns g c =
+    let kept = c.self.invariant in
+    rw (← c.self.view_is) (record { inside = kept.parts.worker; sound = kept.sound; legal = kept.parts.legal; done = kept.parts.done })

@@ -7,8 +7,7 @@ use Rattle.mp_steps.proofs.parts.Parts.make_room_to_ingest.Goals as goal
 
 pub index_mut-requires : goal.index_mut-requires
 index_mut-requires g c =
-    let some = some_router c.self.invariant.sound c.self.invariant.parts in
-    omega (arith, some, c.self.inside.routers.ok.0)
+    omega (arith, (some_router c.self.invariant.sound c.self.invariant.parts), c.self.inside.routers.ok.0)
 
 pub invariant_of-self-2 : goal.invariant_of-self-2
 invariant_of-self-2 g c =

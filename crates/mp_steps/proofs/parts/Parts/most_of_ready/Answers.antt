@@ -11,43 +11,29 @@ use Rattle.mp_steps.proofs.parts.Parts.most_of_ready.Goals as goal
 pub most_if_ready-requires-clause-informed : goal.most_if_ready-requires-clause-informed
 most_if_ready-requires-clause-informed g c κs within =
     let kept = c.self.invariant in
-    let h = c.index-host.result.now in
-    let at = host_at kept.parts c.args.stage c.requires.stage h c.index-host.ensures in
-    (c.self.inside.log.log, informed kept.sound kept.parts c.args.stage h at, knows kept.sound kept.parts c.args.stage c.requires.stage h at)
+    let at = host_at kept.parts c.args.stage c.requires.stage c.index-host.result.now c.index-host.ensures in
+    (c.self.inside.log.log, informed kept.sound kept.parts c.args.stage _ at, knows kept.sound kept.parts c.args.stage c.requires.stage _ at)
 
-pub returns-clause-none : goal.returns-clause-none
-returns-clause-none g c =
+pub returns : goal.returns
+returns g c =
+    let i = c.self.inside in
     let kept = c.self.invariant in
-    let j = c.args.stage in
-    let below = c.requires.stage in
-    let h = c.index-host.result.now in
-    let at = host_at kept.parts j below h c.index-host.ensures in
+    let at = host_at kept.parts c.args.stage c.requires.stage c.index-host.result.now c.index-host.ensures in
+    let inside = rw (← kept.parts.all_hosts) at c.requires.stage in
     rw (← c.self.view_is)
-    (on_none c.most_if_ready.result c.most_if_ready.ensures.none_by_log
-    (λ none x can.
-    none_to_apply kept.sound kept.parts j below h c.index-host.ensures
-    (none c.self.inside.log.log (informed kept.sound kept.parts j h at) (knows kept.sound kept.parts j below h at))
-    x (can_do kept (Apply j) x can)))
-
-pub returns-clause-ready : goal.returns-clause-ready
-returns-clause-ready g c =
-    let i = c.self.inside in
-    let below = c.requires.stage in
-    let all = c.self.invariant.parts.all_hosts in
-    rw (← c.self.view_is)
-    (IfSome_then c.most_if_ready.result c.most_if_ready.ensures.some
-    (λ most some h at none.
-    subst (λ (x : Hosted g.row.Q-Cell.Denot). IsReadyHere g.J.Naming.job i.seen i.owners x some.0 some.1 → ⊥)
-    (same_host_there i.hosts.items c.args.stage c.index-host.result.now h (omega arith) c.index-host.ensures at)
-    (none some.0 some.1) some.2))
-
-pub returns-clause-enough : goal.returns-clause-enough
-returns-clause-enough g c =
-    let job = g.J.Naming.job in
-    let i = c.self.inside in
-    let below = c.requires.stage in
-    let all = c.self.invariant.parts.all_hosts in
-    rw (← c.self.view_is)
-    (IfSome_then c.most_if_ready.result c.most_if_ready.ensures.enough
-    (λ most enough whole.
-    enough_here (g.Q.Query.facts job.rules) job c.args.stage most i.seen i.owners i.hosts.items (omega arith) c.index-host.result.now c.index-host.ensures (λ t k ready. enough t k ready (omega arith))))
+    (record {
+      none = on_none c.most_if_ready.result c.most_if_ready.ensures.none_by_log
+          (λ none x can.
+          none_to_apply kept.sound kept.parts c.args.stage c.requires.stage _ c.index-host.ensures
+          (none i.log.log (informed kept.sound kept.parts c.args.stage _ at) (knows kept.sound kept.parts c.args.stage c.requires.stage _ at))
+          x (can_do kept (Apply c.args.stage) x can));
+      ready = IfSome_then c.most_if_ready.result c.most_if_ready.ensures.some
+          (λ most some h at none.
+          subst (λ (x : Hosted g.row.Q-Cell.Denot). IsReadyHere g.J.Naming.job i.seen i.owners x some.0 some.1 → ⊥)
+          (same_host_there i.hosts.items c.args.stage c.index-host.result.now h inside c.index-host.ensures at)
+          (none some.0 some.1) some.2);
+      enough = IfSome_then c.most_if_ready.result c.most_if_ready.ensures.enough
+          (λ most enough whole.
+          enough_here (g.Q.Query.facts g.J.Naming.job.rules) g.J.Naming.job c.args.stage most i.seen i.owners i.hosts.items inside c.index-host.result.now c.index-host.ensures
+          (λ t k ready. enough t k ready (omega arith)));
+    })

@@ -10,10 +10,9 @@ pub new-requires : goal.new-requires
 new-requires g c =
     let laws = g.met.Q.Query g.world.𝓛 g.world.𝓜 g.world.𝓡 ((λ s x. x), (λ x. x), (λ x. x), λ x. x) in
     let job = g.J.Naming.job in
-    let q = g.Q.Query.facts job.rules in
     let legal = rw c.requires.job at c.shape-shape.ensures.legal in
-    let sound = outline_is_sound q (laws.has_stages job.rules) (laws.posts_are_later job.rules) (laws.later_stages_post_nothing job.rules) job legal in
-    rw (c.shape-shape.ensures.shape, c.requires.job) (some_of_each q job sound)
+    let sound = outline_is_sound (g.Q.Query.facts job.rules) (laws.has_stages job.rules) (laws.posts_are_later job.rules) (laws.later_stages_post_nothing job.rules) job legal in
+    rw (c.shape-shape.ensures.shape, c.requires.job) (some_of_each (g.Q.Query.facts job.rules) job sound)
 
 pub invariant_of-parts-inside : goal.invariant_of-parts-inside
 invariant_of-parts-inside g c = (c.open-log.ensures.posted ∙ sym (ap (λ (l : WorkerLog). l.log) c.of-posted.ensures ∙ c.open-log.ensures.log), tt)
@@ -38,6 +37,6 @@ invariant_of-parts g c =
       legal = legal;
       rows = c.requires.rows;
       sound = sound;
-      hands_on = record { later = laws.posts_are_later job.rules; nothing = laws.later_stages_post_nothing job.rules; keys = laws.outputs_have_keys job.rules };
       parts = parts;
+      hands_on = record { later = laws.posts_are_later job.rules; nothing = laws.later_stages_post_nothing job.rules; keys = laws.outputs_have_keys job.rules };
     }

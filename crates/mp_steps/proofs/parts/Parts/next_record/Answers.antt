@@ -5,20 +5,16 @@ use Rattle.mp_steps.proofs.parts.Parts.next_record.Goals as goal
 
 pub returns-in_default-clause-none : goal.returns-in_default-clause-none
 returns-in_default-clause-none g c =
-    let kept = c.self.invariant in
-    let share = rw (kept.same, c.worker.ensures) at c.share.ensures in
+    let share = rw (c.self.invariant.same, c.worker.ensures) at c.share.ensures in
     let past = rw c.ingested-next.ensures at c.in_default.ensures.lookup.3 in
-    rw (← c.self.view_is) (λ x can. none_to_ingest kept.sound kept.parts _ share past x (can_do kept Ingest x can))
+    rw (← c.self.view_is) (λ x can. none_to_ingest c.self.invariant.sound c.self.invariant.parts _ share past x (can_do c.self.invariant Ingest x can))
 
 pub rec_at-requires-after_bounds : goal.rec_at-requires-after_bounds
 rec_at-requires-after_bounds g c κs within =
-    let found = c.in-Some.ensures.lookup.3 in
-    let its = c.self.inside.job.now in
-    has_record (g.Q.Query.facts its.rules) its c.worker.result _ _ _ c.share.ensures found.0 (found.1 _)
+    has_record (g.Q.Query.facts c.self.inside.job.now.rules) c.self.inside.job.now c.worker.result _ _ _ c.share.ensures c.in-Some.ensures.lookup.3.0 (c.in-Some.ensures.lookup.3.1 _)
 
 pub returns-clause-next : goal.returns-clause-next
 returns-clause-next g c =
-    let kept = c.self.invariant in
-    let share = rw (kept.same, c.worker.ensures) at c.share.ensures in
+    let share = rw (c.self.invariant.same, c.worker.ensures) at c.share.ensures in
     let found = rw c.ingested-next.ensures at c.in-Some.ensures.lookup.3 in
-    rw (← c.self.view_is) (next_record kept.sound kept.parts _ share _ _ found.0 (found.1 _) (rw kept.same at c.in_ok-rec_at.ensures))
+    rw (← c.self.view_is) (next_record c.self.invariant.sound c.self.invariant.parts _ share _ _ found.0 (found.1 _) (rw c.self.invariant.same at c.in_ok-rec_at.ensures))

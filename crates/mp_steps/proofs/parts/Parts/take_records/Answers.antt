@@ -1,7 +1,6 @@
-use Rattle.std.proofs.Common.{◌≡◌, ◌==◌, ◌<◌, ◌≤◌, ◌∙◌, ℕ, All, arith, cond, length, subst, sym}
+use Rattle.std.proofs.Common.{◌≡◌, ◌==◌, ◌≤◌, ◌∙◌, arith, cond, subst, sym}
 use Rattle.std.proofs.lemmas.Bool.{cond-false, cond-true, eq-eqb, eqb-true, false_from_ne_true}
 use Rattle.mp_names.specs.Limits.{most_in_bundle}
-use Rattle.mp_msg.specs.Contents.{IsRecordOf}
 use Rattle.mp_host_laws.specs.Hosted.{Hosted}
 use Rattle.mp_worker_invariant.proofs.Standing.{host_at}
 use Rattle.mp_parts.proofs.Received.{few_records, records_changes, records_held, records_taken_here, stage_below}
@@ -12,16 +11,9 @@ use Rattle.mp_steps.proofs.parts.Parts.take_records.Goals.{then-groups-eq0, else
 
 pub push_records-requires-clause-changes : goal.push_records-requires-clause-changes
 push_records-requires-clause-changes g c =
-    let job = g.J.Naming.job in
-    let q = g.Q.Query.facts job.rules in
-    let kept = c.self.invariant in
-    let log = c.self.inside.log in
     let b = c.args.bundle in
-    let bundle = c.requires.bundle in
-    let h = c.index_mut-host.result.now in
     let value = rw c.stage-stage.ensures at c.index_mut-host.ensures.value in
-    let at = host_at kept.parts b.stage (stage_below q job b bundle) h value in
-    let new = rw (← c.self.view_is) at c.requires.new in
+    let at = host_at c.self.invariant.parts b.stage (stage_below _ _ b c.requires.bundle) c.index_mut-host.result.now value in
     let first = rw c.recs-recs.ensures at c.index-recs-0.is in
     let groups = c.new_groups-groups.result in
     let count : c.if-groups-eq0.count ≡ cond (groups == 0) 1 2 =
@@ -30,52 +22,33 @@ push_records-requires-clause-changes g c =
       | else-groups-eq0 w ↦ w.count-is ∙ sym (cond-false (groups == 0) 1 2 (false_from_ne_true (groups == 0) (λ e. let f = eqb-true groups 0 e in omega (arith, f, w.if-groups-eq0.false))))
     ] in
     rw (c.many_less.ensures, c.many_more.ensures, c.recs-recs.ensures, c.stage-stage.ensures, ← first)
-    (records_changes q job b bundle log.worker log.log new kept.parts.legal h at kept.sound c.index-recs-0.result first groups c.new_groups-groups.ensures.told c.if-groups-eq0.count count)
+    (records_changes _ _ b c.requires.bundle _ _ (rw (← c.self.view_is) at c.requires.new) c.self.invariant.parts.legal _ at
+    c.self.invariant.sound _ first groups c.new_groups-groups.ensures.told c.if-groups-eq0.count count)
 
 pub receive-requires-clause-stage : goal.receive-requires-clause-stage
 receive-requires-clause-stage g c κs within =
-    let job = g.J.Naming.job in
-    let q = g.Q.Query.facts job.rules in
-    let b = c.args.bundle in
-    let h = c.index_mut-host.result.now in
     let value = rw c.stage-stage.ensures at c.index_mut-host.ensures.value in
-    sym (host_at c.self.invariant.parts b.stage (stage_below q job b c.requires.bundle) h value).0
+    sym (host_at c.self.invariant.parts c.args.bundle.stage (stage_below _ _ c.args.bundle c.requires.bundle) c.index_mut-host.result.now value).0
 
 pub receive-requires-clause-content : goal.receive-requires-clause-content
 receive-requires-clause-content g c κs within =
-    let job = g.J.Naming.job in
-    let q = g.Q.Query.facts job.rules in
-    let b = c.args.bundle in
-    let h = c.index_mut-host.result.now in
     let value = rw c.stage-stage.ensures at c.index_mut-host.ensures.value in
-    let at = host_at c.self.invariant.parts b.stage (stage_below q job b c.requires.bundle) h value in
-    subst (λ (i : ℕ). All (IsRecordOf q job i) b.recs) (sym at.0) c.requires.bundle.records
+    rw (host_at c.self.invariant.parts c.args.bundle.stage (stage_below _ _ c.args.bundle c.requires.bundle) c.index_mut-host.result.now value).0 c.requires.bundle.records
 
 pub unreachable-requires-in_default-receive : goal.unreachable-requires-in_default-receive
 unreachable-requires-in_default-receive g c =
-    let job = g.J.Naming.job in
-    let q = g.Q.Query.facts job.rules in
-    let kept = c.self.invariant in
     let b = c.args.bundle in
-    let h = c.index_mut-host.result.now in
     let value = rw c.stage-stage.ensures at c.index_mut-host.ensures.value in
-    let room = rw (← c.self.view_is) at c.requires.room in
-    let few = few_records q job b c.requires.bundle in
-    let inside = subst (λ (n : ℕ). b.stage < n) (sym kept.parts.all_hosts) (stage_below q job b c.requires.bundle) in
-    let roomy = subst (λ (x : Hosted g.row.Q-Cell.Denot). most_in_bundle ≤ x.room) (sym value) (room.hosts b.stage h inside).0 in
-    not_refused c.receive.result (c.receive.ensures.never_refused_with_room (omega (arith, roomy, few))) c.in_default-receive.not-Ok
+    let inside = rw (← c.self.invariant.parts.all_hosts) at (stage_below _ _ b c.requires.bundle) in
+    let hosts = (rw (← c.self.view_is) at c.requires.room).hosts in
+    let roomy = subst (λ (x : Hosted g.row.Q-Cell.Denot). most_in_bundle ≤ x.room) (sym value) (hosts b.stage c.index_mut-host.result.now inside).0 in
+    not_refused c.receive.result (c.receive.ensures.never_refused_with_room (omega (arith, roomy, few_records _ _ b c.requires.bundle))) c.in_default-receive.not-Ok
 
 pub invariant_of-self : goal.invariant_of-self
 invariant_of-self g c =
-    let job = g.J.Naming.job in
-    let q = g.Q.Query.facts job.rules in
     let kept = c.self.invariant in
-    let log = c.self.inside.log in
     let b = c.args.bundle in
-    let bundle = c.requires.bundle in
-    let h = c.index_mut-host.result.now in
-    let value = rw c.stage-stage.ensures at c.index_mut-host.ensures.value in
-    let at = host_at kept.parts b.stage (stage_below q job b bundle) h value in
+    let at = host_at kept.parts b.stage (stage_below _ _ b c.requires.bundle) c.index_mut-host.result.now (rw c.stage-stage.ensures at c.index_mut-host.ensures.value) in
     let new = rw (← c.self.view_is) at c.requires.new in
-    let held = records_held q job b bundle log.worker log.log new kept.parts.legal h at c.receive.new.self c.receive.ensures.stage c.receive.ensures.worker c.in-Ok-receive.ensures.held in
-    rw (c.in-Ok.ensures.pushed, c.recs-recs.ensures, c.stage-stage.ensures) (kept_as kept (records_taken_here kept.sound kept.parts b bundle new c.receive.new.self held))
+    let held = records_held _ _ b c.requires.bundle _ _ new kept.parts.legal _ at c.receive.new.self c.receive.ensures.stage c.receive.ensures.worker c.in-Ok-receive.ensures.held in
+    rw (c.in-Ok.ensures.pushed, c.recs-recs.ensures, c.stage-stage.ensures) (kept_as kept (records_taken_here kept.sound kept.parts b c.requires.bundle new c.receive.new.self held))

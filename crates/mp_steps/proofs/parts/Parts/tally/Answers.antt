@@ -5,9 +5,7 @@ use Rattle.mp_steps.proofs.parts.Parts.tally.Goals as goal
 
 pub returns-clause-moved : goal.returns-clause-moved
 returns-clause-moved g c =
-    let job = g.J.Naming.job in
-    let q = g.Q.Query.facts job.rules in
     let kept = c.self.invariant in
     let i = c.self.inside in
     rw (← c.self.view_is, c.in_ok-moved.ensures.moved, c.as_slice.ensures.value)
-    (names_moved q job i.log.worker i.log.log i.movers.items kept.parts.movers ∙ ap (λ (n : ℕ). sent_packets n i.log.log) kept.parts.all_movers)
+    (names_moved (g.Q.Query.facts g.J.Naming.job.rules) g.J.Naming.job i.log.worker i.log.log i.movers.items kept.parts.movers ∙ ap (λ (n : ℕ). sent_packets n i.log.log) kept.parts.all_movers)
