@@ -1,5 +1,6 @@
 -- A post at which nothing was pushed or popped follows a log that stays.
-use Rattle.std.proofs.Common.{◌≡◌, ◌≢◌, ◌⊎◌, ℕ, List, [], ◌∷◌, ⊎_elim, refl}
+use Rattle.std.proofs.Common.{◌≡◌, ◌≢◌, ◌⊎◌, ℕ, List, [], ◌∷◌, map, ⊎_elim, refl}
+use Rattle.mp_names.specs.declared.names.Name.{Name}
 use Rattle.mp_names.specs.declared.names.Name.TheVariants.{Packet as PacketName, Row as RowName}
 use Rattle.mp_names.specs.declared.names.Tag.{Tag}
 use Rattle.mp_names.specs.Logs.{Log}
@@ -10,10 +11,9 @@ use Rattle.mp_model.specs.declared.record.Rec.{Rec}
 use Rattle.mp_msg.specs.declared.message.Body.{Body}
 use Rattle.mp_msg.specs.declared.message.Body.TheVariants.{Ctrl, Recs, Packet, Row}
 use Rattle.mp_msg.specs.Bodies.{names_of_body}
-use Rattle.mp_msg.specs.Bundles.{names_in}
+use Rattle.mp_outline.specs.JobOutline.{name_of_record}
 use Rattle.mp_msg.specs.States.{BinContent}
 use Rattle.mp_refinement.specs.Ends.{FollowsLog, MessagesFollowLog, Standing, Waiting}
-use Rattle.mp_refinement.specs.Served.{PostFollows}
 use Rattle.mp_refinement.proofs.Lists.{at_edge, same_edge}
 use Rattle.mp_refinement.proofs.Messages.{messages_kept}
 
@@ -28,32 +28,21 @@ follows_kept o w log old new from to keeps others a b pushed popped in_a in_b st
 pub messages_stay : (waits : Waiting) (o : Outline) (w : ℕ) (log after : Log) → after.sent ≡ log.sent → after.took ≡ log.took → MessagesFollowLog waits waits o w log after
 messages_stay waits o w log after sent took = messages_kept o w log after waits waits sent took (λ a b messages h. h)
 
--- a post that stays follows a log that stays
-pub nothing_posted : {P : Type 0} (workers depth : P → ℕ) (serves : P → ℕ → Type 0) (denotes : P → Standing) (waits : P → Waiting) (o : Outline) (w : ℕ) (log : Log) (post : P) → PostFollows workers depth serves denotes waits o w log log post post
-nothing_posted workers depth serves denotes waits o w log post = record {
-  follows = λ a b pushed popped la lb stood. stood;
-  messages = messages_stay (waits post) o w log log refl refl;
-  keeps = record { same_workers = refl; same_depth = refl; same_ends = λ worker serves. serves };
-}
+-- records travel under no other name
+no_record : (j : ℕ) (recs : List Rec) (x : Name) → ((r : Rec) → name_of_record j r ≡ x → ⊥) → map (name_of_record j) recs ≡ x ∷ [] → ⊥
+no_record j [] x none e = cc
+no_record j (r ∷ rs) x none e = none r (cc)
 
 -- what travels under the name of an answer row is that row
 pub holds_a_row : {Cell : Type 0} (b : Body Cell) (t : ℕ) (g : Tag) → names_of_body b ≡ RowName t g ∷ [] → ((u : ℕ) (h : Tag) (fields : List Field) → b ≡ Row u h fields → ⊥) → ⊥
 holds_a_row (Ctrl i v c) t g e none = cc
-holds_a_row (Recs b) t g e none = other b.recs e
-  where
-    other : (recs : List Rec) → names_in (record { stage = b.stage; recs = recs }) ≡ RowName t g ∷ [] → ⊥
-    other [] f = cc
-    other (r ∷ rs) f = cc
+holds_a_row (Recs b) t g e none = no_record b.stage b.recs (RowName t g) (λ r f. cc) e
 holds_a_row (Packet j n u s) t g e none = cc
 holds_a_row (Row u h fields) t g e none = none u h fields refl
 
 -- and under the name of a packet the state of that bin
 pub holds_a_packet : {Cell : Type 0} (b : Body Cell) (j n t : ℕ) → names_of_body b ≡ PacketName j n t ∷ [] → ((i m u : ℕ) (s : BinContent Cell) → b ≡ Packet i m u s → ⊥) → ⊥
 holds_a_packet (Ctrl i v c) j n t e none = cc
-holds_a_packet (Recs b) j n t e none = other b.recs e
-  where
-    other : (recs : List Rec) → names_in (record { stage = b.stage; recs = recs }) ≡ PacketName j n t ∷ [] → ⊥
-    other [] f = cc
-    other (r ∷ rs) f = cc
+holds_a_packet (Recs b) j n t e none = no_record b.stage b.recs (PacketName j n t) (λ r f. cc) e
 holds_a_packet (Packet i m u s) j n t e none = none i m u s refl
 holds_a_packet (Row u h fields) j n t e none = cc

@@ -1,6 +1,6 @@
 //! How a message is sent.
 ghost use Rattle.std.specs.Prelude.{◌≡◌, ◌<◌, ◌≤◌, IfErr, IfOk, OnErr, OnOk, length};
-ghost use Rattle.mp_job.specs.Legal.{JobIsLegal};
+ghost use Rattle.mp_names.specs.Outlines.{OutlineIsSound};
 ghost use Rattle.mp_outline.specs.JobOutline.{outline_of};
 ghost use Rattle.mp_rows.specs.Entries.{AreChanges};
 ghost use Rattle.mp_msg.specs.Bundles.{receiver_of};
@@ -23,7 +23,7 @@ pub(crate) fn send<Q: Query, J: Naming, P: Post<Msg<Q, J>>>(
     names: NewNames,
     changes: &[Change],
 ) -> Result<Names, Msg<Q, J>>
-    requires job { JobIsLegal (Q.facts J.job.rules) J.job }
+    requires outline { OutlineIsSound (outline_of (Q.facts J.job.rules) J.job) }
     requires worker { log.old.worker < J.job.shape.workers }
     requires may { MaySend (outline_of (Q.facts J.job.rules) J.job) log.old.worker log.old.log message }
     requires to { to ≡ receiver_of (outline_of (Q.facts J.job.rules) J.job) message }

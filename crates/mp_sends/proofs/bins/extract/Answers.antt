@@ -7,8 +7,5 @@ returns-in_default-clause-steps g c = ((λ x can. absurd (c.in_default.ensures.n
 pub send_bin-requires-clause-at_post : goal.send_bin-requires-clause-at_post
 send_bin-requires-clause-at_post g c κs within = rw (c.make_room_to_extract.ensures.same, c.sort_wakes.ensures) c.requires.at_post
 
-pub returns-clause-steps : goal.returns-clause-steps
-returns-clause-steps g c = rw (← c.sort_wakes.ensures, ← c.make_room_to_extract.ensures.same) c.send_bin.ensures.steps
-
-pub returns-clause-mail : goal.returns-clause-mail
-returns-clause-mail g c = rw (← c.sort_wakes.ensures, ← c.make_room_to_extract.ensures.same) c.send_bin.ensures.mail
+pub returns : goal.returns
+returns g c = rw (← c.sort_wakes.ensures, ← c.make_room_to_extract.ensures.same) c.send_bin.ensures
