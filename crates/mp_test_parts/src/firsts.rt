@@ -1,23 +1,31 @@
 //! The first of many wakes.
+ghost use Rattle.std.specs.Prelude.{◌≡◌, None, replicate};
+
 use mp_firsts::Firsts;
-use std::alloc::Global;
+use mp_names::Time;
 use std::process::Abort;
 use std::test::Fail;
 
+fn first_is(rt: &impl Abort, firsts: &Firsts, wake: Option<(Time, u64)>) {
+    assert_eq!(rt; firsts.first(), wake);
+}
+
 // A wake comes at place 1, then one that is earlier by its key at place 0, which goes again.
-fn follow_changes(rt: &impl Abort, alloc: Global) -> Result<(), Fail> {
-    let mut firsts = Firsts::new(alloc, 3)?;
-    assert_eq!(rt; firsts.first(), None);
+fn follow_changes(rt: &impl Abort, firsts: &mut Firsts)
+    requires { firsts.old ≡ replicate 3 None }
+{
+    first_is(rt, firsts, None);
     firsts.set(1, Some((20, 7)));
-    assert_eq!(rt; firsts.first(), Some((20, 7)));
+    first_is(rt, firsts, Some((20, 7)));
     firsts.set(0, Some((20, 5)));
-    assert_eq!(rt; firsts.first(), Some((20, 5)));
+    first_is(rt, firsts, Some((20, 5)));
     firsts.set(0, None);
-    assert_eq!(rt; firsts.first(), Some((20, 7)));
-    Ok(())
+    first_is(rt, firsts, Some((20, 7)));
 }
 
 #[test]
 fn the_first_wake_follows_changes(rt: HostRuntime) -> Result<(), Fail> {
-    follow_changes(&rt, rt.alloc())
+    let mut firsts = Firsts::new(rt.alloc(), 3)?;
+    follow_changes(&rt, &mut firsts);
+    Ok(())
 }

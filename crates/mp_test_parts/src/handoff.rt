@@ -7,7 +7,7 @@ use mp_handoff::{Movers, count_of_keys, movers_stay};
 use mp_model::{Naming, Time};
 use mp_msg::BinState;
 use mp_samples::WakingBids;
-use mp_stamps::Loc;
+use mp_stamps::{Loc, Seen};
 use std::alloc::{AllocError, Global};
 use std::marker::Brand;
 use std::process::Abort;
@@ -56,25 +56,81 @@ fn both_noted(alloc: Global) -> Result<Owners, AllocError>
     Ok(owners)
 }
 
-// The movers of a worker that has noted both times, one of them twice.
+// Both times are noted, one of them twice.
+fn note_both<J: Naming>(movers: &mut Movers<WakingBids, J>) -> Result<(), AllocError> {
+    movers.make_room(3)?;
+    movers.note(20)?;
+    movers.note(10)?;
+    movers.note(20)
+}
+
+// The movers of a worker that has noted both times.
 fn noted<J: Naming>(alloc: Global, worker: u32) -> Result<Movers<WakingBids, J>, AllocError>
     requires shape { J.job.shape ≡ SHAPE }
     requires worker { worker < 2 }
 {
     let mut movers = Movers::<WakingBids, J>::new(alloc, 0, worker);
-    movers.make_room(3)?;
-    movers.note(20)?;
-    movers.note(10)?;
-    movers.note(20)?;
+    note_both(&mut movers)?;
     Ok(movers)
 }
 
+fn due_is<J: Naming>(
+    rt: &impl Abort,
+    movers: &Movers<WakingBids, J>,
+    seen: &Seen,
+    owners: &Owners,
+    moved: Option<Move>,
+)
+    requires { owners.now.shape ≡ J.job.shape }
+{
+    assert_eq!(rt; movers.due(seen, owners), moved);
+}
+
+fn settled_is<J: Naming>(
+    rt: &impl Abort,
+    movers: &mut Movers<WakingBids, J>,
+    seen: &Seen,
+    owners: &Owners,
+    time: Option<Time>,
+)
+    requires { owners.now.shape ≡ J.job.shape }
+{
+    assert_eq!(rt; movers.settle(seen, owners), time);
+}
+
+// Sends a bin, which has no keys.
+fn send<J: Naming>(movers: &mut Movers<WakingBids, J>, moved: Move) -> Result<(), AllocError>
+    requires { J.job.events ≡ [] }
+{
+    movers.make_room_for_sent()?;
+    movers.sent(moved, 0);
+    Ok(())
+}
+
 // Worker 0 sends the bin at 10, and has nothing to send at 20.
+fn hand_off<J: Naming>(
+    rt: &impl Abort,
+    movers: &mut Movers<WakingBids, J>,
+    at_ten: &Seen,
+    done: &Seen,
+    owners: &Owners,
+) -> Result<(), AllocError>
+    requires owners { owners.now.shape ≡ J.job.shape }
+    requires events { J.job.events ≡ [] }
+{
+    due_is(rt, movers, at_ten, owners, Some(TO_WORKER_1));
+    send(movers, TO_WORKER_1)?;
+    due_is(rt, movers, done, owners, None);
+    settled_is(rt, movers, at_ten, owners, Some(10));
+    settled_is(rt, movers, done, owners, Some(20));
+    Ok(())
+}
+
 fn first_owner_hands_off<J: Naming>(
     rt: &impl Abort,
     alloc: Global,
     owners: &Owners,
-) -> Result<(), Fail>
+) -> Result<(), AllocError>
     requires owners { owners.now.shape ≡ J.job.shape }
     requires shape { J.job.shape ≡ SHAPE }
     requires events { J.job.events ≡ [] }
@@ -82,21 +138,33 @@ fn first_owner_hands_off<J: Naming>(
     let mut movers = noted::<J>(alloc, 0)?;
     let at_ten = seen_with(alloc, &[(Loc::CtlMail, 15), (Loc::Host(0), 10)])?;
     let done = seen_with(alloc, &[])?;
-    assert_eq!(rt; movers.due(&at_ten, owners), Some(TO_WORKER_1));
-    movers.make_room_for_sent()?;
-    movers.sent(TO_WORKER_1, 0);
-    assert!(rt; movers.due(&done, owners).is_none());
-    assert_eq!(rt; movers.settle(&at_ten, owners), Some(10));
-    assert_eq!(rt; movers.settle(&done, owners), Some(20));
-    Ok(())
+    hand_off(rt, &mut movers, &at_ten, &done, owners)
 }
 
 // Worker 1 has nothing to send at 10, and sends the bin back at 20.
+fn hand_back<J: Naming>(
+    rt: &impl Abort,
+    movers: &mut Movers<WakingBids, J>,
+    waits: &Seen,
+    done: &Seen,
+    owners: &Owners,
+) -> Result<(), AllocError>
+    requires owners { owners.now.shape ≡ J.job.shape }
+    requires events { J.job.events ≡ [] }
+{
+    settled_is(rt, movers, waits, owners, Some(10));
+    settled_is(rt, movers, done, owners, None);
+    due_is(rt, movers, done, owners, Some(BACK));
+    send(movers, BACK)?;
+    settled_is(rt, movers, done, owners, Some(20));
+    Ok(())
+}
+
 fn second_owner_hands_back<J: Naming>(
     rt: &impl Abort,
     alloc: Global,
     owners: &Owners,
-) -> Result<(), Fail>
+) -> Result<(), AllocError>
     requires owners { owners.now.shape ≡ J.job.shape }
     requires shape { J.job.shape ≡ SHAPE }
     requires events { J.job.events ≡ [] }
@@ -104,16 +172,10 @@ fn second_owner_hands_back<J: Naming>(
     let mut movers = noted::<J>(alloc, 1)?;
     let waits = seen_with(alloc, &[(Loc::Host(0), 19)])?;
     let done = seen_with(alloc, &[])?;
-    assert_eq!(rt; movers.settle(&waits, owners), Some(10));
-    assert!(rt; movers.settle(&done, owners).is_none());
-    assert_eq!(rt; movers.due(&done, owners), Some(BACK));
-    movers.make_room_for_sent()?;
-    movers.sent(BACK, 0);
-    assert_eq!(rt; movers.settle(&done, owners), Some(20));
-    Ok(())
+    hand_back(rt, &mut movers, &waits, &done, owners)
 }
 
-fn bin_goes_and_comes_back<J: Naming>(rt: &impl Abort, alloc: Global) -> Result<(), Fail>
+fn bin_goes_and_comes_back<J: Naming>(rt: &impl Abort, alloc: Global) -> Result<(), AllocError>
     requires shape { J.job.shape ≡ SHAPE }
     requires events { J.job.events ≡ [] }
 {
@@ -125,7 +187,8 @@ fn bin_goes_and_comes_back<J: Naming>(rt: &impl Abort, alloc: Global) -> Result<
 
 #[test]
 fn bins_leave_in_turn(rt: HostRuntime) -> Result<(), Fail> {
-    bin_goes_and_comes_back::<Brand>(&rt, rt.alloc())
+    bin_goes_and_comes_back::<Brand>(&rt, rt.alloc())?;
+    Ok(())
 }
 
 #[test]

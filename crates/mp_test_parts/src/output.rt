@@ -7,67 +7,137 @@ use mp_model::{Naming, Output, Tag, Time, Value};
 use mp_output::{OutRefused, Rows, Unsent, Wrote, answer_rows_are_rows};
 use mp_outside::{MemSink, Op};
 use mp_samples::{AnsweringBids, fields_of};
-use mp_stamps::Loc;
+use mp_stamps::{Loc, Seen};
 use std::alloc::{AllocError, Global};
 use std::marker::Brand;
 use std::process::Abort;
 use std::test::Fail;
 
-// The job's three rows, the last of them first.
+// The job's three rows come, the last of them first.
+fn receive_three<J: Naming>(
+    alloc: Global,
+    rows: &mut Rows<AnsweringBids, J>,
+) -> Result<(), AllocError>
+    requires { J.job ≡ three_bids }
+{
+    rows.make_room(3)?;
+    rows.receive(8, Tag(2, 0), fields_of(alloc, 2)?)?;
+    rows.receive(5, Tag(7, 0), fields_of(alloc, 7)?)?;
+    rows.receive(5, Tag(3, 0), fields_of(alloc, 3)?)
+}
+
 fn three_rows<J: Naming>(alloc: Global) -> Result<Rows<AnsweringBids, J>, AllocError>
     requires { J.job ≡ three_bids }
 {
     let mut rows = Rows::new(alloc);
-    rows.make_room(3)?;
-    rows.receive(8, Tag(2, 0), fields_of(alloc, 2)?)?;
-    rows.receive(5, Tag(7, 0), fields_of(alloc, 7)?)?;
-    rows.receive(5, Tag(3, 0), fields_of(alloc, 3)?)?;
+    receive_three(alloc, &mut rows)?;
     Ok(rows)
 }
 
-fn times_are_written<J: Naming>(rt: &impl Abort, alloc: Global) -> Result<(), Fail>
+fn writes<J: Naming>(
+    rt: &impl Abort,
+    rows: &mut Rows<AnsweringBids, J>,
+    sink: &mut MemSink,
+    seen: &Seen,
+    wrote: Wrote,
+) {
+    assert_eq!(rt; rows.write_due(seen, sink), Ok(wrote));
+}
+
+fn bytes_are(rt: &impl Abort, sink: &MemSink, bytes: &[u8]) {
+    assert_eq!(rt; sink.bytes(), bytes);
+}
+
+fn first_time_is_written<J: Naming>(
+    rt: &impl Abort,
+    rows: &mut Rows<AnsweringBids, J>,
+    sink: &mut MemSink,
+    at_eight: &Seen,
+) {
+    writes(rt, rows, sink, at_eight, Wrote::Time(5));
+    bytes_are(rt, sink, b"5|3\n5|7\n".as_slice());
+    writes(rt, rows, sink, at_eight, Wrote::Nothing);
+    assert!(rt; !rows.is_empty());
+}
+
+fn second_time_is_written<J: Naming>(
+    rt: &impl Abort,
+    rows: &mut Rows<AnsweringBids, J>,
+    sink: &mut MemSink,
+    done: &Seen,
+) {
+    writes(rt, rows, sink, done, Wrote::Time(8));
+    writes(rt, rows, sink, done, Wrote::Nothing);
+    bytes_are(rt, sink, b"5|3\n5|7\n8|2\n".as_slice());
+    assert!(rt; rows.is_empty());
+}
+
+fn rows_are_written<J: Naming>(
+    rt: &impl Abort,
+    alloc: Global,
+    rows: &mut Rows<AnsweringBids, J>,
+    sink: &mut MemSink,
+) -> Result<(), AllocError> {
+    let at_five = seen_with(alloc, &[(Loc::OutMail, 5)])?;
+    writes(rt, rows, sink, &at_five, Wrote::Nothing);
+    let at_eight = seen_with(alloc, &[(Loc::OutMail, 8)])?;
+    first_time_is_written(rt, rows, sink, &at_eight);
+    let done = seen_with(alloc, &[])?;
+    second_time_is_written(rt, rows, sink, &done);
+    Ok(())
+}
+
+fn times_are_written<J: Naming>(rt: &impl Abort, alloc: Global) -> Result<(), AllocError>
     requires { J.job ≡ three_bids }
 {
     let mut rows = three_rows::<J>(alloc)?;
     let mut sink = MemSink::new(alloc);
-    let seen = seen_with(alloc, &[(Loc::OutMail, 5)])?;
-    assert_eq!(rt; rows.write_due(&seen, &mut sink), Ok(Wrote::Nothing));
-    let seen = seen_with(alloc, &[(Loc::OutMail, 8)])?;
-    assert_eq!(rt; rows.write_due(&seen, &mut sink), Ok(Wrote::Time(5)));
-    assert_eq!(rt; sink.bytes(), b"5|3\n5|7\n".as_slice());
-    assert_eq!(rt; rows.write_due(&seen, &mut sink), Ok(Wrote::Nothing));
-    assert!(rt; !rows.is_empty());
-    let seen = seen_with(alloc, &[])?;
-    assert_eq!(rt; rows.write_due(&seen, &mut sink), Ok(Wrote::Time(8)));
-    assert_eq!(rt; rows.write_due(&seen, &mut sink), Ok(Wrote::Nothing));
-    assert_eq!(rt; sink.bytes(), b"5|3\n5|7\n8|2\n".as_slice());
-    assert!(rt; rows.is_empty());
-    Ok(())
+    rows_are_written(rt, alloc, &mut rows, &mut sink)
 }
 
 #[test]
 fn each_time_is_written_once_passed(rt: HostRuntime) -> Result<(), Fail> {
-    times_are_written::<Brand>(&rt, rt.alloc())
+    times_are_written::<Brand>(&rt, rt.alloc())?;
+    Ok(())
 }
 
-fn fault_leaves_rows<J: Naming>(rt: &impl Abort, alloc: Global) -> Result<(), Fail>
+fn is_refused(rt: &impl Abort, refused: Result<Wrote, OutRefused>) {
+    assert_eq!(rt; refused, Err(OutRefused::WriteFault));
+}
+
+// A try to write that fails, and then one that does not.
+fn write_twice<J: Naming>(
+    rt: &impl Abort,
+    rows: &mut Rows<AnsweringBids, J>,
+    sink: &mut MemSink,
+    seen: &Seen,
+) {
+    is_refused(rt, rows.write_due(seen, sink));
+    assert!(rt; sink.bytes().is_empty());
+    writes(rt, rows, sink, seen, Wrote::Time(5));
+    bytes_are(rt, sink, b"5|3\n5|7\n".as_slice());
+}
+
+fn failing_sink(alloc: Global) -> Result<MemSink, AllocError> {
+    let mut sink = MemSink::new(alloc);
+    sink.fail(Op::Write, 1)?;
+    Ok(sink)
+}
+
+fn fault_leaves_rows<J: Naming>(rt: &impl Abort, alloc: Global) -> Result<(), AllocError>
     requires { J.job ≡ three_bids }
 {
     let mut rows = three_rows::<J>(alloc)?;
-    let mut sink = MemSink::new(alloc);
-    sink.fail(Op::Write, 1)?;
+    let mut sink = failing_sink(alloc)?;
     let seen = seen_with(alloc, &[])?;
-    let refused = rows.write_due(&seen, &mut sink);
-    assert_eq!(rt; refused, Err(OutRefused::WriteFault));
-    assert!(rt; sink.bytes().is_empty());
-    assert_eq!(rt; rows.write_due(&seen, &mut sink), Ok(Wrote::Time(5)));
-    assert_eq!(rt; sink.bytes(), b"5|3\n5|7\n".as_slice());
+    write_twice(rt, &mut rows, &mut sink, &seen);
     Ok(())
 }
 
 #[test]
 fn a_fault_leaves_the_rows(rt: HostRuntime) -> Result<(), Fail> {
-    fault_leaves_rows::<Brand>(&rt, rt.alloc())
+    fault_leaves_rows::<Brand>(&rt, rt.alloc())?;
+    Ok(())
 }
 
 // The output of this key's group at a time.
@@ -95,22 +165,40 @@ fn send_in_vain<J: Naming>(unsent: &mut Unsent<AnsweringBids, J>) -> Result<(), 
     }
 }
 
-fn rows_go_in_order<J: Naming>(rt: &impl Abort, alloc: Global) -> Result<(), Fail>
+fn hold_two<J: Naming>(
+    alloc: Global,
+    unsent: &mut Unsent<AnsweringBids, J>,
+) -> Result<(), AllocError>
+    requires { J.job ≡ three_bids }
+{
+    unsent.make_room(2)?;
+    unsent.hold(row_at(alloc, 8, 2)?)?;
+    unsent.hold(row_at(alloc, 5, 7)?)
+}
+
+fn key_sent_is<J: Naming>(
+    rt: &impl Abort,
+    unsent: &mut Unsent<AnsweringBids, J>,
+    key: Option<u64>,
+) {
+    assert_eq!(rt; key_sent(unsent), key);
+}
+
+fn rows_go_in_order<J: Naming>(rt: &impl Abort, alloc: Global) -> Result<(), AllocError>
     requires { J.job ≡ three_bids }
 {
     let mut unsent = Unsent::<AnsweringBids, J>::new(alloc);
-    unsent.make_room(2)?;
-    unsent.hold(row_at(alloc, 8, 2)?)?;
-    unsent.hold(row_at(alloc, 5, 7)?)?;
+    hold_two(alloc, &mut unsent)?;
     send_in_vain(&mut unsent)?;
-    assert_eq!(rt; key_sent(&mut unsent), Some(7));
-    assert_eq!(rt; key_sent(&mut unsent), Some(2));
-    assert_eq!(rt; key_sent(&mut unsent), None);
+    key_sent_is(rt, &mut unsent, Some(7));
+    key_sent_is(rt, &mut unsent, Some(2));
+    key_sent_is(rt, &mut unsent, None);
     Ok(())
 }
 
 #[test]
 fn a_row_that_is_held_again_goes_in_front(rt: HostRuntime) -> Result<(), Fail> {
     answer_rows_are_rows::<AnsweringBids>();
-    rows_go_in_order::<Brand>(&rt, rt.alloc())
+    rows_go_in_order::<Brand>(&rt, rt.alloc())?;
+    Ok(())
 }

@@ -1,8 +1,11 @@
 //! The worked values, each call that allocates once with ample memory.
-ghost use Rattle.std.specs.Prelude.{◌≡◌, Some};
+ghost use Rattle.std.specs.Prelude.{◌≡◌, ◌<◌, ◌+◌, Some, IfOk, OnOk};
+ghost use Rattle.mp_test_values.specs.Noted.{NotedBelow};
 
 use mp_bins::{Control, Move, Owners, Shape, bin_of};
 use mp_names::{Time, TimedBin};
+use std::alloc::{AllocError, Global};
+use std::process::Abort;
 use std::test::Fail;
 
 const ONE_BIN: Shape = Shape {
@@ -46,6 +49,38 @@ fn bin_moved(bin: u32, time: u64, from: u32, to: u32) -> Move {
         from,
         to,
     }
+}
+
+fn four_bins(alloc: Global) -> Result<Owners, AllocError>
+    ensures { IfOk result (λ o. NotedBelow o 0) }
+{
+    let owners = Owners::new(alloc, FOUR_BINS)?;
+    Ok(owners)
+}
+
+// Notes that a bin goes to a worker, at an index above those of the notes so far.
+fn note_next(
+    owners: &mut Owners,
+    index: u32,
+    bin: u32,
+    worker: u32,
+    time: u64,
+) -> Result<(), AllocError>
+    requires next { NotedBelow owners.old index }
+    requires bin { bin < 4 }
+    requires worker { worker < 3 }
+    ensures { OnOk result (NotedBelow owners.new (index + 1)) }
+{
+    owners.note(index, bin_to_worker(bin, worker, time))?;
+    Ok(())
+}
+
+// A worker owns a bin at a time.
+fn is_owner(rt: &impl Abort, owners: &Owners, bin: u32, time: u64, worker: u32)
+    requires stages { 0 < owners.now.shape.stages }
+    requires bin { bin < owners.now.shape.bins }
+{
+    assert_eq!(rt; owners.owner(0, bin, time), worker);
 }
 
 /// Behind the move of a bin at a time.
@@ -99,10 +134,10 @@ fn last_record_of_a_time_wins(rt: HostRuntime) -> Result<(), Fail> {
 
 #[test]
 fn two_bins_leave_at_one_time(rt: HostRuntime) -> Result<(), Fail> {
-    let mut owners = Owners::new(rt.alloc(), FOUR_BINS)?;
-    owners.note(0, bin_to_worker(3, 1, 10))?;
-    owners.note(1, bin_to_worker(0, 2, 10))?;
-    owners.note(2, bin_to_worker(1, 0, 5))?;
+    let mut owners = four_bins(rt.alloc())?;
+    note_next(&mut owners, 0, 3, 1, 10)?;
+    note_next(&mut owners, 1, 0, 2, 10)?;
+    note_next(&mut owners, 2, 1, 0, 5)?;
     assert_eq!(rt;
         owners.next_leaving(0, 0, None),
         Some(bin_moved(0, 10, 0, 2))
@@ -132,16 +167,16 @@ fn thousands_of_records_of_one_bin(rt: HostRuntime) -> Result<(), Fail> {
 // Looks for a bin begin where the last one for it ended: at notes that others have come in front of, at and behind.
 #[test]
 fn looks_forth_and_back_while_notes_come(rt: HostRuntime) -> Result<(), Fail> {
-    let mut owners = Owners::new(rt.alloc(), FOUR_BINS)?;
-    owners.note(0, bin_to_worker(2, 0, 10))?;
-    owners.note(1, bin_to_worker(2, 1, 20))?;
-    assert_eq!(rt; owners.owner(0, 2, 25), 1);
-    assert_eq!(rt; owners.owner(0, 2, 15), 0);
-    owners.note(2, bin_to_worker(0, 1, 5))?;
-    owners.note(3, bin_to_worker(2, 2, 18))?;
-    assert_eq!(rt; owners.owner(0, 2, 19), 2);
-    assert_eq!(rt; owners.owner(0, 0, 4), 0);
-    assert_eq!(rt; owners.owner(0, 2, 25), 1);
+    let mut owners = four_bins(rt.alloc())?;
+    note_next(&mut owners, 0, 2, 0, 10)?;
+    note_next(&mut owners, 1, 2, 1, 20)?;
+    is_owner(&rt, &owners, 2, 25, 1);
+    is_owner(&rt, &owners, 2, 15, 0);
+    note_next(&mut owners, 2, 0, 1, 5)?;
+    note_next(&mut owners, 3, 2, 2, 18)?;
+    is_owner(&rt, &owners, 2, 19, 2);
+    is_owner(&rt, &owners, 0, 4, 0);
+    is_owner(&rt, &owners, 2, 25, 1);
     assert_eq!(rt; owners.before(0, 2, 10), 2);
     Ok(())
 }

@@ -1,5 +1,7 @@
 //! Numbers in ascending order in blocks, parted by a limit, with ample memory.
 use mp_ordered::{Cut, Order, OrderedBlocks};
+use std::alloc::Global;
+use std::process::Abort;
 use std::test::*;
 
 struct Rising;
@@ -57,25 +59,41 @@ fn drop_below(numbers: &mut OrderedBlocks<u64, Rising>, limit: u64) -> usize {
     count
 }
 
-#[test]
-fn numbers_are_parted(rt: HostRuntime) -> Result<(), Fail> {
-    let mut numbers = OrderedBlocks::<u64, Rising>::new(rt.alloc());
-    assert!(rt; numbers.is_empty());
+// The numbers below 300, put in out of order.
+fn below_300(alloc: Global) -> Result<OrderedBlocks<u64, Rising>, Fail> {
+    let mut numbers = OrderedBlocks::<u64, Rising>::new(alloc);
     numbers.make_room(300)?;
     for place in 0..300 {
         numbers.insert(place * 7 % 300)?;
     }
+    Ok(numbers)
+}
+
+// Parts the numbers below 300 by limits.
+fn stand_beside(rt: &impl Abort, numbers: &OrderedBlocks<u64, Rising>) {
     for (limit, last, next) in [
         (0, None, Some(0)),
         (150, Some(149), Some(150)),
         (300, Some(299), None),
     ] {
-        assert_eq!(rt; beside(&numbers, limit), (last, next), "at {limit}");
+        assert_eq!(rt; beside(numbers, limit), (last, next), "at {limit}");
     }
-    assert_eq!(rt; take_below(&mut numbers, 150), Some(149));
-    assert_eq!(rt; drop_below(&mut numbers, 296), 295);
+}
+
+// Takes numbers out of those below 300.
+fn come_out(rt: &impl Abort, numbers: &mut OrderedBlocks<u64, Rising>) {
+    assert_eq!(rt; take_below(numbers, 150), Some(149));
+    assert_eq!(rt; drop_below(numbers, 296), 295);
     assert_eq!(rt; numbers.pop_first(), Some(296));
     assert_eq!(rt; numbers.first(), Some(&297));
+}
+
+#[test]
+fn numbers_are_parted(rt: HostRuntime) -> Result<(), Fail> {
+    assert!(rt; OrderedBlocks::<u64, Rising>::new(rt.alloc()).is_empty());
+    let mut numbers = below_300(rt.alloc())?;
+    stand_beside(&rt, &numbers);
+    come_out(&rt, &mut numbers);
     assert_eq!(rt; numbers.to_vec()?.as_slice(), [297, 298, 299].as_slice());
     assert_eq!(rt; numbers.as_blocks().len(), 1);
     Ok(())

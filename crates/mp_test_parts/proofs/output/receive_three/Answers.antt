@@ -1,5 +1,5 @@
 use Rattle.std.proofs.Common.{lit<, refl}
-use Rattle.mp_test_parts.proofs.output.three_rows.Goals as goal
+use Rattle.mp_test_parts.proofs.output.receive_three.Goals as goal
 
 -- it is the third row of the answer, which stands key by key
 pub receive-requires-2-after_bounds : goal.receive-requires-2-after_bounds

@@ -1,5 +1,5 @@
 use Rattle.std.proofs.Common.{lit<, refl}
-use Rattle.mp_test_parts.proofs.output.rows_go_in_order.Goals as goal
+use Rattle.mp_test_parts.proofs.output.hold_two.Goals as goal
 
 -- it is the last row of the answer, which stands key by key
 pub hold-requires-2-after_bounds : goal.hold-requires-2-after_bounds

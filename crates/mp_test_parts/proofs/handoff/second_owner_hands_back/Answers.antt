@@ -1,5 +1,0 @@
-use Rattle.mp_test_parts.proofs.Empty.{no_keys}
-use Rattle.mp_test_parts.proofs.handoff.second_owner_hands_back.Goals as goal
-
-pub sent-requires-clause-keys : goal.sent-requires-clause-keys
-sent-requires-clause-keys g c κs within = no_keys g.J.Naming.job c.make_room_for_sent.new.self.stage 0 20 c.requires.events
