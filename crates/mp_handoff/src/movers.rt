@@ -25,7 +25,7 @@ use std::marker::{Model, PhantomData};
 
 /// What one worker has to hand off of a stage of the job J: the times of control records that it has noted and not
 /// settled, and which of the packets that it owes it has sent, with how many keys each. It owes them by time and then by
-/// bin, so the last one tells which are sent. Contracts see a `Moving`.
+/// bin, so the last one tells which are sent. Contracts see a `MoversState`.
 #[derive(Drop)]
 pub struct Movers<Q: Query, J: Naming> {
     stage: u32,

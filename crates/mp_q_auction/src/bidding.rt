@@ -8,9 +8,9 @@ use mp_model::{Group, Rec, Time, Value};
 /// profile. It is public only as a part of the `Cell` of q4 and q6.
 #[derive(Clone, Copy, Debug)]
 pub struct Lot {
-    /// Its id, at most 2^48.
+    /// The seller's id, at most 2^48.
     pub seller: u64,
-    /// At most 2^48.
+    /// The auction's category, at most 2^48.
     pub category: u64,
     /// The least price at which it is sold.
     pub reserve: u64,
