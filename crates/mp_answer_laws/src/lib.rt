@@ -1,4 +1,4 @@
-//! Layer: one worker.
+//! Layer: a worker.
 //!
 //! That what worker 0 writes, one time after the other, is the one-thread answer.
 #![tactic(auto)]

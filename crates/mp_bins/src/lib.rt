@@ -1,4 +1,4 @@
-//! Layer: values, files and text.
+//! Layer: a job.
 //!
 //! Bins of keys, and who owns a bin at each time, as the control records that were noted say.
 #![tactic(auto)]

@@ -1,4 +1,4 @@
-//! Layer: the parts of a worker.
+//! Layer: progress.
 //!
 //! The board on which the workers post their logs, and what it tells each of them of all.
 #![tactic(auto)]

@@ -1,4 +1,4 @@
-//! Layer: the parts of a worker.
+//! Layer: progress.
 //!
 //! Laws alone: what each step of a worker adds to the counts of outstanding work, for names: the changes that a name
 //! brings at the end of a log's list.

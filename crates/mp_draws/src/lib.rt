@@ -1,4 +1,4 @@
-//! Layer: values, files and text.
+//! Layer: text, files and collections.
 //!
 //! Draws from a seed: a schedule and made events take their choices from them.
 #![tactic(auto)]

@@ -1,4 +1,4 @@
-//! Layer: workers on one thread.
+//! Layer: runs.
 //!
 //! Workers driven on one thread, by any list of steps or by the seeded schedule: each run is a run of the
 //! machine, and what a finished run wrote is the one-thread answer.

@@ -1,4 +1,4 @@
-//! Layer: values, files and text.
+//! Layer: a job.
 //!
 //! Events from the lines of an event file, and lines from events.
 //!

@@ -1,4 +1,4 @@
-//! Layer: the parts of a worker.
+//! Layer: the migrating operator: F and S.
 //!
 //! The first of many wakes, kept while they change.
 #![tactic(auto)]

@@ -1,4 +1,4 @@
-//! Layer: values, files and text.
+//! Layer: text, files and collections.
 //!
 //! A gate that workers pass before they make a step. It changes nothing of the product's: a test can
 //! watch there, or hold a worker back, without a body of its own for the product.

@@ -1,4 +1,4 @@
-//! Layer: the parts of a worker.
+//! Layer: the migrating operator: F and S.
 //!
 //! The handing off of bins: of a stage, which bins are due to leave a worker, and which times of control records it has
 //! settled, since all that it had to hand off then is sent. And how many keys each bin had that left.

@@ -1,4 +1,4 @@
-//! Layer: the parts of a worker.
+//! Layer: the migrating operator: F and S.
 //!
 //! The hosting half of a stage, as in Megaphone: it keeps the cells of keys, the records whose group waits and the wakes,
 //! and applies each group once all that belongs to it has come.

@@ -1,4 +1,4 @@
-//! Layer: the parts of a worker.
+//! Layer: the migrating operator: F and S.
 //!
 //! What a host holds by its worker's log, and what becomes of it: definitions and their laws.
 #![tactic(auto)]

@@ -1,4 +1,4 @@
-//! Layer: worker threads.
+//! Layer: runs.
 //!
 //! The board under a lock, and the way to it that each worker has: its seat.
 #![tactic(auto)]

@@ -1,4 +1,4 @@
-//! Layer: values, files and text.
+//! Layer: text, files and collections.
 //!
 //! Reading a file line by line: the items that its lines say, or its first bad line.
 //!

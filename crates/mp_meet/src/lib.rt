@@ -1,4 +1,4 @@
-//! Layer: tests, a crate for each layer.
+//! Layer: tests.
 //!
 //! A gate at which two workers wait for each other. It shows that two threads ran at one time.
 #![tactic(auto)]

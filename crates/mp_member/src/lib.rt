@@ -1,4 +1,4 @@
-//! Layer: worker threads.
+//! Layer: runs.
 //!
 //! A worker with its ends of the mailboxes and its way to the board: what one thread has of a running dataflow, and how
 //! it drives that.

@@ -1,4 +1,4 @@
-//! Layer: values, files and text.
+//! Layer: the queries, and the answer on one thread.
 //!
 //! Values, events, records and groups: what a dataflow carries; what a query is; and the definitions from events to the
 //! bytes of the answer.

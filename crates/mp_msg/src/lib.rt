@@ -1,4 +1,4 @@
-//! Layer: the parts of a worker.
+//! Layer: the migrating operator: F and S.
 //!
 //! Messages between the workers of a job: control records, bundles of records on their way to the worker that owns their
 //! keys, the states of bins that move, and answer rows on their way to worker 0. Contracts see a message's names; what it

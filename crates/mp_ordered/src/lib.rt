@@ -1,4 +1,4 @@
-//! Layer: values, files and text.
+//! Layer: text, files and collections.
 //!
 //! Items kept in the order of their ranks.
 #![tactic(auto)]

@@ -1,4 +1,4 @@
-//! Layer: the parts of a worker.
+//! Layer: the migrating operator: F and S.
 //!
 //! Answer rows in the order of their places: each worker holds those that it has to send to worker 0, and worker 0 writes
 //! those that it has received, time by time, once no more rows of that time can come.

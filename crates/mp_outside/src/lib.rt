@@ -1,4 +1,4 @@
-//! Layer: values, files and text.
+//! Layer: text, files and collections.
 //!
 //! What lies outside the program: files by their names, and places that bytes are written to.
 //! Each is a trait, with fakes in memory that can be told to fail, and a thin edge to the system.

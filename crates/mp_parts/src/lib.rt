@@ -1,4 +1,4 @@
-//! Layer: the parts of a worker.
+//! Layer: a worker.
 //!
 //! What a worker does with its parts together: it hands the outputs of a group on, counts what leaves with a packet, makes
 //! room for what a step changes, and lists the packets that it has sent.

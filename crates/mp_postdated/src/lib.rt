@@ -1,4 +1,4 @@
-//! Layer: the parts of a worker.
+//! Layer: the migrating operator: F and S.
 //!
 //! Post-dated wakes: at which times which keys are to be woken, as Megaphone's post-dated records.
 #![tactic(auto)]

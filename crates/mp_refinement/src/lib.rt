@@ -1,4 +1,4 @@
-//! Layer: one worker.
+//! Layer: a worker.
 //!
 //! What contracts see of workers, of what their mailboxes stand for, and of workers that take turns; and that what a worker
 //! says of its steps makes a run of the machine.

@@ -1,4 +1,4 @@
-//! Layer: workers on one thread.
+//! Layer: runs.
 //!
 //! The report of a job: its moves, each with how many keys moved, and how many groups each worker owns. It is the same
 //! whatever the schedule was.

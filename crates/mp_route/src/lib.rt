@@ -1,4 +1,4 @@
-//! Layer: the parts of a worker.
+//! Layer: the migrating operator: F and S.
 //!
 //! The routing half of a stage: a worker keeps the records that the stage is given until they are free to go, which
 //! they are once every control record that decides who owns them has come.

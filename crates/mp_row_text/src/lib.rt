@@ -1,4 +1,4 @@
-//! Layer: values, files and text.
+//! Layer: the queries, and the answer on one thread.
 //!
 //! The text of an answer row: one line for each row, its time and its fields.
 //!

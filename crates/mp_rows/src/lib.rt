@@ -1,4 +1,4 @@
-//! Layer: the parts of a worker.
+//! Layer: progress.
 //!
 //! The log of one worker, with what it adds to the counts of outstanding work. Its names stand in proofs alone.
 #![tactic(auto)]

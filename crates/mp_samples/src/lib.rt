@@ -1,4 +1,4 @@
-//! Layer: tests, a crate for each layer.
+//! Layer: tests.
 //!
 //! A query, events, jobs and a bin's state for tests: bids that wake the keys of their auctions, and jobs of a few of them.
 #![tactic(auto)]

@@ -1,4 +1,4 @@
-//! Layer: one worker.
+//! Layer: a worker.
 //!
 //! The kinds of step in which a worker sends a message: control records, records, bins and answer rows.
 #![tactic(auto)]

@@ -1,4 +1,4 @@
-//! Layer: values, files and text.
+//! Layer: progress.
 //!
 //! Counts of outstanding work by location and time, the frontiers that they show, and what a worker saw of
 //! them.

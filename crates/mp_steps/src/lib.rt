@@ -1,4 +1,4 @@
-//! Layer: one worker.
+//! Layer: a worker.
 //!
 //! The parts of a worker as one value, and as its methods the kinds of step that send nothing, each as the machine has it.
 #![tactic(auto)]

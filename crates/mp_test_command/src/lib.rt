@@ -1,4 +1,4 @@
-//! Layer: tests, a crate for each layer.
+//! Layer: tests.
 //!
 //! Tests of the command: where a file or an output fails, of a file that is too large, and of workers on threads. What files
 //! of the system come to stands in examples/cases.toml.

@@ -1,4 +1,4 @@
-//! Layer: tests, a crate for each layer.
+//! Layer: tests.
 //!
 //! Tests of what a user writes: the event file, the configuration file and the words of the command line. What the command
 //! answers to files and words stands in examples/cases.toml; here is what it doesn't show, and files of many bytes.

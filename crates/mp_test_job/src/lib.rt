@@ -1,4 +1,4 @@
-//! Layer: tests, a crate for each layer.
+//! Layer: tests.
 //!
 //! Tests of a job, of its outline, of the log of a worker, of the board and of messages, on the queries and jobs of
 //! `mp_samples`: a module for each crate.

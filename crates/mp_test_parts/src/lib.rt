@@ -1,4 +1,4 @@
-//! Layer: tests, a crate for each layer.
+//! Layer: tests.
 //!
 //! Tests of the parts of a worker: its routers, hosts and movers, the rows that it sends and writes, and the laws of them
 //! all, on the queries and jobs of `mp_samples`: a module for each crate.

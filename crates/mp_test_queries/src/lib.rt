@@ -1,4 +1,4 @@
-//! Layer: tests, a crate for each layer.
+//! Layer: tests.
 //!
 //! Tests of the answer on one thread and of the text of its rows. The queries' worked examples stand in examples/cases.toml.
 #![tactic(auto)]

@@ -1,4 +1,4 @@
-//! Layer: tests, a crate for each layer.
+//! Layer: tests.
 //!
 //! Tests of whole runs: workers driven on one thread, step by step, by the seeded schedule, and beside the
 //! reference answer.

@@ -1,4 +1,4 @@
-//! Layer: tests, a crate for each layer.
+//! Layer: tests.
 //!
 //! Tests of what workers share: mailboxes, on one thread and between threads, and the seat lock.
 //!

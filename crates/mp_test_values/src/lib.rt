@@ -1,4 +1,4 @@
-//! Layer: tests, a crate for each layer.
+//! Layer: tests.
 //!
 //! Tests of the values of a dataflow, of what they are kept in, and of the outside: files, sinks and texts.
 //!

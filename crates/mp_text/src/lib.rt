@@ -1,4 +1,4 @@
-//! Layer: values, files and text.
+//! Layer: text, files and collections.
 //!
 //! Lines, fields and numbers of a text file.
 //!

@@ -1,4 +1,4 @@
-//! Layer: worker threads.
+//! Layer: runs.
 //!
 //! The workers of a job on threads of their own: made for that, run to their end, and what each has done.
 #![tactic(auto)]

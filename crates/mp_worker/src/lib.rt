@@ -1,4 +1,4 @@
-//! Layer: one worker.
+//! Layer: a worker.
 //!
 //! One worker of a running dataflow: how it begins, the ten kinds of step that it makes, each as the machine has it, and what
 //! it tells of itself.

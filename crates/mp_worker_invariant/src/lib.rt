@@ -1,4 +1,4 @@
-//! Layer: the parts of a worker.
+//! Layer: a worker.
 //!
 //! Laws alone: what the parts of a worker hold by its log, and what becomes of that at each of its steps.
 #![tactic(auto)]
