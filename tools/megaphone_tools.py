@@ -1,6 +1,10 @@
 """What several of the project's tools need."""
 import os
 import re
+import signal
+import subprocess
+import time
+from dataclasses import dataclass
 
 TOP = os.path.dirname(os.path.dirname(os.path.realpath(__file__)))
 # The program, which the top's `megaphone` builds.
@@ -22,6 +26,63 @@ def read(name):
 def write(name, held):
     with open(name, "wb") as file:
         file.write(held)
+
+
+@dataclass
+class Ended:
+    """How a run ended: its status, which is None where it took too long, and below 0 where a signal ended it; what it said; its seconds on the
+    clock and on processors; and the bytes of memory that it had at most."""
+
+    status: int | None
+    said: bytes
+    seconds: float
+    used: float
+    memory: int
+
+
+class TookTooLong(Exception):
+    """The signal at a run's limit."""
+
+
+def too_long(*_):
+    raise TookTooLong
+
+
+def wait(child, seconds):
+    """Waits for the end of a child, and ends it after so many seconds: its status and what it used."""
+    before = signal.signal(signal.SIGALRM, too_long)
+    signal.setitimer(signal.ITIMER_REAL, seconds)
+    try:
+        _, ended, used = os.wait4(child, 0)
+        return os.waitstatus_to_exitcode(ended), used
+    except TookTooLong:
+        os.kill(child, signal.SIGKILL)
+        return None, os.wait4(child, 0)[2]
+    finally:
+        signal.setitimer(signal.ITIMER_REAL, 0)
+        signal.signal(signal.SIGALRM, before)
+
+
+def run(program, words, seconds=0, surroundings=os.environ):
+    """Runs a program on these words, for so many seconds at most where they aren't 0. What it complains of is dropped."""
+    said, errors = os.memfd_create("said"), os.open(os.devnull, os.O_WRONLY)
+    begun = time.perf_counter()
+    try:
+        places = [(os.POSIX_SPAWN_DUP2, said, 1), (os.POSIX_SPAWN_DUP2, errors, 2)]
+        child = os.posix_spawn(program, [program, *words], surroundings, file_actions=places)
+        status, used = wait(child, seconds)
+        took = time.perf_counter() - begun
+        text = os.pread(said, os.fstat(said).st_size, 0)
+    finally:
+        os.close(said)
+        os.close(errors)
+    return Ended(status, text, took, used.ru_utime + used.ru_stime, used.ru_maxrss << 10)
+
+
+def built():
+    """The program, which the top's `megaphone` builds where that isn't done yet."""
+    subprocess.run([f"{TOP}/megaphone"], stdout=subprocess.DEVNULL, check=False)
+    return PROGRAM
 
 
 def minutes(seconds):
