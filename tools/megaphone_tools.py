@@ -1,6 +1,7 @@
 """What several of the project's tools need."""
 import os
 import re
+import select
 import signal
 import subprocess
 import time
@@ -40,27 +41,15 @@ class Ended:
     memory: int
 
 
-class TookTooLong(Exception):
-    """The signal at a run's limit."""
-
-
-def too_long(*_):
-    raise TookTooLong
-
-
 def wait(child, seconds):
-    """Waits for the end of a child, and ends it after so many seconds: its status and what it used."""
-    before = signal.signal(signal.SIGALRM, too_long)
-    signal.setitimer(signal.ITIMER_REAL, seconds)
-    try:
-        _, ended, used = os.wait4(child, 0)
-        return os.waitstatus_to_exitcode(ended), used
-    except TookTooLong:
+    """Waits for the end of a child, and ends it after so many seconds where they aren't 0: its status and what it used."""
+    ends = os.pidfd_open(child)
+    is_late = not select.select([ends], [], [], seconds or None)[0]
+    os.close(ends)
+    if is_late:
         os.kill(child, signal.SIGKILL)
-        return None, os.wait4(child, 0)[2]
-    finally:
-        signal.setitimer(signal.ITIMER_REAL, 0)
-        signal.signal(signal.SIGALRM, before)
+    _, ended, used = os.wait4(child, 0)
+    return None if is_late else os.waitstatus_to_exitcode(ended), used
 
 
 def run(program, words, seconds=0, surroundings=os.environ):
