@@ -1,0 +1,53 @@
+"""The fixed cases: the costliest legal inputs that are known."""
+from hostile_readers import COUNT, MOST_CONTROLS
+
+
+def bids(count, when, auction):
+    return b"".join(b"B|%d|%d|%d|100\n" % (when(i), auction(i), i % 1000) for i in range(count))
+
+
+def sales(count):
+    """One seller's auctions, each with a bid, of one category."""
+    return b"".join(b"A|%d|%d|1|10|0|%d\nB|%d|%d|7|100\n" % (i, i, i + 50, i + 1, i) for i in range(count))
+
+
+def waiting(count):
+    return b"".join(b"A|%d|%d|8|10|0|%d\n" % (i, i, i + 1) for i in range(count - 1)) + b"P|%d|8|Ann|Reno|OR\n" % count
+
+
+def endings(count):
+    """Auctions that end in no order, each after all have begun."""
+    return b"".join(b"A|%d|%d|%d|10|0|%d\n" % (i, i, i % 1000, 200_000 + i * 7919 % count) for i in range(count))
+
+
+def moves(count, when, bins, workers):
+    return b"".join(b"M|%d|0|%d|%d\n" % (when(i), i % bins, (i + 1) % workers) for i in range(count))
+
+
+def costly():
+    """The fixed cases: what each is, its words, its events and its configuration."""
+    down = bids(COUNT, lambda i: COUNT - i, lambda i: i % 100_003)
+    one_time = bids(COUNT, lambda i: 5, lambda i: i % 100_003)
+    one_key = bids(COUNT, lambda i: i, lambda i: 7)
+    one_group = bids(COUNT, lambda i: 5, lambda i: 7)
+    usual = bids(25_000, lambda i: i, lambda i: i % 1000)
+    fewer = bids(25_000, lambda i: 25_000 - i, lambda i: i % 10_003)
+    for query in ("q1", "q5"):
+        yield f"times descending, {query}", f"run --query {query}", down, b""
+        yield f"all at one time, {query}", f"run --query {query}", one_time, b""
+        yield f"one key, {query}", f"run --query {query}", one_key, b""
+        yield f"one key at one time, {query}", f"run --query {query}", one_group, b""
+        yield f"one key, {query}, 256 bins", f"run --query {query} --bins 256", one_key, b""
+        shape = "--workers 16 --bins 256 --depth 1"
+        yield f"25,000 bids, times descending, {query}, {shape}", f"replay --query {query} {shape}", fewer, b""
+    yield "125,000 auctions of one seller, each with a bid, q6", "run --query q6", sales(COUNT // 2), b""
+    yield "249,999 auctions wait for their seller, q3", "run --query q3", waiting(COUNT), b""
+    ends = f"{COUNT // 2:,} auctions end in no order, and their one bin moves before that, q4"
+    yield ends, "replay --query q4 --workers 2 --bins 1", endings(COUNT // 2), b"M|150000|0|0|1\n"
+    for shape in ("--workers 2 --bins 1", "--workers 16 --bins 1 --depth 1"):
+        options = f"replay --query q1 {shape}"
+        workers = int(shape.split()[1])
+        yield f"25,000 bids, 65,536 control records of one bin at one time, {shape}", options, usual, moves(MOST_CONTROLS, lambda i: 500, 1, workers)
+        yield f"25,000 bids, 65,536 control records of one bin at as many times, {shape}", options, usual, moves(MOST_CONTROLS, lambda i: i, 1, workers)
+    yield "25,000 bids, 256 plan lines of 256 bins, 4 workers", "replay --query q1 --workers 4 --bins 256", usual, b"".join(b"all|%d|0|%d\n" % (100 * i, i % 4) for i in range(256))
+    yield "a price of 1,000,000 zeros and a 7", "run --query q1", b"B|1|1|1|" + b"0" * 1_000_000 + b"7\n", b""

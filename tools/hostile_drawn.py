@@ -1,0 +1,203 @@
+"""Cases that are drawn from a seed: words, an event file and a configuration that are near well-formed ones, and what is wanted of them."""
+import os
+import random
+import re
+
+from hostile_readers import COUNT, MOST_CONTROLS, NUMBER, PRICE, TIME, controls_of, events_of
+from megaphone_tools import STAGES, read
+
+# What the answer and the report hold before a run.
+OLD = b"as it was\n"
+
+SAID = {
+    0: rb"",
+    2: rb"usage: megaphone run\|replay\|check\|make\|demo\n",
+    3: rb"events line [1-9][0-9]*: (count|kind|fields|number|range|name|order)\n",
+    4: rb"config line [1-9][0-9]*: (count|kind|fields|number|range)\n",
+    5: rb"no file .*\n",
+    6: rb"read fault\n",
+    7: rb"write fault\n",
+    9: rb"too large: .*\n",
+}
+SAID_BY = {"check": rb"ok [0-9]+ events [0-9]+ controls\n", "demo": rb"events [0-9]+ rows [0-9]+ bytes [0-9]+ hash [0-9]+\n"}
+
+BASES = [
+    b"B|5|7|2|100\nB|3|7|1|250\nB|5|2|9|99\n",
+    b"A|0|1|9|10|50|100\nB|50|1|2|60\nB|100|1|3|90\n",
+    b"P|9|8|Ann|Reno|OR\nA|10|1|8|10|0|99\nA|19|2|8|10|0|99\r\n\r\nA|20|3|8|10|0|99\nB|12|1|4|000100\n",
+    b"A|0|1|9|4|0|140737488355328\nB|1|1|5|7\nP|43199|6|" + b"\xff" * 64 + b"|" + b"x" * 64 + b"|CA\n",
+    b"",
+]
+CONFIGS = [b"", b"", b"M|10|0|0|1\nM|20|0|0|0\n", b"all|5|0|1\nfluid|6|30|0|2\n", b"batch|25|10|2|0|1\r\n\nM|0|0|3|0\n", b"M|50|0|0|1"]
+LIMITS = [0, 1, 15, 16, 17, 64, 255, 256, 257, 1024, 1025, COUNT, MOST_CONTROLS, PRICE, TIME, NUMBER, 1 << 32, 1 << 63, 1 << 64, 1 << 128]
+WORDS = [b"", b"--", b"-", b"--query", b"--out", b"--seed", b"=", b"q0", b"q9", b"Q1", b".", b"/", b"e", b"c", b"o", b"r", b"none", b"\xff\xfe", b"1e3", b"+1", b"-1", b"0x10"]
+
+
+def number(draw):
+    value = max(0, draw.choice(LIMITS) + draw.choice((-1, 0, 0, 1)))
+    return b"0" * draw.choice((0, 0, 0, 1, 30, 2000)) + (b"%d" % value if draw.random() < 0.9 else b"9" * draw.choice((19, 20, 21, 1000)))
+
+
+def pieces(text):
+    """The places of the fields of a text."""
+    return [match.span() for match in re.finditer(rb"[^|\r\n]*", text)]
+
+
+class Places:
+    """The places of a text that a change takes: any one, and any two in their order."""
+
+    def __init__(self, draw, text):
+        self.at, other = (draw.randint(0, len(text)) for _ in range(2))
+        self.low, self.high = min(self.at, other), max(self.at, other)
+
+
+def cut_off(draw, index, text, places):
+    return text[: places.at]
+
+
+def cut_out(draw, index, text, places):
+    return text[: places.low] + text[places.high :]
+
+
+def put_byte(draw, index, text, places):
+    return text[: places.at] + bytes([index % 256]) + text[places.at :]
+
+
+def replace_byte(draw, index, text, places):
+    return text[: places.at] + bytes([index % 256]) + text[places.at + 1 :]
+
+
+def shuffle_lines(draw, index, text, places):
+    lines = text.split(b"\n")
+    draw.shuffle(lines)
+    return b"\n".join(lines)
+
+
+def repeat(draw, index, text, places):
+    return text[: places.high] + text[places.low : places.high] * draw.choice((1, 2, 20)) + text[places.high :]
+
+
+def put_number(draw, index, text, places):
+    begin, end = draw.choice(pieces(text))
+    return text[:begin] + number(draw) + text[end:]
+
+
+def put_bytes(draw, index, text, places):
+    begin, end = draw.choice(pieces(text))
+    return text[:begin] + bytes(draw.choices(range(256), k=draw.choice((0, 1, 63, 64, 65)))) + text[end:]
+
+
+def swap_fields(draw, index, text, places):
+    begin, end = draw.choice(pieces(text))
+    first, last = draw.choice(pieces(text))
+    if end > first:
+        begin, end, first, last = first, last, begin, end
+    if end > first:
+        return text[::-1]
+    return text[:begin] + text[first:last] + text[end:first] + text[begin:end] + text[last:]
+
+
+CHANGES = [cut_off, cut_out, put_byte, replace_byte, shuffle_lines, repeat, put_number, put_bytes, swap_fields]
+
+
+def change(draw, index, text):
+    """Another text that is near this one."""
+    places = Places(draw, text)
+    return draw.choice(CHANGES)(draw, index, text, places)
+
+
+def drop_word(draw, words, at, other):
+    del words[at]
+
+
+def repeat_word(draw, words, at, other):
+    words.insert(at, words[other])
+
+
+def swap_words(draw, words, at, other):
+    words[at], words[other] = words[other], words[at]
+
+
+def put_word(draw, words, at, other):
+    words[at] = draw.choice(WORDS)
+
+
+def put_number_word(draw, words, at, other):
+    words[at] = number(draw)
+
+
+def change_word(draw, words, at, other):
+    words[at] = change(draw, draw.randrange(1, 256), words[at]).replace(b"\0", b"")
+
+
+WORD_CHANGES = [drop_word, repeat_word, swap_words, put_word, put_number_word, change_word]
+
+
+def change_words(draw, words):
+    """Changes the words to others that are near them."""
+    at, other = draw.randrange(len(words)), draw.randrange(len(words))
+    draw.choice(WORD_CHANGES)(draw, words, at, other)
+
+
+class Case:
+    """A case: its words, its files, and what the files hold by the readers, where the words are whole."""
+
+    def __init__(self, seed, index):
+        draw = random.Random(f"{seed} {index}")
+        self.query = draw.choice(list(STAGES))
+        self.workers, self.bins = draw.choice(((1, 1), (1, 16), (2, 1), (3, 4), (3, 4), (16, 256)))
+        self.command = draw.choices(("check", "replay", "run", "make", "demo"), (70, 14, 10, 3, 3))[0]
+        shape = f"--workers {self.workers} --bins {self.bins}"
+        if self.command == "make":
+            line = f"make --count {draw.randrange(60)} --out o --seed {draw.randrange(1 << 48)}"
+        elif self.command == "demo":
+            line = f"demo --query {self.query} --count {draw.randrange(60)} {shape}"
+        else:
+            line = f"{self.command} --query {self.query} --events e --config c {shape}"
+        if self.command in ("run", "replay"):
+            line += f" --out o --depth {draw.choice((1, 2, 64))}" + draw.choice(("", " --report r"))
+        self.words, self.is_whole = line.encode().split(), True
+        self.events, self.config = draw.choice(BASES), draw.choice(CONFIGS)
+        what = draw.choices(("events", "config", "both", "words"), (45, 25, 15, 15))[0]
+        for _ in range(draw.choice((1, 1, 2, 4))):
+            if what in ("events", "both"):
+                self.events = change(draw, index, self.events)
+            if what in ("config", "both"):
+                self.config = change(draw, index, self.config)
+            if what == "words" and self.words:
+                change_words(draw, self.words)
+                self.is_whole = False
+
+    def wanted(self):
+        """The status and the line that the readers find, where the words are whole and the files are read."""
+        if not self.is_whole or self.command in ("make", "demo"):
+            return None
+        events = events_of(self.events)
+        if isinstance(events, tuple):
+            return 3, b"events line %d: %s\n" % (events[0], events[1].encode())
+        controls = controls_of(self.config, self.workers, self.bins, STAGES[self.query])
+        if isinstance(controls, tuple):
+            return 4, b"config line %d: %s\n" % (controls[0], controls[1].encode())
+        return 0, b"ok %d events %d controls\n" % (events, controls) if self.command == "check" else b""
+
+
+def wrong_in(case, status, said):
+    """What is wrong with the end of a case's run; None where nothing is."""
+    if status is None or status < 0:
+        return "no end in time" if status is None else f"ended by signal {-status}"
+    command = case.words[0].decode(errors="replace") if case.words else ""
+    line = SAID_BY.get(command, SAID[0]) if status == 0 else SAID.get(status)
+    if line is None or not re.fullmatch(line, said, re.DOTALL):
+        return f"status {status} says {said}"
+    wanted = case.wanted()
+    if wanted and wanted != (status, said):
+        return f"status {status} says {said}, and not {wanted}"
+    if case.is_whole and status not in (0, 3, 4):
+        return f"status {status} of whole words"
+    before = {"e": case.events, "c": case.config, "o": OLD, "r": OLD}
+    after = {name: read(name) for name in os.listdir(".")}
+    writes = {b"o", b"r"} if case.is_whole else set(case.words) | {word.partition(b"=")[2] for word in case.words}
+    for name in before.keys() | after.keys():
+        if before.get(name) != after.get(name) and (status not in (0, 7) or os.fsencode(name) not in writes):
+            return f"status {status} changes {name}"
+    return None
