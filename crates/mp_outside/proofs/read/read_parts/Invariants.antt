@@ -1,9 +1,9 @@
 use Rattle.std.proofs.Common.{◌≡◌, ◌≤◌, ◌+◌, ◌-◌, take, vec_len}
 use Rattle.mp_outside.specs.Files.{IsThere, IsThereWith}
-use Rattle.mp_outside.proofs.read.read_all.Given as goal
+use Rattle.mp_outside.proofs.read.read_parts.Given as goal
 
-abbrev pub invariant-loop-room : goal.invariant-loop-room
-invariant-loop-room g l = record {
+abbrev pub invariant-loop-bytes : goal.invariant-loop-bytes
+invariant-loop-bytes g l = record {
   so_far : IsThereWith (g.D.Depot.files l.depot) l.name (λ file. l.bytes.items ≡ take (vec_len l.bytes) file);
   there : IsThere (g.D.Depot.files l.depot) l.name;
   within : vec_len l.bytes ≤ l.most + 1;
@@ -12,5 +12,5 @@ invariant-loop-room g l = record {
   writes : g.D.Depot.write_faults l.depot ≡ g.D.Depot.write_faults l.fn.depot;
 }
 
-abbrev pub decreases-loop-room : goal.decreases-loop-room
-decreases-loop-room g l = l.most + 1 - vec_len l.bytes
+abbrev pub decreases-loop-bytes : goal.decreases-loop-bytes
+decreases-loop-bytes g l = l.most + 1 - vec_len l.bytes
