@@ -1,7 +1,6 @@
 use Rattle.std.proofs.Common.{◌∙◌, ◌++◌, ap, sym, subst, arith, length, length-append}
 use Rattle.mp_ordered.specs.InOrder.{IsInOrder, put_in_order}
-use Rattle.mp_ordered.proofs.Placing.{length-put}
-use Rattle.mp_ordered.proofs.Placing.{put_keeps}
+use Rattle.mp_ordered.proofs.Placing.{length-put, put_keeps}
 use Rattle.mp_ordered_runs.proofs.Running.{put_within_run, still_ends}
 use Rattle.mp_ordered_runs.proofs.runs.OrderedRuns.put.Goals as goal
 
