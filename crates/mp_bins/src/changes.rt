@@ -6,7 +6,7 @@ ghost use Rattle.mp_bins.specs.Changes.{AreChangesOf, IsMoveThere, IsMoveThen};
 use crate::finding::{next_time, owner_below};
 use crate::kept::{ByBin, ByOwner, StageBin};
 use crate::owners::{Note, first_owner};
-use crate::ranked::{insert_reserved, replace};
+use crate::ranked::replace;
 use mp_names::{Control, Move, Shape, Time};
 use mp_ordered::OrderedBlocks;
 
@@ -40,7 +40,7 @@ pub fn put_down(
     let next = next_time(notes, note);
     let here = move_at(notes, of, time);
     let then = move_then(notes, of, next);
-    insert_reserved(notes, note);
+    notes.insert_reserved(note);
     let new_here = move_at(notes, of, time);
     let new_then = move_then(notes, of, next);
     replace(changes, here, new_here);

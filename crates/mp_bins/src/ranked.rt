@@ -1,11 +1,10 @@
 //! Moves in the order of their ranks: by stage, owner before, time and bin.
 ghost use Rattle.std.specs.Prelude.{◌≡◌, ◌≢◌, ◌↔◌, ◌⊎◌, ◌≤◌, ◌<◌, ◌+◌, Some, IfSome, IfNone, Contains};
-ghost use Rattle.mp_ordered.specs.InOrder.{put_in_order};
 ghost use Rattle.mp_bins.specs.Changes.{AreRanked, IsFirstFrom, NoneIsFrom, IsReplaced};
 
 use crate::kept::{ByOwner, UptoMove, UptoPlace, is_from};
 use mp_names::{Move, TimedBin};
-use mp_ordered::{Order, OrderedBlocks};
+use mp_ordered::OrderedBlocks;
 
 /// The first of the moves from a worker, in a stage, that come after a place; of all where there is none.
 pub fn first_from(
@@ -69,17 +68,6 @@ fn put_in(changes: &mut OrderedBlocks<Move, ByOwner>, new: Option<Move>)
     ensures room { changes.old.room ≤ changes.new.room + 1 }
 {
     if let Some(change) = new {
-        insert_reserved(changes, change);
+        changes.insert_reserved(change);
     }
-}
-
-/// Inserts where there is room.
-pub fn insert_reserved<T: Drop, O: Order<T>>(items: &mut OrderedBlocks<T, O>, item: T)
-    requires { 0 < items.old.room }
-    ensures put { items.new.items ≡ put_in_order O.rank item items.old.items }
-    ensures room { items.old.room ≤ items.new.room + 1 }
-{
-    let Ok(()) = items.insert(item) else {
-        unreachable!()
-    };
 }

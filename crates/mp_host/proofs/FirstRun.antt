@@ -4,7 +4,7 @@ use Rattle.std.specs.List.{prefix_len}
 use Rattle.std.proofs.lemmas.Bool.{and_from, and_parts, cases_Bool, eq-eqb, eqb-true}
 use Rattle.std.proofs.lemmas.List.{take-take}
 use Rattle.mp_model.specs.declared.record.Rec.{Rec}
-use Rattle.mp_ordered.specs.InOrder.{first_run}
+use Rattle.mp_ordered_runs.specs.Runs.{first_run}
 use Rattle.mp_host_laws.specs.Hosted.{is_of}
 
 -- those that pass in front, of which all pass

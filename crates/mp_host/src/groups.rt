@@ -1,14 +1,14 @@
 //! The records of the first group.
 ghost use Rattle.std.specs.Prelude.{◌≡◌, ◌≤◌, ◌⊎◌, ◌∷◌, [], All, drop, filter, length, not};
 ghost use Rattle.std.specs.List.{list_any, prefix_len};
-ghost use Rattle.mp_ordered.specs.InOrder.{first_run};
+ghost use Rattle.mp_ordered_runs.specs.Runs.{first_run};
 ghost use Rattle.mp_postdated.specs.Wakes.{ComesNoLater};
 ghost use Rattle.mp_host_laws.specs.Hosted.{group_rank, is_of};
 
 use crate::order::ByGroup;
 use mp_model::{Rec, Time, Value};
 use mp_names::Tag;
-use mp_ordered::OrderedRuns;
+use mp_ordered_runs::OrderedRuns;
 
 /// The records of the group of a key at a time, of which no record here comes before: they stand first.
 pub fn first_records<'a>(records: &'a OrderedRuns<Rec, ByGroup>, time: Time, key: u64) -> &'a [Rec]

@@ -18,7 +18,7 @@ use mp_host_laws::Held;
 use mp_job::Job;
 use mp_model::{Naming, Query, Rec};
 use mp_msg::BinState;
-use mp_ordered::OrderedRuns;
+use mp_ordered_runs::OrderedRuns;
 use std::alloc::{AllocError, Global};
 use std::marker::{Model, PhantomData};
 

@@ -1,6 +1,7 @@
 //! The order of records in a host.
 use mp_model::Rec;
-use mp_ordered::{Kinds, Order};
+use mp_ordered::Order;
+use mp_ordered_runs::Kinds;
 
 /// Records by time, then by key, then by tag, so that those of a group stand together, in the order in which the group
 /// takes them.

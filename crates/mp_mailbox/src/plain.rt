@@ -105,7 +105,7 @@ impl<M: Named + Drop> PlainPost<M> {
         let count = workers as usize * workers as usize;
         let mut queues = Vec::with_capacity(alloc, count)?;
         for _ in 0..count {
-            queues.push(VecDeque::with_capacity(alloc, depth as usize)?)?;
+            queues.push_reserved(VecDeque::with_capacity(alloc, depth as usize)?);
         }
         Ok(PlainPost {
             workers,

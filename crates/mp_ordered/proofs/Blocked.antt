@@ -11,8 +11,7 @@ use Rattle.std.proofs.lemmas.List.Sums.{prefix_len_is}
 use Rattle.std.proofs.lemmas.List.Elements.{All-nil, All-cons, All-head, All-tail, All-weaker, All-get_or}
 use Rattle.mp_names.specs.Names.{is_before}
 use Rattle.mp_ordered.specs.Blocks.{AreFilled, IsBlockFor, IsCutIn, IsFilled, begins_before, items_of}
-use Rattle.mp_ordered.specs.InOrder.{IsInOrder, first_from, put_in_order}
-use Rattle.mp_ordered.specs.Runs.{begins}
+use Rattle.mp_ordered.specs.InOrder.{IsInOrder, begins, first_from, put_in_order}
 use Rattle.mp_ordered.proofs.Placing.{pairs_head, pairs_tail}
 use Rattle.mp_ordered.proofs.Placed.{all_front, all_back, pairs_front, pairs_back, put_behind, put_within, still_before}
 

@@ -1,5 +1,5 @@
 -- Blocks after an item was put in or taken out.
-use Rattle.std.proofs.Common.{◌≡◌, ℕ, zero, suc, ◌+◌, ◌*◌, ◌-◌, ◌^◌, ◌<◌, ◌≤◌, Bool, true, false, cond, List, [], ◌∷◌, ◌++◌, All, length, get_or, set, take, drop, refl, ap, sym, ◌∙◌, subst, ◌⊎◌, ⊎_elim, arith, length-append, length-set, append_assoc}
+use Rattle.std.proofs.Common.{◌≡◌, ℕ, zero, suc, ◌+◌, ◌*◌, ◌-◌, ◌^◌, ◌<◌, ◌≤◌, false, List, [], ◌∷◌, ◌++◌, All, length, get_or, set, take, drop, refl, ap, sym, ◌∙◌, subst, ◌⊎◌, ⊎_elim, arith, length-append, length-set, append_assoc}
 use Rattle.std.specs.declared.vec.Vec.{Vec}
 use Rattle.std.specs.declared.collections.VecDeque.{VecDeque}
 use Rattle.std.specs.List.{remove}
@@ -12,16 +12,8 @@ use Rattle.std.proofs.lemmas.List.Elements.{All-cons, All-append, All-take, All-
 use Rattle.mp_names.specs.Names.{is_before}
 use Rattle.mp_ordered.specs.Blocks.{AreBlocks, AreFilled, IsBlock, IsBlockFor, IsFilled, IsSpare, IsSplit, items_of, lacking, past_halves}
 use Rattle.mp_ordered.specs.InOrder.{IsInOrder, put_in_order}
-use Rattle.mp_ordered.proofs.Placing.{pairs_without, put_keeps}
+use Rattle.mp_ordered.proofs.Placing.{length-put, pairs_without, put_keeps}
 use Rattle.mp_ordered.proofs.Blocked.{all_filled, put_in_block, without_item}
-
-pub length-put : {T : Type 0} (rank : T → List ℕ) (x : T) (ys : List T) → length (put_in_order rank x ys) ≡ length ys + 1
-length-put rank x [] = refl
-length-put rank x (y ∷ ys) = either (is_before (rank y) (rank x)) (length-put rank x ys)
-  where
-    either : (b : Bool) → length (put_in_order rank x ys) ≡ length ys + 1 → length (cond b (y ∷ put_in_order rank x ys) (x ∷ y ∷ ys)) ≡ suc (length ys) + 1
-    either true e = omega arith
-    either false e = omega arith
 
 module _ {T Z : Type 0} where
   -- How many items are past halves, and how many the first block lacks

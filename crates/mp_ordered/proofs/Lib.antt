@@ -1,8 +1,8 @@
 mod Blocked
 mod Changed
 mod Dropped
+mod Edited
 pub mod Fronts
 mod Nearest
-mod Placed
+pub mod Placed
 pub mod Placing
-mod Running

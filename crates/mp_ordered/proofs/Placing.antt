@@ -169,3 +169,12 @@ module _ {T : Type 0} where
   read_at [] n x e = absurd (cc)
   read_at (y ∷ ys) zero x e = (omega arith, λ d. let f : y ≡ x = cc (e) in f)
   read_at (y ∷ ys) (suc n) x e = let r = read_at ys n x e in (let l = r.0 in omega arith, r.1)
+
+-- an item that is put is one more
+pub length-put : {T : Type 0} (rank : T → List ℕ) (x : T) (ys : List T) → length (put_in_order rank x ys) ≡ length ys + 1
+length-put rank x [] = refl
+length-put rank x (y ∷ ys) = either (is_before (rank y) (rank x)) (length-put rank x ys)
+  where
+    either : (b : Bool) → length (put_in_order rank x ys) ≡ length ys + 1 → length (cond b (y ∷ put_in_order rank x ys) (x ∷ y ∷ ys)) ≡ suc (length ys) + 1
+    either true e = omega arith
+    either false e = omega arith

@@ -6,8 +6,7 @@ use Rattle.std.specs.declared.collections.VecDeque.{VecDeque}
 use Rattle.std.specs.Vec.{vec_capacity}
 use Rattle.std.specs.VecDeque.{deque_capacity}
 use Rattle.mp_names.specs.Names.{is_before}
-use Rattle.mp_ordered.specs.InOrder.{IsInOrder}
-use Rattle.mp_ordered.specs.Runs.{begins}
+use Rattle.mp_ordered.specs.InOrder.{IsInOrder, begins}
 
 -- the first of these items comes before another one
 abbrev pub begins_before : {T : Type 0} → (T → List ℕ) → T → List T → Bool

@@ -1,6 +1,6 @@
 -- Lists in the order of ranks: of two ranks, lists of numbers, the first comes first as words in a dictionary do.
-use Rattle.std.specs.Prelude.{◌≡◌, ℕ, Bool, false, not, cond, Option, List, [], ◌∷◌, AllPairs, take}
-use Rattle.std.specs.List.{find, prefix_len}
+use Rattle.std.specs.Prelude.{◌≡◌, ℕ, Bool, false, not, cond, Option, List, [], ◌∷◌, AllPairs}
+use Rattle.std.specs.List.{find}
 use Rattle.mp_names.specs.Names.{is_before}
 
 module _ {T : Type 0} where
@@ -21,10 +21,10 @@ module _ {T : Type 0} where
   abbrev pub first_from : (T → List ℕ) → T → List T → Option T
   first_from rank x items = find (λ y. not (is_before (rank y) (rank x))) items
 
-  -- the first item and those that follow it, up to the first of another kind
-  abbrev pub first_run : (T → T → Bool) → List T → List T
-  first_run same [] = []
-  first_run same (x ∷ xs) = x ∷ take (prefix_len (same x) xs) xs
+  -- the first of these items passes
+  abbrev pub begins : (T → Bool) → List T → Bool
+  begins p [] = false
+  begins p (x ∷ xs) = p x
 
 -- What contracts see of items in order: the items, and how many more there is room for
 pub record InOrder (T : Type 0) : Type 0 where

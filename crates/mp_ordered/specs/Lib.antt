@@ -1,4 +1,3 @@
 -- What the contracts of this crate cite.
 pub mod Blocks
 pub mod InOrder
-pub mod Runs

@@ -1,5 +1,5 @@
 //! Blocks of items, each a ring with memory for 128 and with fewer items.
-ghost use Rattle.std.specs.Prelude.{◌≡◌, ◌≤◌, ◌<◌, ◌+◌, ◌-◌, ◌⊎◌, ◌++◌, ◌∷◌, [], All, get_or, length, slice_get, take, IfNone, IfOk, IfSome, IsTrue, OnOk, Some, true};
+ghost use Rattle.std.specs.Prelude.{◌≡◌, ◌≤◌, ◌<◌, ◌+◌, ◌-◌, ◌⊎◌, ◌++◌, ◌∷◌, [], All, get_or, length, slice_get, take, IfNone, IfOk, IfSome, IsTrue, OnErr, OnOk, Some, true};
 ghost use Rattle.std.specs.List.{insert, prefix_len, remove};
 ghost use Rattle.std.specs.List.Sorted.{IsPartitionedBy};
 ghost use Rattle.std.specs.declared.collections.VecDeque.{VecDeque};
@@ -8,8 +8,7 @@ ghost use Rattle.std.specs.VecDeque.{deque_capacity};
 ghost use Rattle.std.specs.declared.alloc.Global.{Global};
 ghost use Rattle.mp_names.specs.Names.{is_before};
 ghost use Rattle.mp_ordered.specs.Blocks.{AreFilled, HasMemory, IsBlockFor, IsCutIn, IsSpare, IsSplit, begins_before, items_of};
-ghost use Rattle.mp_ordered.specs.InOrder.{IsInOrder, first_from, put_in_order};
-ghost use Rattle.mp_ordered.specs.Runs.{begins};
+ghost use Rattle.mp_ordered.specs.InOrder.{IsInOrder, begins, put_in_order};
 
 use crate::cut::Cut;
 use crate::order::Order;
@@ -18,20 +17,6 @@ use std::collections::VecDeque;
 
 /// As many items as a block is split at, which is twice as many as each half has.
 pub const FULL: usize = 128;
-
-/// How many items of a list come before one.
-pub fn place_of<T, O: Order<T>>(items: &[T], item: &T) -> usize
-    requires { IsInOrder O.rank items.now }
-    ensures inside { result ≤ length items.now }
-    ensures place { insert items.now result item.now ≡ put_in_order O.rank item.now items.now }
-    ensures from { slice_get items.now result ≡ first_from O.rank item.now items.now }
-{
-    items.partition_point(
-        |other: &T| -> bool
-            ensures { result ≡ is_before (O.rank other.now) (O.rank item.entry.now) }
-        { O::is_before(other, item) },
-    )
-}
 
 /// How many items of a block come before one. Where the item goes to an end of the block it isn't searched for.
 pub fn place_in<T, O: Order<T>>(block: &VecDeque<T>, item: &T) -> usize
@@ -200,18 +185,6 @@ pub fn copied<T: Copy + Drop>(blocks: &Vec<VecDeque<T>>) -> Result<Vec<T>, Alloc
     Ok(items)
 }
 
-/// Puts an item at a place in a list, which has memory for it.
-pub fn put<T: Drop>(items: &mut Vec<T>, at: usize, item: T)
-    requires inside { at ≤ length items.old.items }
-    requires memory { length items.old.items < vec_capacity items.old }
-    ensures items { items.new.items ≡ insert items.old.items at item }
-    ensures memory { vec_capacity items.old ≤ vec_capacity items.new }
-{
-    let Ok(()) = items.insert(at, item) else {
-        unreachable!()
-    };
-}
-
 /// Puts an item at a place in a block, which has memory for it.
 pub fn put_in<T: Drop>(block: &mut VecDeque<T>, at: usize, item: T)
     requires inside { at ≤ length block.old.items }
@@ -307,9 +280,7 @@ pub fn retire<T: Drop>(blocks: &mut Vec<VecDeque<T>>, spare: &mut Vec<VecDeque<T
     ensures memory { (vec_capacity blocks.new ≡ vec_capacity blocks.old) × (vec_capacity spare.old ≤ vec_capacity spare.new) }
 {
     let block = blocks.remove(at);
-    let Ok(()) = spare.push(block) else {
-        unreachable!()
-    };
+    spare.push_reserved(block);
 }
 
 /// Makes blocks, until there are `wanted` with the spare ones. `AllocError`: no memory, and there may be some more.
@@ -332,10 +303,22 @@ pub fn have_blocks<T: Drop>(
     }
     blocks.reserve(wanted - blocks.len())?;
     spare.reserve(wanted - spare.len())?;
-    if blocks.is_empty() {
-        blocks.push(VecDeque::with_capacity(alloc, FULL)?)?;
-    }
+    have_first(alloc, blocks)?;
     add_spare(alloc, spare, wanted - blocks.len())
+}
+
+// Makes the first block, where there is none. `AllocError`: no memory, and nothing changes.
+fn have_first<T: Drop>(alloc: Global, blocks: &mut Vec<VecDeque<T>>) -> Result<(), AllocError>
+    requires memory { 0 < vec_capacity blocks.old }
+    ensures some { OnOk result (0 < length blocks.new.items) }
+    ensures same { (blocks.new.items ≡ blocks.old.items) ⊎ ((blocks.old.items ≡ []) × ((b : VecDeque T Global) × (IsSpare b × (blocks.new.items ≡ b ∷ [])))) }
+    ensures memory { vec_capacity blocks.new ≡ vec_capacity blocks.old }
+    ensures unchanged { OnErr result (blocks.new ≡ blocks.old) }
+{
+    if blocks.is_empty() {
+        blocks.push_reserved(VecDeque::with_capacity(alloc, FULL)?);
+    }
+    Ok(())
 }
 
 // Makes spare blocks, until there are so many. `AllocError`: no memory, and there may be some more.
@@ -354,7 +337,7 @@ fn add_spare<T: Drop>(
     ensures memory { vec_capacity spare.old ≤ vec_capacity spare.new }
 {
     for _made in spare.len()..wanted {
-        spare.push(VecDeque::with_capacity(alloc, FULL)?)?;
+        spare.push_reserved(VecDeque::with_capacity(alloc, FULL)?);
     }
     Ok(())
 }

@@ -1,9 +1,9 @@
 //! Items in order, in blocks.
-ghost use Rattle.std.specs.Prelude.{◌≡◌, ◌≤◌, ◌<◌, ◌+◌, ◌*◌, ◌-◌, ◌^◌, ◌∷◌, [], drop, length, max, slice_get, IfNone, IfOk, IfSome, None, OnErr, OnOk, Some};
+ghost use Rattle.std.specs.Prelude.{◌≡◌, ◌≤◌, ◌<◌, ◌+◌, ◌*◌, ◌-◌, ◌^◌, ◌∷◌, [], ◌↔◌, drop, length, max, slice_get, IfNone, IfOk, IfSome, IsOk, IsTrue, None, OnErr, OnOk, Some};
 ghost use Rattle.std.specs.List.{prefix_len, remove};
 ghost use Rattle.std.specs.List.Sorted.{IsPartitionedBy};
 ghost use Rattle.mp_ordered.specs.Blocks.{items_of};
-ghost use Rattle.mp_ordered.specs.InOrder.{IsInOrder, first_from, put_in_order};
+ghost use Rattle.mp_ordered.specs.InOrder.{GoesBack, IsInOrder, first_from, put_in_order};
 
 use crate::block::{
     FULL, block_of, copied, cut_block, cut_in, have_blocks, item_at, item_from, past_half,
@@ -11,7 +11,7 @@ use crate::block::{
 };
 use crate::cut::Cut;
 use crate::front::{count_of, drop_front, end_of, retire_first};
-use crate::near::{Spot, last_near};
+use crate::near::{Spot, last_near, last_searched};
 use crate::order::Order;
 use std::alloc::{AllocError, Global};
 use std::cell::Cell;
@@ -19,10 +19,13 @@ use std::collections::VecDeque;
 use std::marker::{Model, PhantomData};
 
 /// Items in the order `O`, the first one first, in blocks. Contracts see an `InOrder`: the items, and how many more there is
-/// room for. The block of an item is found by halving, and its place there too; then the items that follow it in the block
-/// move. A full block is split in two, for which there are spare ones.
+/// room for. To put an item among them takes time by the logarithm of their number, to take out the first one no more than
+/// its block needs.
+///
+/// The block of an item is found by halving, and its place there too; then the items that follow it in the block move. A full
+/// block is split in two, for which there are spare ones.
 #[derive(Drop)]
-pub struct Blocks<T, O: Order<T>> {
+pub struct OrderedBlocks<T, O: Order<T>> {
     blocks: Vec<VecDeque<T>>,
     spare: Vec<VecDeque<T>>,
     len: usize,
@@ -32,7 +35,7 @@ pub struct Blocks<T, O: Order<T>> {
     of: PhantomData<O>,
 }
 
-impl<T, O: Order<T>> Model for Blocks<T, O> {
+impl<T, O: Order<T>> Model for OrderedBlocks<T, O> {
     ghost use Rattle.mp_ordered.specs.Blocks.{AreBlocks, items_of};
     ghost use Rattle.mp_ordered.specs.InOrder.{InOrder};
 
@@ -43,13 +46,13 @@ impl<T, O: Order<T>> Model for Blocks<T, O> {
     ghost invariant = { λ o. AreBlocks O.rank o.blocks o.spare o.len o.past o.room };
 }
 
-impl<T: Drop, O: Order<T>> Blocks<T, O> {
+impl<T: Drop, O: Order<T>> OrderedBlocks<T, O> {
     /// No items.
-    pub fn new(alloc: Global) -> Blocks<T, O>
+    pub fn new(alloc: Global) -> OrderedBlocks<T, O>
         ensures items { result.items ≡ [] }
         ensures room { result.room ≡ 0 }
     {
-        Blocks {
+        OrderedBlocks {
             blocks: Vec::new(alloc),
             spare: Vec::new(alloc),
             len: 0,
@@ -73,12 +76,23 @@ impl<T: Drop, O: Order<T>> Blocks<T, O> {
         self.room
     }
 
-    /// Makes room for `count` more items. `AllocError`: no memory, and nothing changes.
-    pub fn make_room(&mut self, count: usize) -> Result<(), AllocError>
-        ensures room { OnOk result (self.new.room ≡ max count self.old.room) }
+    /// Whether there are no items.
+    pub fn is_empty(&self) -> bool
+        ensures { IsTrue result ↔ (self.now.items ≡ []) }
+    {
+        self.len == 0
+    }
+
+    /// Makes room, so that the next `count` calls of `insert` answer `Ok`. `AllocError`: no memory, and nothing
+    /// changes.
+    pub fn make_room(&mut self, count: u64) -> Result<(), AllocError>
+        ensures room { OnOk result (count ≤ self.new.room) }
+        ensures exact { OnOk result (self.new.room ≡ max count self.old.room) }
         ensures items { self.new.items ≡ self.old.items }
+        ensures no_less { self.old.room ≤ self.new.room }
         ensures unchanged { OnErr result (self.new ≡ self.old) }
     {
+        let count = count as usize;
         if count <= self.room {
             return Ok(());
         }
@@ -91,8 +105,23 @@ impl<T: Drop, O: Order<T>> Blocks<T, O> {
         Ok(())
     }
 
-    /// Puts an item at its place, in front of those of its rank.
-    pub fn insert(&mut self, item: T)
+    /// Puts an item at its place, in front of those of its rank. `AllocError`: no memory, never where there is
+    /// room, and nothing changes.
+    pub fn insert(&mut self, item: T) -> Result<(), AllocError>
+        ensures put { OnOk result (self.new.items ≡ put_in_order O.rank item self.old.items) }
+        ensures room { OnOk result (self.old.room ≤ self.new.room + 1) }
+        ensures unchanged { OnErr result (self.new ≡ self.old) }
+        ensures never_refused_with_room { 0 < self.old.room → IsOk result }
+    {
+        if self.room == 0 {
+            self.make_room(1)?;
+        }
+        self.insert_reserved(item);
+        Ok(())
+    }
+
+    /// Puts an item at its place, in front of those of its rank, where there is room.
+    pub fn insert_reserved(&mut self, item: T)
         requires { 0 < self.old.room }
         ensures put { self.new.items ≡ put_in_order O.rank item self.old.items }
         ensures room { self.old.room ≡ self.new.room + 1 }
@@ -111,11 +140,12 @@ impl<T: Drop, O: Order<T>> Blocks<T, O> {
         }
     }
 
-    /// The first item; `None` exactly where there is none.
+    /// The first item; `None` exactly where there is none. It would go back to its place.
     pub fn first(&self) -> Option<&T>
         ensures some { IfSome result (λ x. slice_get self.now.items 0 ≡ Some x.now) }
         ensures none { IfNone result (self.now.items ≡ []) }
         ensures in_order { IsInOrder O.rank self.now.items }
+        ensures goes_back { GoesBack O.rank }
     {
         self.blocks.first()?.front()
     }
@@ -140,7 +170,8 @@ impl<T: Drop, O: Order<T>> Blocks<T, O> {
         item_at(&self.blocks, index)
     }
 
-    /// Takes out the first item; `None` exactly where there is none. It leaves its room.
+    /// Takes out the first item; `None` exactly where there is none. It leaves its room, so `insert` takes it back
+    /// to its place.
     pub fn pop_first(&mut self) -> Option<T>
         ensures some { IfSome result (λ x. self.old.items ≡ x ∷ self.new.items) }
         ensures none { IfNone result (self.old.items ≡ []) }
@@ -209,15 +240,7 @@ impl<T: Drop, O: Order<T>> Blocks<T, O> {
         ensures some_in_front { IfSome result (λ x. 0 < prefix_len (C.front cut.now) self.now.items) }
         ensures none { IfNone result (prefix_len (C.front cut.now) self.now.items ≡ 0) }
     {
-        if self.blocks.is_empty() {
-            return None;
-        }
-        let at = cut_block(&self.blocks, cut);
-        let count = cut_in(&self.blocks[at], cut);
-        if count == 0 {
-            return None;
-        }
-        Some(&self.blocks[at][count - 1])
+        last_searched(&self.blocks, cut, &Cell::new(Spot { block: 0, place: 0 }))
     }
 
     /// The last item in front of a cut; `None` exactly where there is none. `near` is where an earlier look ended, or any
@@ -266,7 +289,7 @@ impl<T: Drop, O: Order<T>> Blocks<T, O> {
     }
 }
 
-impl<T: Copy + Drop, O: Order<T>> Blocks<T, O> {
+impl<T: Copy + Drop, O: Order<T>> OrderedBlocks<T, O> {
     /// All items in order. `AllocError`: no memory.
     pub fn to_vec(&self) -> Result<Vec<T>, AllocError>
         ensures { IfOk result (λ v. v.items ≡ self.now.items) }

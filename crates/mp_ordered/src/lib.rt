@@ -9,11 +9,8 @@ mod cut;
 mod front;
 mod near;
 mod order;
-mod runs;
-mod stored;
 
+pub use blocks::OrderedBlocks;
 pub use cut::Cut;
 pub use near::Spot;
 pub use order::Order;
-pub use runs::{Kinds, OrderedRuns};
-pub use stored::OrderedBlocks;

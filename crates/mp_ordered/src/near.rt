@@ -58,8 +58,8 @@ fn last_at<'b, T, C: Cut<T>>(blocks: &'b [VecDeque<T>], cut: &C, spot: Spot) -> 
     None
 }
 
-// The same, found by halving.
-fn last_searched<'b, T, C: Cut<T>>(
+/// The same, found by halving.
+pub fn last_searched<'b, T, C: Cut<T>>(
     blocks: &'b [VecDeque<T>],
     cut: &C,
     near: &Cell<Spot>,

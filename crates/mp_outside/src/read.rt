@@ -42,14 +42,34 @@ pub fn read_all<D: Depot>(
     if !depot.find(name)? {
         return Err(ReadRefused::NotThere);
     }
+    read_there(alloc, depot, name, most)
+}
+
+// The bytes of a name that is there.
+fn read_there<D: Depot>(
+    alloc: Global,
+    depot: &mut D,
+    name: &str,
+    most: u64,
+) -> Result<Vec<u8>, ReadRefused>
+    requires few { most ≤ 2 ^ 48 }
+    requires there { IsThere (D.files depot.old) name.now }
+
+    ensures bytes { IfOk result (λ v.
+        IsThereWith (D.files depot.old) name.now (λ bytes. v.items ≡ bytes)) }
+    ensures within { IfOk result (λ v. vec_len v ≤ most) }
+
+    ensures not_there { result ≡ Err NotThere → ⊥ }
+    ensures too_large { result ≡ Err TooLarge →
+        IsThereWith (D.files depot.old) name.now (λ bytes. most < length bytes) }
+    ensures failed { result ≡ Err Failed → Rose (D.read_faults depot.old) (D.read_faults depot.new) }
+    ensures no_fault { result ≢ Err Failed → D.read_faults depot.new ≡ D.read_faults depot.old }
+    ensures reads_only { OnlyReads D.files D.read_faults D.write_faults depot.old depot.new }
+{
     let mut room = zeros(alloc, PART)?;
-    let room = room.as_mut_slice();
     let mut bytes = Vec::new(alloc);
-    while bytes.len() as u64 <= most {
-        let ask = (most - bytes.len() as u64).min(PART as u64 - 1) as usize + 1;
-        if !read_part(depot, name, &mut room[..ask], &mut bytes)? {
-            return Ok(bytes);
-        }
+    if read_parts(depot, name, most, room.as_mut_slice(), &mut bytes)? {
+        return Ok(bytes);
     }
     Err(ReadRefused::TooLarge)
 }
@@ -58,6 +78,40 @@ fn zeros(alloc: Global, len: usize) -> Result<Vec<u8>, AllocError>
     ensures { IfOk result (λ v. vec_len v ≡ len) }
 {
     vec![in alloc; 0; len]
+}
+
+// Reads part by part, up to the name's end. False where there are more bytes than `most`.
+fn read_parts<D: Depot>(
+    depot: &mut D,
+    name: &str,
+    most: u64,
+    room: &mut [u8],
+    bytes: &mut Vec<u8>,
+) -> Result<bool, ReadRefused>
+    requires few { most ≤ 2 ^ 48 }
+    requires there { IsThere (D.files depot.old) name.now }
+    requires room { length room.old ≡ 65536 }
+    requires none_yet { vec_len bytes.old ≡ 0 }
+
+    ensures whole { IfOk result (λ whole. whole ≡ true →
+        IsThereWith (D.files depot.old) name.now (λ file. bytes.new.items ≡ file)) }
+    ensures within { IfOk result (λ whole. whole ≡ true → vec_len bytes.new ≤ most) }
+    ensures too_large { IfOk result (λ whole. whole ≡ false →
+        IsThereWith (D.files depot.old) name.now (λ file. most < length file)) }
+
+    ensures not_there { result ≡ Err NotThere → ⊥ }
+    ensures no_error { result ≡ Err TooLarge → ⊥ }
+    ensures failed { result ≡ Err Failed → Rose (D.read_faults depot.old) (D.read_faults depot.new) }
+    ensures no_fault { result ≢ Err Failed → D.read_faults depot.new ≡ D.read_faults depot.old }
+    ensures reads_only { OnlyReads D.files D.read_faults D.write_faults depot.old depot.new }
+{
+    while bytes.len() as u64 <= most {
+        let ask = (most - bytes.len() as u64).min(PART as u64 - 1) as usize + 1;
+        if !read_part(depot, name, &mut room[..ask], bytes)? {
+            return Ok(true);
+        }
+    }
+    Ok(false)
 }
 
 // Puts the next part of a name, as much as the depot gives into the room, behind the bytes that were

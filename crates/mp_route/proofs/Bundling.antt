@@ -22,8 +22,7 @@ use Rattle.mp_bins.specs.Bins.{bin_of_key}
 use Rattle.mp_bins.specs.Notes.{Notes, owner_at as noted_owner}
 use Rattle.mp_model.specs.declared.record.Rec.{Rec}
 use Rattle.mp_model.specs.Facts.{JobFacts, QueryFacts}
-use Rattle.mp_ordered.specs.InOrder.{InOrder, IsInOrder}
-use Rattle.mp_ordered.specs.Runs.{begins}
+use Rattle.mp_ordered.specs.InOrder.{InOrder, IsInOrder, begins}
 use Rattle.mp_ordered.proofs.Placing.{pairs_drop, pairs_head, pairs_tail}
 use Rattle.mp_outline.specs.JobOutline.{name_of_record, outline_of}
 use Rattle.mp_outline.proofs.Named.{In_named}

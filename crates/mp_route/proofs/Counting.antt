@@ -7,8 +7,7 @@ use Rattle.std.specs.declared.collections.VecDeque.{VecDeque}
 use Rattle.std.proofs.Math.Seq.{drop-append_seam}
 use Rattle.mp_names.specs.Names.{is_before}
 use Rattle.mp_ordered.specs.Blocks.{items_of}
-use Rattle.mp_ordered.specs.InOrder.{IsInOrder, put_in_order}
-use Rattle.mp_ordered.specs.Runs.{begins}
+use Rattle.mp_ordered.specs.InOrder.{IsInOrder, begins, put_in_order}
 use Rattle.mp_ordered.proofs.Placing.{goes_back, pairs_drop}
 use Rattle.mp_ordered.proofs.Fronts.{front_within, items_from, items_next, items_upto}
 

@@ -3,8 +3,7 @@ use Rattle.std.specs.Prelude.{◌≡◌, ◌⊎◌, ℕ, ◌+◌, ◌≤◌, ◌
 use Rattle.mp_bins.specs.Bins.{bin_of_key}
 use Rattle.mp_bins.specs.Notes.{Notes, owner_at}
 use Rattle.mp_model.specs.declared.record.Rec.{Rec}
-use Rattle.mp_ordered.specs.InOrder.{InOrder}
-use Rattle.mp_ordered.specs.Runs.{begins}
+use Rattle.mp_ordered.specs.InOrder.{InOrder, begins}
 use Rattle.mp_route.specs.declared.along.Along.{Along}
 
 -- what goes along with a record of a stage, by what is noted

@@ -2,8 +2,7 @@
 ghost use Rattle.std.specs.Prelude.{◌≡◌, ◌≤◌, ◌<◌, ◌+◌, ◌⊎◌, ◌++◌, [], All, IfOk, OnErr, drop, false, filter, length, not, take, true, vec_len};
 ghost use Rattle.std.specs.Vec.{vec_capacity};
 ghost use Rattle.mp_bins.specs.Bins.{IsBinCount};
-ghost use Rattle.mp_ordered.specs.InOrder.{IsInOrder};
-ghost use Rattle.mp_ordered.specs.Runs.{begins};
+ghost use Rattle.mp_ordered.specs.InOrder.{IsInOrder, begins};
 ghost use Rattle.mp_route.specs.Along.{FirstGoes, IsCount, TakesAlong, along_with, goes_to, going, is_at, staying};
 ghost use Rattle.mp_route.specs.Routed.{tag_rank};
 

@@ -7,7 +7,8 @@ ghost use Rattle.mp_thread_examples.specs.Numbers.{value_list};
 use mp_mailbox::Post;
 use mp_seat::{Rows, Seat, SeatLock};
 use mp_thread_examples::{
-    Clerk, Counts, Number, count_in_two, receive, receive_all, relay, send, send_all, two_posts,
+    Clerk, Counts, Number, close_two, count_in_two, open_two, receive, receive_all, relay, send,
+    send_all, two_posts,
 };
 use std::alloc::{AllocError, Global};
 use std::process::Abort;
@@ -50,15 +51,17 @@ fn relay_by_posts<R: Threads + Wait + Copy + Drop + Send + Sync>(
 #[test]
 fn thousand_messages(rt: HostRuntime) -> Result<(), Fail> {
     let alloc = rt.alloc();
-    let by_ends = relay(&rt, alloc, 1000, 1)?;
-    let by_posts = relay_by_posts(rt, alloc, 1000, 1)?;
-    for got in [by_ends, by_posts] {
-        assert_eq!(rt; got.len(), 1000);
-        for (i, number) in got.iter().enumerate() {
-            assert_eq!(rt; *number, i as u64);
-        }
-    }
+    are_in_order(&rt, relay(&rt, alloc, 1000, 1)?.as_slice());
+    are_in_order(&rt, relay_by_posts(rt, alloc, 1000, 1)?.as_slice());
     Ok(())
+}
+
+// All numbers below 1,000 have come, in order.
+fn are_in_order(rt: &impl Abort, got: &[u64]) {
+    assert_eq!(rt; got.len(), 1000);
+    for (i, number) in got.iter().enumerate() {
+        assert_eq!(rt; *number, i as u64);
+    }
 }
 
 // Raises the number of a seat that holds the numbers, and puts them.
@@ -78,58 +81,51 @@ fn raise_and_put(
     lock.put(seat, counts);
 }
 
+// The first seat takes the numbers, the second one finds them away, and then the first one puts them.
+fn raise_first(
+    rt: &impl Abort,
+    lock: &SeatLock<Counts>,
+    first: &mut Seat<Counts>,
+    second: &mut Seat<Counts>,
+)
+    requires first { IsIdle lock.now first.old × (first.old.number ≡ 0) × (first.old.row ≡ Some 0) }
+    requires second { IsIdle lock.now second.old }
+    ensures first { IsIdle lock.now first.new × (first.new.number ≡ 0) }
+    ensures second { second.new ≡ second.old }
+{
+    let counts = lock.try_take(first).expect(rt, "the numbers");
+    assert!(rt; lock.try_take(second).is_none());
+    raise_and_put(lock, first, counts, 0, 0);
+}
+
+// The second seat finds the first number raised, and raises its own.
+fn raise_second(rt: &impl Abort, lock: &SeatLock<Counts>, second: &mut Seat<Counts>)
+    requires { IsIdle lock.now second.old × (second.old.number ≡ 1) × (second.old.row ≡ Some 0) }
+{
+    let counts = lock.try_take(second).expect(rt, "the numbers");
+    assert_eq!(rt; (counts.left(), counts.raised()), (1, 1));
+    raise_and_put(lock, second, counts, 1, 0);
+}
+
 #[test]
 fn two_seats(rt: HostRuntime) -> Result<(), Fail> {
-    let (lock, mut seats) = SeatLock::open(rt.alloc(), Counts::new(), 2)?;
-    let mut second = seats.pop().expect(&rt, "seat 1");
-    let mut first = seats.pop().expect(&rt, "seat 0");
-
-    let counts = lock.try_take(&mut first).expect(&rt, "the numbers");
-    assert!(rt; lock.try_take(&mut second).is_none());
-    raise_and_put(&lock, &mut first, counts, 0, 0);
-
-    let counts = lock.try_take(&mut second).expect(&rt, "the numbers");
-    assert_eq!(rt; counts.left(), 1);
-    assert_eq!(rt; counts.raised(), 1);
-    raise_and_put(&lock, &mut second, counts, 1, 0);
-
+    let (lock, mut first, mut second) = open_two(rt.alloc())?;
+    raise_first(&rt, &lock, &mut first, &mut second);
+    raise_second(&rt, &lock, &mut second);
     let counts = lock.take(&rt, &mut first);
-    assert_eq!(rt; counts.left(), 1);
-    assert_eq!(rt; counts.raised(), 2);
+    assert_eq!(rt; (counts.left(), counts.raised()), (1, 2));
     Ok(())
 }
 
-// Closes a lock of two seats, which it is given in another order than that of their numbers.
-fn close_turned(
-    alloc: Global,
-    lock: SeatLock<Counts>,
-    first: Seat<Counts>,
-    second: Seat<Counts>,
-) -> Result<Counts, AllocError>
-    requires lock { lock.seats ≡ 2 }
-    requires first_idle { IsIdle lock first }
-    requires first { first.number ≡ 0 }
-    requires second_idle { IsIdle lock second }
-    requires second { second.number ≡ 1 }
-{
-    let mut seats = Vec::with_capacity(alloc, 2)?;
-    seats.push_reserved(second);
-    seats.push_reserved(first);
-    Ok(lock.close(seats))
-}
-
+// The seats are given in another order than that of their numbers.
 #[test]
 fn closed_in_another_order(rt: HostRuntime) -> Result<(), Fail> {
-    let (lock, mut seats) = SeatLock::open(rt.alloc(), Counts::new(), 2)?;
-    let second = seats.pop().expect(&rt, "seat 1");
-    let mut first = seats.pop().expect(&rt, "seat 0");
+    let seats = Vec::with_capacity(rt.alloc(), 2)?;
+    let (lock, mut first, mut second) = open_two(rt.alloc())?;
     assert_eq!(rt; (first.number(), second.number()), (0, 1));
-
-    let counts = lock.try_take(&mut first).expect(&rt, "the numbers");
-    raise_and_put(&lock, &mut first, counts, 0, 0);
-    let counts = close_turned(rt.alloc(), lock, first, second)?;
-    assert_eq!(rt; counts.left(), 1);
-    assert_eq!(rt; counts.raised(), 1);
+    raise_first(&rt, &lock, &mut first, &mut second);
+    let counts = close_two(lock, seats, second, first);
+    assert_eq!(rt; (counts.left(), counts.raised()), (1, 1));
     Ok(())
 }
 
@@ -141,22 +137,33 @@ fn take_alone<T: Rows>(lock: &SeatLock<T>, seat: &mut Seat<T>) -> Option<T>
     lock.try_take(seat)
 }
 
+// The clerk raises the number of the first seat, and finds the numbers away while the second one holds them.
+fn turn_twice(
+    rt: &impl Abort,
+    clerk: &mut Clerk,
+    lock: &SeatLock<Counts>,
+    second: &mut Seat<Counts>,
+)
+    requires clerk { clerk.old.number ≡ 0 }
+    requires second { IsIdle lock.now second.old }
+{
+    assert!(rt; clerk.turn());
+    let counts = lock.try_take(second).expect(rt, "the numbers");
+    assert_eq!(rt; counts.left(), 1);
+    assert!(rt; !clerk.turn());
+}
+
 #[test]
 fn clerk_takes_turns(rt: HostRuntime) -> Result<(), Fail> {
     let alloc = rt.alloc();
-    let (lock, mut seats) = SeatLock::open(alloc, Counts::new(), 2)?;
+    let (lock, first, mut second) = open_two(alloc)?;
     let lock = Arc::new(alloc, lock)?;
-    let mut second = seats.pop().expect(&rt, "seat 1");
-    let first = seats.pop().expect(&rt, "seat 0");
     let mut clerk = Clerk::new(Arc::try_clone(&lock)?, first, 0, 0);
-    assert!(rt; clerk.turn());
-    let counts = lock.try_take(&mut second).expect(&rt, "the numbers");
-    assert_eq!(rt; counts.left(), 1);
-    assert!(rt; !clerk.turn());
+    turn_twice(&rt, &mut clerk, &lock, &mut second);
     Ok(())
 }
 
-// Two pushes into a mailbox of one, two pops, and the second push again.
+// Two pushes into a mailbox, two pops, and the second push again.
 fn push_and_pop_in_turns<P: Post<Number>, Q: Post<Number>>(
     rt: &impl Abort,
     first: &mut P,
@@ -166,11 +173,12 @@ fn push_and_pop_in_turns<P: Post<Number>, Q: Post<Number>>(
     requires first { P.serves first.old 0 × (1 < P.workers first.old) × ((popped : List ℕ) × P.denotes first.old 0 1 [] popped) }
     requires second { Q.serves second.old 1 × (1 < Q.workers second.old) × ((pushed : List ℕ) × Q.denotes second.old 0 1 pushed got.old.items) }
 {
-    assert_eq!(rt; send(first, 0), Ok(()));
-    assert_eq!(rt; send(first, 1), Err(1));
-    assert!(rt; receive(second, got)?);
-    assert!(rt; !receive(second, got)?);
-    assert_eq!(rt; send(first, 1), Ok(()));
+    assert!(rt; send(first, 0).is_ok());
+    assert!(rt; send(first, 1).is_err());
+    let took = receive(second, got)?;
+    let more = receive(second, got)?;
+    assert!(rt; took && !more);
+    assert!(rt; send(first, 1).is_ok());
     Ok(())
 }
 

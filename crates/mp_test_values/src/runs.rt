@@ -1,5 +1,6 @@
 //! Numbers in ascending order, those of the same tens together, with ample memory.
-use mp_ordered::{Kinds, Order, OrderedRuns};
+use mp_ordered::Order;
+use mp_ordered_runs::{Kinds, OrderedRuns};
 use std::process::Abort;
 use std::test::*;
 

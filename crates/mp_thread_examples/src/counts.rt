@@ -1,5 +1,5 @@
 //! Two threads that raise a number each, under one lock.
-ghost use Rattle.std.specs.Prelude.{◌≡◌, ◌+◌, ◌<◌, ◌∷◌, [], IfOk, Some, sum, slice_get, slice_set};
+ghost use Rattle.std.specs.Prelude.{◌≡◌, ◌+◌, ◌<◌, ◌≤◌, ◌⊎◌, ◌∷◌, [], IfOk, Some, length, sum, vec_capacity, slice_get, slice_set};
 ghost use Rattle.mp_seat.specs.Seats.{IsIdle};
 
 use mp_seat::{Rows, Seat, SeatLock};
@@ -114,9 +114,12 @@ fn raise_all<R: Wait>(
     seat
 }
 
-/// Two threads raise a number each, 1,000 times. `AllocError`: no memory.
-pub fn count_in_two<R: Threads + Wait + Sync>(rt: &R, alloc: Global) -> Result<Counts, AllocError>
-    ensures { IfOk result (λ counts. counts ≡ (1000 ∷ 1000 ∷ [], 2000)) }
+/// The lock round two numbers, both 0, with the seats of the first and of the second. `AllocError`: no memory.
+pub fn open_two(alloc: Global) -> Result<(SeatLock<Counts>, Seat<Counts>, Seat<Counts>), AllocError>
+    ensures lock { IfOk result (λ r. r.0.seats ≡ 2) }
+    ensures first { IfOk result (λ r. IsIdle r.0 r.1 × (r.1.number ≡ 0)) }
+    ensures second { IfOk result (λ r. IsIdle r.0 r.2 × (r.2.number ≡ 1)) }
+    ensures rows { IfOk result (λ r. (r.1.row ≡ Some 0) × (r.2.row ≡ Some 0)) }
 {
     let (lock, mut seats) = SeatLock::open(alloc, Counts::new(), 2)?;
     let Some(second) = seats.pop() else {
@@ -125,6 +128,35 @@ pub fn count_in_two<R: Threads + Wait + Sync>(rt: &R, alloc: Global) -> Result<C
     let Some(first) = seats.pop() else {
         unreachable!()
     };
+    Ok((lock, first, second))
+}
+
+/// The numbers of a lock, for its two seats, in any order, and a list with room for them.
+pub fn close_two(
+    lock: SeatLock<Counts>,
+    mut seats: Vec<Seat<Counts>>,
+    first: Seat<Counts>,
+    second: Seat<Counts>,
+) -> Counts
+    requires room { (seats.items ≡ []) × (2 ≤ vec_capacity seats) }
+    requires lock { lock.seats ≡ 2 }
+    requires idle { IsIdle lock first × IsIdle lock second }
+    requires numbers { ((first.number ≡ 0) × (second.number ≡ 1)) ⊎ ((first.number ≡ 1) × (second.number ≡ 0)) }
+    ensures many { length result.0 ≡ 2 }
+    ensures first { slice_get result.0 first.number ≡ first.row }
+    ensures second { slice_get result.0 second.number ≡ second.row }
+{
+    seats.push_reserved(first);
+    seats.push_reserved(second);
+    lock.close(seats)
+}
+
+/// Two threads raise a number each, 1,000 times. `AllocError`: no memory.
+pub fn count_in_two<R: Threads + Wait + Sync>(rt: &R, alloc: Global) -> Result<Counts, AllocError>
+    ensures { IfOk result (λ counts. counts ≡ (1000 ∷ 1000 ∷ [], 2000)) }
+{
+    let seats = Vec::with_capacity(alloc, 2)?;
+    let (lock, first, second) = open_two(alloc)?;
     let shared = &lock;
     let (first, second) = join(
         rt,
@@ -137,7 +169,5 @@ pub fn count_in_two<R: Threads + Wait + Sync>(rt: &R, alloc: Global) -> Result<C
             ensures { IsIdle shared.entry.now result × (result.number ≡ 1) × (result.row ≡ Some 1000) }
         { raise_all(rt, shared, second, 1) },
     );
-    seats.push(first)?;
-    seats.push(second)?;
-    Ok(lock.close(seats))
+    Ok(close_two(lock, seats, first, second))
 }

@@ -5,16 +5,12 @@
 
 mod clerk;
 mod counts;
-mod crossing;
 mod lines;
 mod numbers;
 mod posts;
 
 pub use clerk::Clerk;
-pub use counts::{Counts, count_in_two};
-pub use crossing::{
-    post_there_and_back, receiver_there_and_back, seat_there_and_back, sender_there_and_back,
-};
+pub use counts::{Counts, close_two, count_in_two, open_two};
 pub use lines::{pop_told, relay};
 pub use numbers::{Number, receive, receive_all, send, send_all};
 pub use posts::two_posts;

@@ -28,8 +28,8 @@ replace-requires c =
     let are : AreTouched shape ns c.requires.order note at inside split next is_next here then new_here new_then = record {
       here_is = picked_too ns ns note.control.stage note.control.bin note.control.time owner first here refl f (c.move_at-here.ensures.some, c.move_at-here.ensures.none);
       then_is = then_too ns ns note.control.stage note.control.bin owner first next then refl f (c.move_then-then.ensures.some, c.move_then-then.ensures.none);
-      new_here_is = picked_too c.insert_reserved.new.items.items (with_note ns note) note.control.stage note.control.bin note.control.time owner first new_here new_is f (c.move_at-new_here.ensures.some, c.move_at-new_here.ensures.none);
-      new_then_is = then_too c.insert_reserved.new.items.items (with_note ns note) note.control.stage note.control.bin owner first next new_then new_is f (c.move_then-new_then.ensures.some, c.move_then-new_then.ensures.none);
+      new_here_is = picked_too c.insert_reserved.new.self.items (with_note ns note) note.control.stage note.control.bin note.control.time owner first new_here new_is f (c.move_at-new_here.ensures.some, c.move_at-new_here.ensures.none);
+      new_then_is = then_too c.insert_reserved.new.self.items (with_note ns note) note.control.stage note.control.bin owner first next new_then new_is f (c.move_then-new_then.ensures.some, c.move_then-new_then.ensures.none);
     } in
     record {
       ranked = c.requires.changes.ranked;
@@ -59,8 +59,8 @@ replace-requires-2 c =
     let are : AreTouched shape ns c.requires.order note at inside split next is_next here then new_here new_then = record {
       here_is = picked_too ns ns note.control.stage note.control.bin note.control.time owner first here refl f (c.move_at-here.ensures.some, c.move_at-here.ensures.none);
       then_is = then_too ns ns note.control.stage note.control.bin owner first next then refl f (c.move_then-then.ensures.some, c.move_then-then.ensures.none);
-      new_here_is = picked_too c.insert_reserved.new.items.items (with_note ns note) note.control.stage note.control.bin note.control.time owner first new_here new_is f (c.move_at-new_here.ensures.some, c.move_at-new_here.ensures.none);
-      new_then_is = then_too c.insert_reserved.new.items.items (with_note ns note) note.control.stage note.control.bin owner first next new_then new_is f (c.move_then-new_then.ensures.some, c.move_then-new_then.ensures.none);
+      new_here_is = picked_too c.insert_reserved.new.self.items (with_note ns note) note.control.stage note.control.bin note.control.time owner first new_here new_is f (c.move_at-new_here.ensures.some, c.move_at-new_here.ensures.none);
+      new_then_is = then_too c.insert_reserved.new.self.items (with_note ns note) note.control.stage note.control.bin owner first next new_then new_is f (c.move_then-new_then.ensures.some, c.move_then-new_then.ensures.none);
     } in
     record {
       ranked = c.replace.ensures.ranked;
@@ -90,8 +90,8 @@ returns-clause-changes c =
     let are : AreTouched shape ns c.requires.order note at inside split next is_next here then new_here new_then = record {
       here_is = picked_too ns ns note.control.stage note.control.bin note.control.time owner first here refl f (c.move_at-here.ensures.some, c.move_at-here.ensures.none);
       then_is = then_too ns ns note.control.stage note.control.bin owner first next then refl f (c.move_then-then.ensures.some, c.move_then-then.ensures.none);
-      new_here_is = picked_too c.insert_reserved.new.items.items (with_note ns note) note.control.stage note.control.bin note.control.time owner first new_here new_is f (c.move_at-new_here.ensures.some, c.move_at-new_here.ensures.none);
-      new_then_is = then_too c.insert_reserved.new.items.items (with_note ns note) note.control.stage note.control.bin owner first next new_then new_is f (c.move_then-new_then.ensures.some, c.move_then-new_then.ensures.none);
+      new_here_is = picked_too c.insert_reserved.new.self.items (with_note ns note) note.control.stage note.control.bin note.control.time owner first new_here new_is f (c.move_at-new_here.ensures.some, c.move_at-new_here.ensures.none);
+      new_then_is = then_too c.insert_reserved.new.self.items (with_note ns note) note.control.stage note.control.bin owner first next new_then new_is f (c.move_then-new_then.ensures.some, c.move_then-new_then.ensures.none);
     } in
     subst (λ (ms : List Note). AreChangesOf shape ms c.replace-2.new.changes.items) (sym new_is) (in_line shape ns c.requires.order note at inside split next is_next c.args.changes.now.items c.requires.changes here then new_here new_then are c.replace.new.changes.items c.replace.ensures.replaced c.replace-2.new.changes.items c.replace-2.ensures.replaced c.replace-2.ensures.ranked)
 

@@ -28,6 +28,6 @@ returns-in-Some-clause-one_more c =
     let put = c.insert_reserved.ensures.put ∙ put_is_insert old change c.requires.ranked in
     let split = put_parts old change c.requires.ranked in
     λ move.
-    subst (λ (o : Option Move). Contains c.insert_reserved.new.items.items move ↔ (Contains old move ⊎ (o ≡ Some move))) (sym c.in-Some.is)
+    subst (λ (o : Option Move). Contains c.insert_reserved.new.self.items move ↔ (Contains old move ⊎ (o ≡ Some move))) (sym c.in-Some.is)
     (subst (λ (ms : List Move). Contains ms move ↔ (Contains old move ⊎ (Some change ≡ Some move))) (sym put)
     (with_one old c.requires.ranked change at inside split move))

@@ -1,7 +1,7 @@
 use Rattle.std.proofs.Common.{rules, of_calls}
 use Rattle.std.proofs.lemmas.Fn.{always_returns_same}
 use Rattle.std.proofs.lemmas.List.{take_rest}
-use Rattle.mp_ordered.specs.Runs.{begins}
+use Rattle.mp_ordered.specs.InOrder.{begins}
 use Rattle.mp_ordered.proofs.Blocked.{cut_there, parted_blocks}
 use Rattle.mp_ordered.proofs.block.cut_block.Goals as goal
 

@@ -2,7 +2,7 @@ use Rattle.std.proofs.Common.{◌≡◌, ◌<◌, ◌+◌, ◌⊎◌, ◌∙◌,
 use Rattle.std.proofs.lemmas.List.{length-drop}
 use Rattle.mp_model.specs.declared.record.Rec.{Rec}
 use Rattle.mp_ordered.specs.Blocks.{items_of}
-use Rattle.mp_ordered.specs.Runs.{begins}
+use Rattle.mp_ordered.specs.InOrder.{begins}
 use Rattle.mp_route.specs.Along.{FirstGoes, IsCount, goes_to, is_at}
 use Rattle.mp_route.proofs.Counting.{all_upto, begins_from, count_upto, upto_within}
 use Rattle.mp_route.proofs.Firsts.{first_in_block, none_looked}

@@ -1,0 +1,49 @@
+use Rattle.std.proofs.Common.{◌∙◌, ap, arith, subst, sym}
+use Rattle.std.specs.List.{prefix_len}
+use Rattle.std.specs.List.Sorted.{IsPartitionedBy}
+use Rattle.std.proofs.lemmas.List.Sums.{prefix_len-le-length}
+use Rattle.mp_ordered.specs.Blocks.{items_of}
+use Rattle.mp_ordered.proofs.Blocked.{in_front_of, parted_block}
+use Rattle.mp_ordered.proofs.Fronts.{front_within}
+use Rattle.mp_ordered.proofs.blocks.OrderedBlocks.count_in_front.Goals as goal
+
+pub count_of-requires : goal.count_of-requires
+count_of-requires g c =
+    let bs = c.self.inside.blocks.items in
+    let at = c.cut_block-at.result in
+    rw c.deref-2.ensures.value (omega (arith, front_within bs at, c.self.invariant.count, c.self.invariant.few))
+
+pub cut_in-requires : goal.cut_in-requires
+cut_in-requires g c =
+    let p = g.C.Cut.front c.args.cut.now in
+    let bs = c.self.inside.blocks.items in
+    let at = c.cut_block-at.result in
+    let here = rw c.deref.ensures.value at c.cut_block-at.ensures.inside in
+    let parted = rw (← c.self.view_is) at c.requires in
+    subst (λ v. IsPartitionedBy p v.items) (sym c.index.ensures) (parted_block p bs at c.index.result.now parted here)
+
+pub overflow_add-result : goal.overflow_add-result
+overflow_add-result g c =
+    let p = g.C.Cut.front c.args.cut.now in
+    let bs = c.self.inside.blocks.items in
+    let at = c.cut_block-at.result in
+    let here = rw c.deref.ensures.value at c.cut_block-at.ensures.inside in
+    let cut = rw c.deref.ensures.value at c.cut_block-at.ensures.cut in
+    let parted = rw (← c.self.view_is) at c.requires in
+    let total = in_front_of p bs at c.index.result.now parted c.self.invariant.filled here cut in
+    let counted = rw c.deref-2.ensures.value at c.count_of.ensures in
+    let in_block = c.cut_in.ensures ∙ ap (λ v. prefix_len p v.items) c.index.ensures in
+    omega (arith, total, counted, in_block, prefix_len-le-length p (items_of bs), c.self.invariant.count, c.self.invariant.few)
+
+pub returns : goal.returns
+returns g c =
+    let p = g.C.Cut.front c.args.cut.now in
+    let bs = c.self.inside.blocks.items in
+    let at = c.cut_block-at.result in
+    let here = rw c.deref.ensures.value at c.cut_block-at.ensures.inside in
+    let cut = rw c.deref.ensures.value at c.cut_block-at.ensures.cut in
+    let parted = rw (← c.self.view_is) at c.requires in
+    let total = in_front_of p bs at c.index.result.now parted c.self.invariant.filled here cut in
+    let counted = rw c.deref-2.ensures.value at c.count_of.ensures in
+    let in_block = c.cut_in.ensures ∙ ap (λ v. prefix_len p v.items) c.index.ensures in
+    rw (← c.self.view_is) (omega (arith, total, counted, in_block))

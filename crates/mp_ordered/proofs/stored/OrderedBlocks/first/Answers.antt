@@ -1,5 +1,0 @@
-use Rattle.mp_ordered.proofs.Placing.{goes_back}
-use Rattle.mp_ordered.proofs.stored.OrderedBlocks.first.Goals as goal
-
-pub returns-clause-goes_back : goal.returns-clause-goes_back
-returns-clause-goes_back g c = goes_back g.O.Order.rank
