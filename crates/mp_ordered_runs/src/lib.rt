@@ -1,4 +1,4 @@
-//! Layer: values, files and text.
+//! Layer: text, files and collections.
 //!
 //! Items kept in the order of their ranks, the first ones of a kind together.
 #![tactic(auto)]
