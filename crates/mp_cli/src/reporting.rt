@@ -11,8 +11,8 @@ use mp_job::Job;
 use mp_model::Query;
 use mp_output::OutRefused;
 use mp_outside::{Depot, DepotSink, Fault};
-use mp_parts::Tally;
 use mp_report::write_report;
+use mp_tally::Tally;
 use std::alloc::Global;
 
 /// Makes a file hold the report of a job, whose tallies these are by the workers' numbers. `WriteFault`: the file

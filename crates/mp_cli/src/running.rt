@@ -21,7 +21,7 @@ use mp_gate::Gate;
 use mp_job::Job;
 use mp_model::Query;
 use mp_outside::{Depot, DepotSink, Fault, Sink};
-use mp_parts::Tally;
+use mp_tally::Tally;
 use mp_threads::run_with_tallies;
 use mp_words::{RunOptions, Schedule};
 use std::marker::Brand;

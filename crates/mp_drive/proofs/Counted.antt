@@ -1,30 +1,23 @@
 -- What is told of logs at the end of a job.
-use Rattle.std.proofs.Common.{◌≡◌, ◌∙◌, ◌≤◌, ◌++◌, ◌∷◌, ℕ, ◌<◌, List, [], None, Some, arith, get_or, length, sym, subst, ⊎_elim}
-use Rattle.std.specs.Prelude.{◌↔◌, slice_get}
-use Rattle.std.proofs.lemmas.Option.{get_or_from_slice_get, slice_get_cases, slice_get_within}
-use Rattle.mp_names.specs.declared.names.Name.{Name}
-use Rattle.mp_names.specs.declared.names.Name.TheVariants.{Packet}
-use Rattle.mp_names.specs.Logs.{Log, LogIsLegal}
-use Rattle.mp_names.specs.Names.{Distinct, In}
-use Rattle.mp_names.specs.Outlines.{IsMove, Outline, OutlineIsSound, owner_before}
+use Rattle.std.proofs.Common.{◌≡◌, ◌∙◌, ◌++◌, ◌∷◌, ℕ, ◌<◌, List, [], Some, arith, get_or, length, sym, subst}
+use Rattle.std.specs.Prelude.{slice_get}
+use Rattle.std.proofs.lemmas.Option.{get_or_from_slice_get, slice_get_within}
+use Rattle.mp_names.specs.Logs.{LogIsLegal}
+use Rattle.mp_names.specs.Outlines.{Outline, OutlineIsSound}
 use Rattle.mp_machine.specs.Promises.{LogIsFull}
 use Rattle.mp_machine.specs.Runs.{run_of_machine}
 use Rattle.mp_machine.proofs.Full.{full_at_end, full_where_known}
 use Rattle.mp_machine.proofs.Worlds.{run_right}
 use Rattle.mp_model.specs.Facts.{JobFacts, QueryFacts}
 use Rattle.mp_outline.specs.JobOutline.{outline_of}
-use Rattle.mp_parts.specs.declared.tally.Tally.{Tally}
+use Rattle.mp_tally.specs.declared.tally.Tally.{Tally}
+use Rattle.mp_tally.specs.Tallies.{IsTallyOf, TellsLog}
+use Rattle.mp_tally.proofs.Lists.{push_all, some_at}
+use Rattle.mp_tally.proofs.Told.{full_is_tallied}
 use Rattle.mp_refinement.specs.State.{WorkerState}
 use Rattle.mp_refinement.specs.SystemState.{KnowsTheEnd, SystemState}
 use Rattle.mp_drive.specs.Driven.{AllAreFull, AllKnowTheEnd, AreComplete, AreReached}
-use Rattle.mp_drive.specs.Tallies.{IsTallyOf, TellsLog}
 use Rattle.mp_drive.proofs.Ended.{finished}
-use Rattle.mp_drive.proofs.Opened.{push_all}
-use Rattle.mp_drive.proofs.Tallied.{applied_are_owned, sent_packets_are_distinct, sent_packets_are_moves}
-
--- within a list there is an item
-pub some_at : {X : Type 0} (xs : List X) (w : ℕ) → w < length xs → (x : X) × (slice_get xs w ≡ Some x)
-some_at {X} xs w l = ⊎_elim (λ (h : (x : X) × (w < length xs) × (slice_get xs w ≡ Some x) × (get_or xs w x ≡ x)). (h.0, h.2)) (λ (h : (length xs ≤ w) × (slice_get xs w ≡ None)). absurd (omega (arith, h.0))) (slice_get_cases xs w).1
 
 module _ (o : Outline) (ok : OutlineIsSound o) (t : SystemState) where
   -- where each worker knows the end, each log is full
@@ -59,17 +52,6 @@ module _ {Cell : Type 0} (q : QueryFacts Cell) (job : JobFacts) where
       w u there r at)
 
   module _ (ok : OutlineIsSound (outline_of q job)) where
-    -- a full log is told as the job has it
-    pub full_is_tallied : (w : ℕ) (log : Log) (t : Tally) → LogIsLegal (outline_of q job) w log → LogIsFull (outline_of q job) w log → TellsLog q job log t → IsTallyOf q job w t
-    full_is_tallied w log t legal full tells =
-        let o = outline_of q job in
-        record {
-          groups = tells.groups ∙ applied_are_owned o ok w log legal full;
-          moves = λ j b u. subst (λ (xs : List Name). In (Packet j b u) xs ↔ (IsMove o j b u × (owner_before o j b u ≡ w))) (sym tells.moved) (sent_packets_are_moves o ok w log legal full j b u);
-          once = subst Distinct (sym tells.moved) (sent_packets_are_distinct o w log legal);
-          keys = tells.keys;
-        }
-
     -- where all logs are full all tallies are the job's
     tallied_where_full : (t : SystemState) → AreReached (outline_of q job) t → AllAreFull (outline_of q job) t → (tallies : List Tally) → AllTell t.workers tallies → length tallies ≡ job.shape.workers → (w : ℕ) (u : Tally) → slice_get tallies w ≡ Some u → IsTallyOf q job w u
     tallied_where_full t reached full tallies tell many w u at =
@@ -80,7 +62,7 @@ module _ {Cell : Type 0} (q : QueryFacts Cell) (job : JobFacts) where
         let here : w < job.shape.workers = omega arith in
         let some = some_at t.workers w inside in
         let is = reached.1.workers w some.0 some.1 in
-        full_is_tallied w some.0.log u (subst (LogIsLegal o w) (sym is.log) ((run_right o ok t.post.depth reached.0).logs w here)) (full w some.0 some.1) (tell w some.0 u some.1 at)
+        full_is_tallied q job ok w some.0.log u (subst (LogIsLegal o w) (sym is.log) ((run_right o ok t.post.depth reached.0).logs w here)) (full w some.0 some.1) (tell w some.0 u some.1 at)
 
     -- at the end all tallies are the job's
     pub tallied_at_the_end : (t : SystemState) → AreReached (outline_of q job) t → AllKnowTheEnd (outline_of q job) t → (tallies : List Tally) → AllTell t.workers tallies → length tallies ≡ job.shape.workers → (w : ℕ) (u : Tally) → slice_get tallies w ≡ Some u → IsTallyOf q job w u

@@ -16,7 +16,7 @@ use Rattle.mp_drive.specs.declared.stop.DriveStop.{DriveStop}
 use Rattle.mp_draws.specs.Draws.{draw_of}
 use Rattle.mp_drive.specs.Driven.{AllKnowTheEnd, AreAfter, AreReached, LeadsOn}
 use Rattle.mp_drive.specs.Schedule.{AreFinished, AreScheduled, EndsAfter, FollowsSchedule, MakesPick, pick}
-use Rattle.mp_drive.proofs.Counted.{some_at}
+use Rattle.mp_tally.proofs.Lists.{some_at}
 use Rattle.mp_drive.proofs.Ended.{finished}
 use Rattle.mp_drive.proofs.Leading.{leads_further, run_more, still_there}
 use Rattle.mp_drive.proofs.Made.{made_more, one_made}

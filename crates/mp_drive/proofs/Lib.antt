@@ -10,7 +10,6 @@ pub mod Owned
 pub mod Picked
 pub mod Refusing
 pub mod Told
-pub mod Tallied
 pub mod Tried
 pub mod Turned
 pub mod Written

@@ -1,5 +1,5 @@
 -- Workers that have done nothing are at the start of the machine.
-use Rattle.std.proofs.Common.{◌≡◌, ℕ, zero, suc, List, [], ◌∷◌, ◌++◌, Some, length, refl, sym, ap, ◌∙◌, subst}
+use Rattle.std.proofs.Common.{◌≡◌, ℕ, List, [], ◌∷◌, ◌++◌, Some, length, refl, sym, ap, ◌∙◌, subst}
 use Rattle.std.specs.Option.{option_map_or}
 use Rattle.std.specs.Prelude.{replicate, slice_get}
 use Rattle.mp_names.specs.declared.names.Name.{Name}
@@ -13,17 +13,8 @@ use Rattle.mp_refinement.specs.Laws.{IsNewWorker}
 use Rattle.mp_refinement.specs.State.{WorkerState}
 use Rattle.mp_refinement.specs.SystemState.{Refines, SystemState}
 use Rattle.mp_refinement.proofs.Begins.{opening_is_the_start}
+use Rattle.mp_tally.proofs.Lists.{push_all}
 use Rattle.mp_drive.specs.Driven.{AreReached, AreReachedBy}
-
-some_is : {X : Type 0} (x y : X) → Some x ≡ Some y → x ≡ y
-some_is x y e = cc
-
--- what holds of each element at its place, and of the new one behind them, holds of all
-pub push_all : {X : Type 0} (P : ℕ → X → Type 0) (xs : List X) (x : X) → ((i : ℕ) (y : X) → slice_get xs i ≡ Some y → P i y) → P (length xs) x → (i : ℕ) (y : X) → slice_get (xs ++ x ∷ []) i ≡ Some y → P i y
-push_all P [] x h here zero y e = subst (P 0) (some_is x y e) here
-push_all P [] x h here (suc i) y e = absurd (cc)
-push_all P (z ∷ xs) x h here zero y e = h zero y e
-push_all P (z ∷ xs) x h here (suc i) y e = push_all (λ n. P (suc n)) xs x (λ j a f. h (suc j) a f) here i y e
 
 -- a worker that has done nothing, by its parts
 pub is_new : (o : Outline) (w : ℕ) (s : WorkerState) (seen : Seen) → s.number ≡ w → s.log ≡ empty_log → s.posted ≡ empty_log → s.seen ≡ seen → seen.version ≡ 0 → ShowsFrontiers o (replicate o.workers empty_log) seen → IsNewWorker o w s

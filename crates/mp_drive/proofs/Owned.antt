@@ -12,7 +12,7 @@ use Rattle.mp_refinement.specs.State.{WorkerState}
 use Rattle.mp_refinement.specs.SystemState.{SystemState}
 use Rattle.mp_drive.specs.Driven.{AreReached}
 use Rattle.mp_drive.specs.Ownership.{KeepOwnership}
-use Rattle.mp_drive.proofs.Tallied.{applied_once}
+use Rattle.mp_tally.proofs.Full.{applied_once}
 
 module _ (o : Outline) (ok : OutlineIsSound o) (t : SystemState) (reached : AreReached o t) where
   legal : (w : ℕ) (s : WorkerState) → slice_get t.workers w ≡ Some s → (w < o.workers) × LogIsLegal o w s.log

@@ -15,7 +15,7 @@ use Rattle.mp_draws.specs.Draws.{draw_of}
 use Rattle.mp_worker.proofs.Numbered.{behind, in_front}
 use Rattle.mp_drive.specs.Driven.{AreAfter}
 use Rattle.mp_drive.specs.Schedule.{AreFinished, AreScheduled, IsTried, can_make, pick, places_from}
-use Rattle.mp_drive.proofs.Opened.{push_all}
+use Rattle.mp_tally.proofs.Lists.{push_all}
 use Rattle.mp_drive.proofs.Tried.{NoneOf}
 
 -- Lists that are rotated

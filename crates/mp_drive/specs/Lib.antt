@@ -4,4 +4,3 @@ pub mod Kept
 pub mod Ownership
 pub mod Refused
 pub mod Schedule
-pub mod Tallies

@@ -8,15 +8,15 @@ ghost use Rattle.mp_output.specs.Rows.{GivesRows};
 ghost use Rattle.mp_drive.specs.declared.stop.DriveStop.TheVariants.{Write};
 ghost use Rattle.mp_drive.specs.Driven.{HasBegun};
 ghost use Rattle.mp_drive.specs.Schedule.{EndsAfter};
-ghost use Rattle.mp_drive.specs.Tallies.{IsTallyOf};
-ghost use Rattle.mp_parts.specs.declared.tally.Tally.{Tally as Told};
+ghost use Rattle.mp_tally.specs.Tallies.{IsTallyOf};
+ghost use Rattle.mp_tally.specs.declared.tally.Tally.{Tally as Told};
 
 use crate::{DriveStop, Plain};
 use mp_gate::Gate;
 use mp_job::Job;
 use mp_model::{Naming, Query};
 use mp_outside::Sink;
-use mp_parts::Tally;
+use mp_tally::Tally;
 use std::alloc::Global;
 
 /// Runs a whole job on one thread, by the schedule of a seed, with mailboxes that take `depth` messages each,

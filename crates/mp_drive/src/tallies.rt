@@ -1,14 +1,14 @@
 //! What the workers tell of what they have done.
 ghost use Rattle.std.specs.Prelude.{◌≡◌, ℕ, IfOk, Some, length, slice_get};
 ghost use Rattle.mp_outline.specs.JobOutline.{outline_of};
-ghost use Rattle.mp_parts.specs.declared.tally.Tally.{Tally as Told};
+ghost use Rattle.mp_tally.specs.declared.tally.Tally.{Tally as Told};
 ghost use Rattle.mp_refinement.specs.State.{WorkerState};
 ghost use Rattle.mp_drive.specs.Driven.{AllKnowTheEnd, AreComplete};
-ghost use Rattle.mp_drive.specs.Tallies.{IsTallyOf, TellsLog};
+ghost use Rattle.mp_tally.specs.Tallies.{IsTallyOf, TellsLog};
 
 use crate::Plain;
 use mp_model::{Naming, Query};
-use mp_parts::Tally;
+use mp_tally::Tally;
 use std::alloc::{AllocError, Global};
 
 impl<'a, Q: Query, J: Naming> Plain<'a, Q, J> {

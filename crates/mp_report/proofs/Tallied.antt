@@ -18,10 +18,10 @@ use Rattle.mp_outside.specs.Sink.{grown}
 use Rattle.mp_model.specs.Facts.{JobFacts, QueryFacts}
 use Rattle.mp_outline.specs.JobOutline.{outline_of}
 use Rattle.mp_handoff.specs.Keys.{HasKeys}
-use Rattle.mp_parts.specs.declared.tally.Moved.{Moved}
-use Rattle.mp_parts.specs.declared.tally.Tally.{Tally}
-use Rattle.mp_parts.specs.Tallies.{MovedHasKeys, name_of_moved}
-use Rattle.mp_drive.proofs.Counted.{some_at}
+use Rattle.mp_tally.specs.declared.tally.Moved.{Moved}
+use Rattle.mp_tally.specs.declared.tally.Tally.{Tally}
+use Rattle.mp_tally.specs.Tallies.{MovedHasKeys, name_of_moved}
+use Rattle.mp_tally.proofs.Lists.{some_at}
 use Rattle.mp_report.specs.Lines.{line_of_worker}
 use Rattle.mp_report.specs.Report.{AreTalliesOf, IsReport, IsReportedInPart, MovesKeys, groups_owned, move_lines, worker_lines}
 use Rattle.mp_report.specs.Told.{groups_told, is_moved_by, keys_in, keys_told}

@@ -8,8 +8,8 @@ use Rattle.mp_outside.specs.Sink.{grown}
 use Rattle.mp_model.specs.Facts.{JobFacts, QueryFacts}
 use Rattle.mp_outline.specs.JobOutline.{outline_of}
 use Rattle.mp_handoff.specs.Keys.{HasKeys}
-use Rattle.mp_parts.specs.declared.tally.Tally.{Tally}
-use Rattle.mp_drive.specs.Tallies.{IsTallyOf}
+use Rattle.mp_tally.specs.declared.tally.Tally.{Tally}
+use Rattle.mp_tally.specs.Tallies.{IsTallyOf}
 use Rattle.mp_report.specs.Lines.{line_of_move, line_of_worker}
 
 -- the lines of moves, with these numbers of keys

@@ -2,8 +2,8 @@
 use Rattle.std.specs.Prelude.{ℕ, Bool, ◌==◌, ◌&&◌, List, [], ◌∷◌, if◌then◌else◌, slice_get}
 use Rattle.std.specs.Option.{option_map_or}
 use Rattle.mp_names.specs.declared.controls.Move.{Move}
-use Rattle.mp_parts.specs.declared.tally.Moved.{Moved}
-use Rattle.mp_parts.specs.declared.tally.Tally.{Tally}
+use Rattle.mp_tally.specs.declared.tally.Moved.{Moved}
+use Rattle.mp_tally.specs.declared.tally.Tally.{Tally}
 
 -- the packet is that of the move
 abbrev pub is_moved_by : Move → Moved → Bool

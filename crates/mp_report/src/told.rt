@@ -3,7 +3,7 @@ ghost use Rattle.std.specs.Prelude.{◌≡◌};
 ghost use Rattle.mp_report.specs.Told.{is_moved_by, keys_in, keys_told};
 
 use mp_names::Move;
-use mp_parts::{Moved, Tally};
+use mp_tally::{Moved, Tally};
 
 /// How many keys the worker that a move goes from tells of it.
 pub fn keys_told(tallies: &[Tally], change: Move) -> u64

@@ -15,7 +15,7 @@ use mp_model::Query;
 use mp_names::Move;
 use mp_output::OutRefused;
 use mp_outside::{Sink, write_piece};
-use mp_parts::Tally;
+use mp_tally::Tally;
 use std::alloc::Global;
 
 /// Writes the report of a job, whose tallies these are by the workers' numbers, each line as one piece: each move of a bin

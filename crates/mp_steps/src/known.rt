@@ -5,13 +5,13 @@ ghost use Rattle.mp_names.specs.Outlines.{OutlineIsSound};
 ghost use Rattle.mp_stamps.specs.Seen.{SeenIsDone};
 ghost use Rattle.mp_outline.specs.JobOutline.{outline_of};
 ghost use Rattle.mp_output.specs.Holding.{AllAreWritten};
-ghost use Rattle.mp_parts.specs.Tallies.{MovedHasKeys, name_of_moved, sent_packets};
+ghost use Rattle.mp_tally.specs.Tallies.{MovedHasKeys, name_of_moved, sent_packets};
 
 use crate::Parts;
 use mp_model::{Naming, Query};
 use mp_names::Shape;
-use mp_parts::{Tally, moved_so_far};
 use mp_stamps::Seen;
+use mp_tally::{Tally, moved_so_far};
 use std::alloc::{AllocError, Global};
 
 impl<'a, Q: Query, J: Naming> Parts<'a, Q, J> {

@@ -1,6 +1,7 @@
 -- The workers of a crew, as they begin and as they come back.
-use Rattle.std.proofs.Common.{◌≡◌, ℕ, List, ◌∷◌, Some, All, refl, sym, ◌∙◌, subst}
-use Rattle.std.specs.Prelude.{map, slice_get}
+use Rattle.std.proofs.Common.{◌≡◌, ℕ, List, ◌∷◌, Some, Ok, Err, All, refl, sym, ◌∙◌, subst}
+use Rattle.std.specs.Prelude.{IfOk, map, slice_get}
+use Rattle.std.specs.declared.result.Result.{Result}
 use Rattle.mp_names.specs.Logs.{empty_log}
 use Rattle.mp_names.specs.Outlines.{Outline}
 use Rattle.mp_refinement.specs.State.{WorkerState}
@@ -28,3 +29,12 @@ all_come_back o crew back by same finished =
       numbers = numbers_same (λ (s : WorkerState). s.number) (λ (m : MemberState). m.worker.number) back crew same by.numbers;
       each = λ k s at. all_at (IsFinished o) back k s finished at;
     }
+
+pub all_come_back_if : {V E : Type 0} (r : Result V E) (items : V → List WorkerState) (o : Outline) (crew : List MemberState) → AreByNumber o.workers crew → IfOk r (λ v. map (λ (s : WorkerState). s.number) (items v) ≡ map (λ (m : MemberState). m.worker.number) crew) → IfOk r (λ v. All (IsFinished o) (items v)) → IfOk r (λ v. AreFinished o (items v))
+all_come_back_if (Ok v) items o crew by same finished = all_come_back o crew (items v) by same finished
+all_come_back_if (Err e) items o crew by same finished = tt
+
+-- the numbers are those of a list, by another name
+pub numbered_as : {V E : Type 0} (r : Result V E) (items : V → List WorkerState) (xs ys : List ℕ) → xs ≡ ys → IfOk r (λ v. map (λ (s : WorkerState). s.number) (items v) ≡ xs) → IfOk r (λ v. map (λ (s : WorkerState). s.number) (items v) ≡ ys)
+numbered_as (Ok v) items xs ys same is = is ∙ same
+numbered_as (Err e) items xs ys same is = tt

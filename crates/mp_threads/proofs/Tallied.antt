@@ -7,11 +7,10 @@ use Rattle.mp_names.specs.Outlines.{OutlineIsSound}
 use Rattle.mp_machine.specs.Promises.{LogIsFull}
 use Rattle.mp_model.specs.Facts.{JobFacts, QueryFacts}
 use Rattle.mp_outline.specs.JobOutline.{outline_of}
-use Rattle.mp_parts.specs.declared.tally.Tally.{Tally}
-use Rattle.mp_parts.specs.Tallies.{MovedHasKeys, name_of_moved, sent_packets}
-use Rattle.mp_drive.specs.Tallies.{IsTallyOf}
-use Rattle.mp_drive.proofs.Counted.{full_is_tallied}
-use Rattle.mp_drive.proofs.Opened.{push_all}
+use Rattle.mp_tally.specs.declared.tally.Tally.{Tally}
+use Rattle.mp_tally.specs.Tallies.{IsTallyOf, MovedHasKeys, name_of_moved, sent_packets}
+use Rattle.mp_tally.proofs.Lists.{push_all}
+use Rattle.mp_tally.proofs.Told.{full_is_tallied}
 
 -- what is read of a place within a list stands there
 pub stands_at : {X : Type 0} (xs : List X) (k : ℕ) (x : X) → k < length xs → x ≡ get_or xs k x → slice_get xs k ≡ Some x

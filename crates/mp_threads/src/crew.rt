@@ -7,7 +7,7 @@ ghost use Rattle.mp_output.specs.Rows.{GivesRows};
 ghost use Rattle.mp_board.specs.Boards.{ShowsFrontiers};
 ghost use Rattle.mp_ruled.specs.Posts.{AreNewPosts, StandForNone};
 ghost use Rattle.mp_seat.specs.Seats.{AreNew};
-ghost use Rattle.mp_threads.specs.Crews.{AreByNumber, HasDoneNothing};
+ghost use Rattle.mp_threads.specs.Crews.{AreByNumber, AreNewEnds, HasDoneNothing, IsNewSeat};
 
 use mp_board::{Board, OutlineOf};
 use mp_hub::{SeatHub, Shared};
@@ -95,15 +95,30 @@ fn new_members<'a, Q: Query, J: Naming, R: Drop>(
     let mut seats = VecDeque::from_vec(seats);
     let mut posts = VecDeque::from_vec(posts);
     for number in 0..workers {
+        let worker = Worker::new(alloc, job, number, seen)?;
         let Some(seat) = seats.pop_front() else {
             unreachable!()
         };
         let Some(post) = posts.pop_front() else {
             unreachable!()
         };
-        let worker = Worker::new(alloc, job, number, seen)?;
-        let hub = SeatHub::new(Arc::try_clone(lock)?, seat);
-        members.push_reserved(Member::new(worker, post, hub));
+        members.push_reserved(new_member(worker, lock, seat, post)?);
     }
     Ok(members)
+}
+
+// A worker that has done nothing, with the seat and the post of its number.
+fn new_member<'a, Q: Query, J: Naming, R: Drop>(
+    worker: Worker<'a, Q, J>,
+    lock: &Arc<SeatLock<Shared<OutlineOf<Q, J>>>, Global>,
+    seat: Seat<Shared<OutlineOf<Q, J>>>,
+    post: RuledPost<Msg<Q, J>, R>,
+) -> Result<Member<'a, Q, J, R>, AllocError>
+    requires begins { (worker.log ≡ empty_log) × (worker.posted ≡ empty_log) }
+    requires seat { IsNewSeat (arc_value lock.now) J.job.shape.workers worker.seen.version worker.number seat }
+    requires post { AreNewEnds J.job.shape.workers worker.number post }
+    ensures { IfOk result (λ member. member.worker ≡ worker.entry) }
+{
+    let hub = SeatHub::new(Arc::try_clone(lock)?, seat);
+    Ok(Member::new(worker, post, hub))
 }

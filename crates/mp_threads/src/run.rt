@@ -1,5 +1,5 @@
 //! Workers on threads of a scope.
-ghost use Rattle.std.specs.Prelude.{◌≡◌, ◌≢◌, ◌+◌, ◌≤◌, ◌++◌, [], All, Err, IfErr, IfOk, IfSome, IsTrue, OnErr, OnOk, length, map, vec_capacity};
+ghost use Rattle.std.specs.Prelude.{◌≡◌, ◌≢◌, ◌+◌, ◌<◌, ◌≤◌, ◌++◌, ◌∷◌, [], All, Err, IfErr, IfOk, IfSome, IsTrue, Ok, OnErr, OnOk, length, map, true, vec_capacity};
 ghost use Rattle.std.specs.Vec.Iter.{into_iter_items};
 ghost use Rattle.mp_outside.specs.Fault.{Rose};
 ghost use Rattle.mp_outside.specs.Sink.{OnlyAppends, grown};
@@ -116,7 +116,7 @@ fn run_in<
     let Ok(places) = Vec::with_capacity(alloc, members.len()) else {
         return Err(Cause::Memory);
     };
-    let Ok(mut done) = Vec::with_capacity(alloc, members.len()) else {
+    let Ok(done) = Vec::with_capacity(alloc, members.len()) else {
         return Err(Cause::Memory);
     };
     let mut members = members.into_iter();
@@ -127,6 +127,33 @@ fn run_in<
     let driven = drive_here(&mut first, places.as_mut_slice(), rt, gate, sink);
     let first = first.into_worker();
     first.log_is_known();
+    end(driven, first, places, done, rt, gate)
+}
+
+// What a run comes to in which those with the caller were driven so, worker 0 first: all workers, finished, or why there are
+// none. Each thread is waited for.
+fn end<'a, Q: Query, J: Naming, R: Wait + Drop, T: Threads + Wait, G: Gate>(
+    driven: Result<bool, Stop>,
+    first: Worker<'a, Q, J>,
+    places: Vec<Placed<'a, Q, J, R>>,
+    mut done: Vec<Worker<'a, Q, J>>,
+    rt: &T,
+    gate: &G,
+) -> Result<Vec<Worker<'a, Q, J>>, Cause>
+    requires first { let o = outline_of (Q.facts J.job.rules) J.job in
+        IfOk driven (λ over. IsTrue over → IsFinished o first) }
+    requires over { let o = outline_of (Q.facts J.job.rules) J.job in
+        IfOk driven (λ over. IsTrue over → All (IsOver o) places.items) }
+    requires done { done.items ≡ [] }
+    requires room { length places.items < vec_capacity done }
+    ensures over { OnOk result (driven ≡ Ok true) }
+    ensures write { result ≡ Err Write → driven ≡ Err own.Write }
+    ensures memory { driven ≡ Err own.Write → result ≡ Err Write }
+    ensures numbers { IfOk result (λ workers.
+        map (λ s. s.number) workers.items ≡ first.entry.number ∷ map number_of places.entry.items) }
+    ensures finished { let o = outline_of (Q.facts J.job.rules) J.job in
+        IfOk result (λ workers. All (IsFinished o) workers.items) }
+{
     match driven {
         Ok(true) => {
             done.push_reserved(first);

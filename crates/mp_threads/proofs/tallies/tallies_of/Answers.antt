@@ -1,5 +1,5 @@
 use Rattle.std.proofs.Common.{[], ◌∷◌, ap, arith, length, length-append, subst, ℕ}
-use Rattle.mp_drive.specs.Tallies.{IsTallyOf}
+use Rattle.mp_tally.specs.Tallies.{IsTallyOf}
 use Rattle.mp_threads.proofs.Tallied.{one_more_at, stands_at}
 use Rattle.mp_threads.proofs.tallies.tallies_of.Goals as goal
 

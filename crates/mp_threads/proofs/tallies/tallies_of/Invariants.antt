@@ -1,7 +1,7 @@
 use Rattle.std.proofs.Common.{◌≡◌, ◌≤◌, ℕ, Some, length, vec_capacity}
 use Rattle.std.specs.Prelude.{slice_get}
-use Rattle.mp_parts.specs.declared.tally.Tally.{Tally}
-use Rattle.mp_drive.specs.Tallies.{IsTallyOf}
+use Rattle.mp_tally.specs.declared.tally.Tally.{Tally}
+use Rattle.mp_tally.specs.Tallies.{IsTallyOf}
 use Rattle.mp_threads.proofs.tallies.tallies_of.Given as goal
 
 abbrev pub invariant-loop-worker : goal.invariant-loop-worker

@@ -1,6 +1,6 @@
 use Rattle.std.proofs.Common.{◌∙◌, ℕ, ap}
 use Rattle.mp_parts.proofs.Tallied.{names_moved}
-use Rattle.mp_parts.specs.Tallies.{sent_packets}
+use Rattle.mp_tally.specs.Tallies.{sent_packets}
 use Rattle.mp_steps.proofs.parts.Parts.tally.Goals as goal
 
 pub returns-clause-moved : goal.returns-clause-moved

@@ -1,7 +1,7 @@
 -- The packets of the movers so far.
 use Rattle.std.proofs.Common.{◌≡◌, All, take}
-use Rattle.mp_parts.specs.Tallies.{MovedHasKeys, moved_by}
-use Rattle.mp_parts.proofs.tally.moved_so_far.Given as goal
+use Rattle.mp_tally.specs.Tallies.{MovedHasKeys, moved_by}
+use Rattle.mp_tally.proofs.tally.moved_so_far.Given as goal
 
 abbrev pub invariant-loop-one : goal.invariant-loop-one
 invariant-loop-one g l = record {

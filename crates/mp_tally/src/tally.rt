@@ -1,7 +1,7 @@
 //! What a worker tells of what it has done.
 ghost use Rattle.std.specs.Prelude.{◌≡◌, ◌++◌, All, IfOk, OnOk, map};
 ghost use Rattle.mp_handoff.specs.Keys.{SentHasKeys};
-ghost use Rattle.mp_parts.specs.Tallies.{MovedHasKeys, moved_by, moved_of};
+ghost use Rattle.mp_tally.specs.Tallies.{MovedHasKeys, moved_by, moved_of};
 
 use mp_handoff::{Movers, Sent};
 use mp_model::{Naming, Query, Time};

@@ -1,9 +1,8 @@
-use Rattle.std.proofs.Common.{◌++◌, ◌∙◌, List, ap, map, sym}
+use Rattle.std.proofs.Common.{map}
 use Rattle.std.proofs.lemmas.List.Elements.{All-append}
-use Rattle.mp_parts.specs.declared.tally.Moved.{Moved}
-use Rattle.mp_parts.specs.Tallies.{MovedHasKeys, moved_of}
-use Rattle.mp_parts.proofs.Tallied.{keys_moved, one_more_read}
-use Rattle.mp_parts.proofs.tally.moved_so_far.Goals as goal
+use Rattle.mp_tally.specs.Tallies.{MovedHasKeys, moved_of}
+use Rattle.mp_tally.proofs.Packets.{keys_moved, told_more}
+use Rattle.mp_tally.proofs.tally.moved_so_far.Goals as goal
 
 pub loop-one-preserved : goal.loop-one-preserved
 loop-one-preserved g c =
@@ -14,6 +13,6 @@ loop-one-preserved g c =
     let here = map (moved_of m.stage) m.sent in
     let told = c.in_ok-push_moved.ensures in
     record {
-      moved = told.moved ∙ ap (λ (xs : List Moved). xs ++ here) l.invariant.moved ∙ sym (one_more_read c.args.movers.now l.one-index m c.loop-one-test.true c.one-item.is);
+      moved = told_more c.args.movers.now l.one-index m l.moved.items _ c.loop-one-test.true c.one-item.is l.invariant.moved told.moved;
       keys = rw told.moved (All-append (MovedHasKeys q job) l.moved.items here l.invariant.keys (keys_moved q job m.stage m.sent told.keys));
     }
