@@ -1,7 +1,7 @@
 //! Layer: a worker.
 //!
-//! What a worker does with its parts together: it hands the outputs of a group on, counts what leaves with a packet, makes
-//! room for what a step changes, and lists the packets that it has sent.
+//! What a worker does with its parts together: it hands the outputs of a group on, counts what leaves with a packet, and
+//! makes room for what a step changes.
 #![tactic(auto)]
 
 mod changes;

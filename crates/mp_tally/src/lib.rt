@@ -1,4 +1,4 @@
-//! Layer: the parts of a worker.
+//! Layer: a worker.
 //!
 //! What a worker tells of what it has done: its tally, and what that is once the worker has done all.
 #![tactic(auto)]
