@@ -85,11 +85,6 @@ packet_fits q nothing job sound j b t s is = record {
       (a.0, a.1, same.1, post_named q nothing job j a.0 u a.1 (subst (λ (x : Name). is_posted (outline_of q job) x u ≡ true) (sym a.2) p.3.2));
 }
 
--- a list with room for one more takes it
-pub pushed : {X Y E : Type 0} (r : Result Y E) (one : X) (old new : List X) → IsOk r → new ≡ cond (is_ok r) (old ++ one ∷ []) old → new ≡ old ++ one ∷ []
-pushed (Ok y) one old new ok e = e
-pushed (Err y) one old new ok e = absurd cc
-
 -- where no state has a place none can be taken out
 pub none_taken : {Cell : Type 0} (b t : ℕ) (one : Held Cell) (old new : Hosted Cell) → IsTakenOut b t one old new → position (is_held_before b t) old.held ≡ None → ⊥
 none_taken b t one old new taken e = apart (sym (ap (position (is_held_before b t)) taken.was ∙ place_of (is_held_before b t) taken.front one taken.rest taken.none_before taken.found) ∙ e)
