@@ -90,3 +90,6 @@ invariant_of-parts-in_default-send g c =
     let made = c.in_ok-make_room.ensures.made in
     let e = c.in_default-send.ensures in
     kept_by kept c.send.new.log (rw made at e.worker) (rw made at e.unchanged) kept.parts
+
+pub returns-then-worker-ne0-clause-mail : goal.returns-then-worker-ne0-clause-mail
+returns-then-worker-ne0-clause-mail g c = rw (← c.parts.view_is) (post_same _ _ _ _ _ _ _ _ _ _ refl refl)

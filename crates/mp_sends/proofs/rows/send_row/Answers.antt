@@ -83,3 +83,6 @@ send-requires-clause-outline g c κs within = c.parts.invariant.sound
 
 pub send-requires-clause-worker : goal.send-requires-clause-worker
 send-requires-clause-worker g c κs within = rw c.in_ok-make_room.ensures.made c.parts.invariant.parts.worker
+
+pub invariant_of-parts-in_default : goal.invariant_of-parts-in_default
+invariant_of-parts-in_default g c = rw (c.in_ok-make_room.ensures.made, c.in_default.ensures.unchanged) c.parts.invariant
