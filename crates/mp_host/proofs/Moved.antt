@@ -1,5 +1,5 @@
 -- What a host is once a state is taken out, put back or installed, and which groups come and go with it.
-use Rattle.std.proofs.Common.{◌≡◌, ◌++◌, ◌||◌, ℕ, suc, ◌+◌, ◌<◌, Bool, true, false, cond, not, Option, Result, Ok, Err, IsOk, is_ok, None, Some, List, [], ◌∷◌, All, drop, filter, get_or, length, position, take, sym, ap, ◌∙◌, subst, refl, add-one}
+use Rattle.std.proofs.Common.{◌≡◌, ◌++◌, ◌||◌, ℕ, suc, ◌+◌, ◌<◌, Bool, true, false, not, Option, None, Some, List, [], ◌∷◌, All, drop, filter, get_or, length, position, take, sym, ap, ◌∙◌, subst, refl, add-one}
 use Rattle.std.specs.List.{list_any}
 use Rattle.std.proofs.lemmas.List.Elements.{All-append, All-drop, All-get_or, All-push, All-take, filter_agree}
 use Rattle.mp_names.specs.declared.names.Name.{Name}

@@ -1,9 +1,8 @@
 -- The control records that worker 0 sends, and that a worker takes.
-use Rattle.std.proofs.Common.{◌≡◌, ◌∙◌, ℕ, ◌<◌, ◌≤◌, ◌-◌, ◌^◌, Bool, true, false, cond, List, [], ◌∷◌, length, take, refl, sym, ap, subst, arith}
+use Rattle.std.proofs.Common.{◌≡◌, ◌∙◌, ℕ, ◌<◌, ◌≤◌, ◌-◌, ◌^◌, Bool, false, List, length, sym, ap, subst, arith}
 use Rattle.mp_names.specs.declared.controls.Control.{Control}
 use Rattle.mp_names.specs.declared.controls.Shape.{Shape}
 use Rattle.mp_names.specs.declared.kinds.Kind.TheVariants.{SendControl}
-use Rattle.mp_names.specs.declared.locations.Loc.TheVariants.{CtlMail, Move}
 use Rattle.mp_names.specs.declared.names.Name.{Name}
 use Rattle.mp_names.specs.declared.names.Name.TheVariants.{Ctrl, Settled}
 use Rattle.mp_names.specs.Controls.{control_of, no_control}
@@ -18,7 +17,7 @@ use Rattle.mp_model.specs.Facts.{JobFacts, QueryFacts}
 use Rattle.mp_job.specs.Legal.{JobIsLegal}
 use Rattle.mp_outline.specs.JobOutline.{outline_of}
 use Rattle.mp_rows.specs.Entries.{AreChanges}
-use Rattle.mp_count_laws.specs.Changes.{control_sent_at, control_taken_at, one_less, one_more}
+use Rattle.mp_count_laws.specs.Changes.{control_sent_at, control_taken_at}
 use Rattle.mp_count_laws.proofs.Sent.{control_sent}
 use Rattle.mp_count_laws.proofs.Took.{control_taken}
 use Rattle.mp_msg.specs.Contents.{IsControlOf}

@@ -1,8 +1,7 @@
 -- Parts in which room is made: they hold what they held. And calls that are never refused, as there is room.
-use Rattle.std.proofs.Common.{◌≡◌, ◌≤◌, ◌++◌, ◌∷◌, [], ℕ, List, Result, Ok, Err, arith, drop, length, map, take, refl, sym, ap, ◌∙◌, subst}
+use Rattle.std.proofs.Common.{◌≡◌, ◌≤◌, ◌++◌, ℕ, List, Result, Ok, Err, arith, drop, length, map, take, refl, sym, ap, ◌∙◌, subst}
 use Rattle.std.specs.Result.{IsOk}
 use Rattle.std.proofs.lemmas.Bool.{false≢true}
-use Rattle.mp_names.specs.declared.pointstamps.Change.{Change}
 use Rattle.mp_names.specs.Limits.{most_in_bundle}
 use Rattle.mp_names.specs.Logs.{Log}
 use Rattle.mp_bins.specs.declared.owners.Note.{Note}

@@ -1,9 +1,9 @@
 -- What is known of a message that is taken, and of a group that is applied, where there is room for it.
-use Rattle.std.proofs.Common.{◌≡◌, ◌<◌, ◌≤◌, ◌∷◌, [], ℕ, Bool, List, cond, false, get_or, length, map, take, refl, subst, sym, ◌+◌, ◌++◌, ◌∙◌, Some, ap, arith}
+use Rattle.std.proofs.Common.{◌≡◌, ◌<◌, ◌≤◌, ◌∷◌, [], ℕ, Bool, List, false, get_or, length, map, refl, subst, sym, ◌+◌, ◌++◌, ◌∙◌, Some, ap, arith}
 use Rattle.std.specs.Vec.{vec_capacity}
 use Rattle.std.proofs.lemmas.Option.{slice_get-get_or, slice_get_past}
 use Rattle.mp_names.specs.declared.controls.Control.{Control}
-use Rattle.mp_names.specs.declared.locations.Loc.TheVariants.{CtlMail, Move, Host}
+use Rattle.mp_names.specs.declared.locations.Loc.TheVariants.{Host}
 use Rattle.mp_names.specs.declared.names.Name.TheVariants.{Ctrl, Packet, Settled}
 use Rattle.mp_names.specs.Logs.{Log, is_noted, with_took}
 use Rattle.mp_names.specs.Names.{has}
