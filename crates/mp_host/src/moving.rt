@@ -120,7 +120,7 @@ impl<'a, Q: Query, J: Naming> Host<'a, Q, J> {
     {
         let bin = one.bin;
         self.spans.widen(bin, self.held.len());
-        let _ = self.held.push(one);
+        self.held.push_reserved(one);
         renew(&mut self.firsts, &self.held, &self.spans, bin);
     }
 

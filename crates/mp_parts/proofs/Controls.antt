@@ -1,9 +1,8 @@
 -- The control records that worker 0 sends, and that a worker takes.
-use Rattle.std.proofs.Common.{◌≡◌, ◌∙◌, ℕ, ◌<◌, ◌≤◌, ◌-◌, ◌^◌, Bool, true, false, cond, List, [], ◌∷◌, length, take, refl, sym, ap, subst, arith}
+use Rattle.std.proofs.Common.{◌≡◌, ◌∙◌, ℕ, ◌<◌, ◌≤◌, ◌-◌, ◌^◌, Bool, false, List, length, sym, ap, subst, arith}
 use Rattle.mp_names.specs.declared.controls.Control.{Control}
 use Rattle.mp_names.specs.declared.controls.Shape.{Shape}
 use Rattle.mp_names.specs.declared.kinds.Kind.TheVariants.{SendControl}
-use Rattle.mp_names.specs.declared.locations.Loc.TheVariants.{CtlMail, Move}
 use Rattle.mp_names.specs.declared.names.Name.{Name}
 use Rattle.mp_names.specs.declared.names.Name.TheVariants.{Ctrl, Settled}
 use Rattle.mp_names.specs.Controls.{control_of, no_control}
@@ -18,7 +17,7 @@ use Rattle.mp_model.specs.Facts.{JobFacts, QueryFacts}
 use Rattle.mp_job.specs.Legal.{JobIsLegal}
 use Rattle.mp_outline.specs.JobOutline.{outline_of}
 use Rattle.mp_rows.specs.Entries.{AreChanges}
-use Rattle.mp_count_laws.specs.Changes.{control_sent_at, control_taken_at, one_less, one_more}
+use Rattle.mp_count_laws.specs.Changes.{control_sent_at, control_taken_at}
 use Rattle.mp_count_laws.proofs.Sent.{control_sent}
 use Rattle.mp_count_laws.proofs.Took.{control_taken}
 use Rattle.mp_msg.specs.Contents.{IsControlOf}
@@ -67,11 +66,6 @@ module _ {Cell : Type 0} {q : QueryFacts Cell} {job : JobFacts} {p : Parts Cell}
 
 -- Taking
 
--- what a control record that is taken adds to the counts: the second change only where its time wasn't noted
-changes_shown : (j t : ℕ) (noted : Bool) (n : ℕ) → n ≡ cond noted 1 2 → take n (one_less CtlMail t ∷ one_more (Move j) t ∷ []) ≡ control_taken_at j t noted
-changes_shown j t true n e = rw e refl
-changes_shown j t false n e = rw e refl
-
 module _ {Cell : Type 0} (q : QueryFacts Cell) (job : JobFacts) (w : ℕ) (log : Log) (i : ℕ) (c : Control) (of_job : IsControlOf job i w c) (fresh : has log.took (Ctrl i w) ≡ false) (m : MoversState) (at : AreMoversAt q job w log c.stage m) where
   -- it is new to the movers of its stage
   is_new : IsNewControl (outline_of q job) log m c.time i
@@ -87,17 +81,16 @@ module _ {Cell : Type 0} (q : QueryFacts Cell) (job : JobFacts) (w : ℕ) (log :
   IsTold noted =
       (l : Log) (k : ℕ) → IsMoversOf (outline_of q job) l m → IsNewControl (outline_of q job) l m c.time k → (noted ≡ is_noted (outline_of q job) l m.stage c.time) × (has l.settled (Settled m.stage c.time) ≡ false)
 
-  pub control_changes : (noted : Bool) → IsTold noted → (n : ℕ) → n ≡ cond noted 1 2
-      → AreChanges (outline_of q job) w log (with_took log (Ctrl i w)) (take n (one_less CtlMail c.time ∷ one_more (Move c.stage) c.time ∷ []))
-  control_changes noted told n count =
+  -- what it adds to the counts
+  pub control_changes : (noted : Bool) → IsTold noted → AreChanges (outline_of q job) w log (with_took log (Ctrl i w)) (control_taken_at c.stage c.time noted)
+  control_changes noted told =
       let o = outline_of q job in
       let both = told log i at.2 is_new in
       let known = subst (λ (j : ℕ). is_noted o log j c.time ≡ noted) at.0 (sym both.0) in
       let not_settled = subst (λ (j : ℕ). has log.settled (Settled j c.time) ≡ false) at.0 both.1 in
       let its_known = subst (λ (d : Control). is_noted o log d.stage d.time ≡ noted) of_job.2 known in
       let its_open = subst (λ (d : Control). has log.settled (Settled d.stage d.time) ≡ false) of_job.2 not_settled in
-      let counted = subst (λ (d : Control). AreChanges o w log (with_took log (Ctrl i w)) (control_taken_at d.stage d.time noted)) (sym of_job.2) (control_taken o w log i w noted its_known (λ e. its_open)) in
-      subst (AreChanges o w log (with_took log (Ctrl i w))) (sym (changes_shown c.stage c.time noted n count)) counted
+      subst (λ (d : Control). AreChanges o w log (with_took log (Ctrl i w)) (control_taken_at d.stage d.time noted)) (sym of_job.2) (control_taken o w log i w noted its_known (λ e. its_open))
 
   -- the movers hold it once they have noted its time
   pub control_held : (new : MoversState) → new.stage ≡ m.stage → new.worker ≡ m.worker

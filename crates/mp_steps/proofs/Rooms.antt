@@ -1,8 +1,7 @@
 -- Parts in which room is made: they hold what they held. And calls that are never refused, as there is room.
-use Rattle.std.proofs.Common.{◌≡◌, ◌≤◌, ◌++◌, ◌∷◌, [], ℕ, List, Result, Ok, Err, arith, drop, length, length-take, map, take, refl, sym, ap, ◌∙◌, subst}
+use Rattle.std.proofs.Common.{◌≡◌, ◌≤◌, ◌++◌, ℕ, List, Result, Ok, Err, arith, drop, length, map, take, refl, sym, ap, ◌∙◌, subst}
 use Rattle.std.specs.Result.{IsOk}
 use Rattle.std.proofs.lemmas.Bool.{false≢true}
-use Rattle.mp_names.specs.declared.pointstamps.Change.{Change}
 use Rattle.mp_names.specs.Limits.{most_in_bundle}
 use Rattle.mp_names.specs.Logs.{Log}
 use Rattle.mp_bins.specs.declared.owners.Note.{Note}
@@ -29,10 +28,6 @@ use Rattle.mp_steps.proofs.Keeping.{kept_as, kept_by}
 -- where there is room for the names of a message there is for one
 pub some_names : {n : ℕ} → most_in_bundle ≤ n → 1 ≤ n
 some_names h = omega (arith, h)
-
--- no more changes than two
-pub two_at_most : (n : ℕ) (a b : Change) → length (take n (a ∷ b ∷ [])) ≤ 2
-two_at_most n a b = omega (arith, length-take n (a ∷ b ∷ []))
 
 -- a call that is never refused has an answer
 pub not_refused : {A E : Type 0} (r : Result A E) → IsOk r → ((a : A) → r ≡ Ok a → ⊥) → ⊥

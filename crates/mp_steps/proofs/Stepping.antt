@@ -1,9 +1,9 @@
 -- What is known of a message that is taken, and of a group that is applied, where there is room for it.
-use Rattle.std.proofs.Common.{◌≡◌, ◌<◌, ◌≤◌, ◌∷◌, [], ℕ, Bool, List, cond, false, get_or, length, map, take, refl, subst, sym, ◌+◌, ◌++◌, ◌∙◌, Some, ap, arith}
+use Rattle.std.proofs.Common.{◌≡◌, ◌<◌, ◌≤◌, ◌∷◌, [], ℕ, Bool, List, false, get_or, length, map, refl, subst, sym, ◌+◌, ◌++◌, ◌∙◌, Some, ap, arith}
 use Rattle.std.specs.Vec.{vec_capacity}
 use Rattle.std.proofs.lemmas.Option.{slice_get-get_or, slice_get_past}
 use Rattle.mp_names.specs.declared.controls.Control.{Control}
-use Rattle.mp_names.specs.declared.locations.Loc.TheVariants.{CtlMail, Move, Host}
+use Rattle.mp_names.specs.declared.locations.Loc.TheVariants.{Host}
 use Rattle.mp_names.specs.declared.names.Name.TheVariants.{Ctrl, Packet, Settled}
 use Rattle.mp_names.specs.Logs.{Log, is_noted, with_took}
 use Rattle.mp_names.specs.Names.{has}
@@ -16,7 +16,7 @@ use Rattle.mp_model.specs.Facts.{JobFacts, QueryFacts}
 use Rattle.mp_model.specs.declared.value.Value.{Value}
 use Rattle.mp_outline.specs.JobOutline.{outline_of}
 use Rattle.mp_rows.specs.Entries.{AreChanges}
-use Rattle.mp_count_laws.specs.Changes.{one_less, one_more, packet_taken_at, some_more}
+use Rattle.mp_count_laws.specs.Changes.{control_taken_at, one_less, one_more, packet_taken_at, some_more}
 use Rattle.mp_msg.specs.Contents.{IsControlOf, IsPacketOf}
 use Rattle.mp_msg.specs.States.{BinContent}
 use Rattle.mp_msg.proofs.Owed.{controls_are_owed}
@@ -43,7 +43,7 @@ use Rattle.mp_steps.specs.Rooms.{HasRoomToTake}
 use Rattle.mp_steps.proofs.Keeping.{contents, kept_as}
 use Rattle.mp_steps.specs.Applying.{HasRoomToApply, IsEnoughFor}
 
--- Of a control record: it may be noted and isn't yet; what it changes at the counts, once only where its time was noted; and the parts once it is noted
+-- Of a control record: it may be noted and isn't yet; what it changes at the counts; and the parts once it is noted
 pub record ControlComes {Cell : Type 0} (q : QueryFacts Cell) (job its : JobFacts) (p : Parts Cell) (i : ℕ) (c : Control) (m : MoversState) : Type 0 where
   pub not_yet : has_note p.notes.noted i ≡ false
   pub within : IsWithin p.notes.shape c
@@ -51,8 +51,7 @@ pub record ControlComes {Cell : Type 0} (q : QueryFacts Cell) (job its : JobFact
   pub counted : (noted : Bool)
       → ((l : Log) (k : ℕ) → IsMoversOf (outline_of q job) l m → IsNewControl (outline_of q job) l m c.time k
       → (noted ≡ is_noted (outline_of q job) l m.stage c.time) × (has l.settled (Settled m.stage c.time) ≡ false))
-      → (n : ℕ) → n ≡ cond noted 1 2
-      → AreChanges (outline_of q job) p.number p.log (with_took p.log (Ctrl i p.number)) (take n (one_less CtlMail c.time ∷ one_more (Move c.stage) c.time ∷ []))
+      → AreChanges (outline_of q job) p.number p.log (with_took p.log (Ctrl i p.number)) (control_taken_at c.stage c.time noted)
   pub taken : (notes : Notes) → notes.shape ≡ p.notes.shape → notes.noted ≡ with_note p.notes.noted (record { index = i; control = c })
       → (new : MoversState) → new.stage ≡ m.stage → new.worker ≡ m.worker
       → ((l : Log) (k : ℕ) → IsMoversOf (outline_of q job) l m → IsNewControl (outline_of q job) l m c.time k → IsMoversOf (outline_of q job) (with_took l (Ctrl k m.worker)) new)

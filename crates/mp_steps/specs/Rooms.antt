@@ -1,5 +1,5 @@
 -- Hosts and movers but for the room that they have, and the room that a message needs.
-use Rattle.std.specs.Prelude.{◌≡◌, ◌≤◌, ◌+◌, ℕ, All, List, [], Some, map, slice_get}
+use Rattle.std.specs.Prelude.{◌≡◌, ◌≤◌, ◌+◌, All, List, [], Some, map, slice_get}
 use Rattle.std.specs.Vec.{vec_capacity}
 use Rattle.mp_names.specs.Limits.{most_in_bundle}
 use Rattle.mp_model.specs.Facts.{JobFacts, QueryFacts}

@@ -12,10 +12,11 @@ ghost use Rattle.mp_steps.specs.Contents.{with_taken};
 ghost use Rattle.mp_steps.specs.Rooms.{HasRoomToTake};
 
 use crate::parts::Parts;
+use mp_handoff::ControlChanges;
 use mp_model::{Fields, Naming, Query, Time};
 use mp_msg::{BinState, Body, Bundle, Msg};
 use mp_names::{Control, Loc, Name, Tag};
-use mp_parts::{many_less, many_more, one_less, one_more};
+use mp_parts::{many_less, many_more, one_less};
 use mp_rows::{Change, LogList, Pointstamp};
 use std::alloc::AllocError;
 
@@ -51,14 +52,9 @@ impl<'a, Q: Query, J: Naming> Parts<'a, Q, J> {
             index,
             to: self.log.worker(),
         };
-        let changes = [
-            one_less(Loc::CtlMail, time),
-            one_more(Loc::Move(control.stage), time),
-        ];
         let movers = &mut self.movers[control.stage as usize];
-        // A time that is noted already is counted as one to be settled.
-        let count = if movers.unsettled(time) { 1 } else { 2 };
-        let Ok(()) = self.log.push(LogList::Took, name, &changes[..count]) else {
+        let changes = ControlChanges::new(control.stage, time, movers.unsettled(time));
+        let Ok(()) = self.log.push(LogList::Took, name, changes.as_slice()) else {
             unreachable!()
         };
         let Ok(()) = self.owners.note(index, control) else {

@@ -1,4 +1,5 @@
 use Rattle.std.proofs.Common.{refl}
+use Rattle.mp_refinement.proofs.Alone.{post_same}
 use Rattle.mp_sends.proofs.bins.extract.Goals as goal
 
 pub returns-in_default-clause-steps : goal.returns-in_default-clause-steps
@@ -9,3 +10,12 @@ send_bin-requires-clause-at_post g c κs within = rw (c.make_room_to_extract.ens
 
 pub returns : goal.returns
 returns g c = rw (← c.sort_wakes.ensures, ← c.make_room_to_extract.ensures.same) c.send_bin.ensures
+
+pub returns-in_default-clause-mail : goal.returns-in_default-clause-mail
+returns-in_default-clause-mail g c = post_same _ _ _ _ _ _ _ _ _ _ refl refl
+
+pub returns-in_err-sort_wakes-clause-mail : goal.returns-in_err-sort_wakes-clause-mail
+returns-in_err-sort_wakes-clause-mail g c = rw c.sort_wakes.ensures (post_same _ _ _ _ _ _ _ _ _ _ refl refl)
+
+pub returns-in_err-changes-clause-mail : goal.returns-in_err-changes-clause-mail
+returns-in_err-changes-clause-mail g c = rw (c.make_room_to_extract.ensures.same, c.sort_wakes.ensures) (post_same _ _ _ _ _ _ _ _ _ _ refl refl)

@@ -4,7 +4,7 @@ use Rattle.mp_count_laws.specs.Changes.{packet_sent_at}
 use Rattle.mp_handoff.specs.MoversState.{MoversState}
 use Rattle.mp_host_laws.specs.Hosted.{Hosted}
 use Rattle.mp_worker_invariant.specs.Parts.{AreMoversAt}
-use Rattle.mp_worker_invariant.proofs.Items.{put_at}
+use Rattle.mp_worker_invariant.proofs.Items.{again_there, put_at}
 use Rattle.mp_worker_invariant.proofs.Others.{other_movers}
 use Rattle.mp_worker_invariant.proofs.Standing.{host_at, movers_at}
 use Rattle.mp_parts.specs.Leaving.{AreChangesOfLeaving}
@@ -52,3 +52,12 @@ returns-clause-changes g c =
     ns.ensures.denotes changes (λ one out taken. (ns.numbers.items, ns.ensures.told one out taken, same)) in
     rw c.in_ok-make_room.ensures.made
     (λ x there. subst (λ (y : Hosted g.row.Q-Cell.Denot). AreChangesOfLeaving (g.Q.Query.facts job.rules) job i.log.worker i.log.log j c.args.moved y changes) (sym (same_host_there i.hosts.items j h x below c.index-host.ensures there)) told)
+
+pub invariant_of-parts : goal.invariant_of-parts
+invariant_of-parts g c = rw c.in_err-make_room.ensures.unchanged c.parts.invariant
+
+pub invariant_of-parts-in_err-make_room_for_sent : goal.invariant_of-parts-in_err-make_room_for_sent
+invariant_of-parts-in_err-make_room_for_sent g c =
+    let made = c.make_room_for_sent in
+    let same = again_there c.parts.inside.movers.items c.args.stage c.index_mut.result.now made.new.self c.index_mut.ensures.value c.in_err-make_room_for_sent.ensures.unchanged in
+    rw (c.in_ok-make_room.ensures.made, same) c.parts.invariant

@@ -143,3 +143,9 @@ returns g c =
     let full = subst (g.P.Post.was_full c.args.post.now c.parts.inside.log.worker) due.to e.full in
     rw (← c.parts.view_is)
     (record { steps = ((λ x can. rw (← one x (can_do kept (Extract c.args.stage) x can)) full), rw (e.worker, e.unchanged) refl); mail = e.mail })
+
+pub send-requires-clause-outline : goal.send-requires-clause-outline
+send-requires-clause-outline g c κs within = c.parts.invariant.sound
+
+pub send-requires-clause-worker : goal.send-requires-clause-worker
+send-requires-clause-worker g c κs within = c.parts.invariant.parts.worker

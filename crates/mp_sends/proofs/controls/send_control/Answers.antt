@@ -74,3 +74,22 @@ returns g c =
     let makes = makes_all kept SendControl x tt (can_send_control kept.sound kept.parts there.0 there.1) (x ∷ []) refl c.send.new.log.log sent in
     rw (← c.parts.view_is, rw made at e.worker)
     (record { steps = record { names = x ∷ []; tells = rw c.control-message.ensures at e.names; makes = makes; allows = rw made at e.room }; mail = rw made at e.mail })
+
+pub invariant_of-parts : goal.invariant_of-parts
+invariant_of-parts g c = rw c.in_err-make_room.ensures.unchanged c.parts.invariant
+
+pub send-requires-clause-outline : goal.send-requires-clause-outline
+send-requires-clause-outline g c κs within = c.parts.invariant.sound
+
+pub send-requires-clause-worker : goal.send-requires-clause-worker
+send-requires-clause-worker g c κs within = rw c.in_ok-make_room.ensures.made c.parts.invariant.parts.worker
+
+pub invariant_of-parts-in_default-send : goal.invariant_of-parts-in_default-send
+invariant_of-parts-in_default-send g c =
+    let kept = c.parts.invariant in
+    let made = c.in_ok-make_room.ensures.made in
+    let e = c.in_default-send.ensures in
+    kept_by kept c.send.new.log (rw made at e.worker) (rw made at e.unchanged) kept.parts
+
+pub returns-then-worker-ne0-clause-mail : goal.returns-then-worker-ne0-clause-mail
+returns-then-worker-ne0-clause-mail g c = rw (← c.parts.view_is) (post_same _ _ _ _ _ _ _ _ _ _ refl refl)

@@ -6,6 +6,7 @@ use Rattle.mp_names.proofs.Orders.{least_unique}
 use Rattle.mp_outline.specs.JobOutline.{outline_of}
 use Rattle.mp_msg.specs.Bundles.{names_in, receiver_of}
 use Rattle.mp_msg.specs.Contents.{IsRecordOf}
+use Rattle.mp_worker_invariant.proofs.Items.{again_there}
 use Rattle.mp_worker_invariant.proofs.Others.{other_router}
 use Rattle.mp_worker_invariant.proofs.Routers.{back, gone, none_goes, owners_known, same_bundle}
 use Rattle.mp_worker_invariant.proofs.Standing.{router_at, steps, told}
@@ -116,3 +117,28 @@ returns g c =
     let one = least_unique (IsHeld o i.worker i.log (is_rec c.args.stage)) given.first in
     rw (← c.parts.view_is)
     (record { steps = ((λ x can. rw (← one x given.may.0 can.next) full), rw (rw made at back.worker, rw made at back.unchanged) refl); mail = rw made at back.mail })
+
+pub send_some-requires-clause-held : goal.send_some-requires-clause-held
+send_some-requires-clause-held g c κs within =
+    let kept = c.parts.invariant in
+    let log = c.parts.inside.log in
+    (log.worker, log.log, kept.parts.legal, (router_at kept.parts c.args.stage c.requires.stage c.index_mut-router.result.now c.index_mut-router.ensures.value).1)
+
+pub invariant_of-parts : goal.invariant_of-parts
+invariant_of-parts g c = rw c.in_err-make_room.ensures.unchanged c.parts.invariant
+
+pub invariant_of-parts-in_err-bundle : goal.invariant_of-parts-in_err-bundle
+invariant_of-parts-in_err-bundle g c =
+    let i = c.parts.inside in
+    rw (c.in_ok-make_room.ensures.made, again_there i.routers.items c.args.stage c.index_mut-router.result.now c.send_some.new.self c.index_mut-router.ensures.value c.in_err-bundle.ensures.refused) c.parts.invariant
+
+pub invariant_of-parts-in_default : goal.invariant_of-parts-in_default
+invariant_of-parts-in_default g c =
+    let i = c.parts.inside in
+    rw (c.in_ok-make_room.ensures.made, again_there i.routers.items c.args.stage c.index_mut-router.result.now c.send_some.new.self c.index_mut-router.ensures.value (rw c.in_default.is at c.in_ok-bundle.ensures.unchanged)) c.parts.invariant
+
+pub send-requires-clause-outline : goal.send-requires-clause-outline
+send-requires-clause-outline g c κs within = c.parts.invariant.sound
+
+pub send-requires-clause-worker : goal.send-requires-clause-worker
+send-requires-clause-worker g c κs within = rw c.in_ok-make_room.ensures.made c.parts.invariant.parts.worker

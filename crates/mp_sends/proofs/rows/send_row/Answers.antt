@@ -74,3 +74,15 @@ invariant_of-parts-2 g c =
 
 pub returns-clause-mail : goal.returns-clause-mail
 returns-clause-mail g c = rw (← c.parts.view_is) (rw c.in_ok-make_room.ensures.made at c.in-Err.ensures.mail)
+
+pub invariant_of-parts : goal.invariant_of-parts
+invariant_of-parts g c = rw c.in_err-make_room.ensures.unchanged c.parts.invariant
+
+pub send-requires-clause-outline : goal.send-requires-clause-outline
+send-requires-clause-outline g c κs within = c.parts.invariant.sound
+
+pub send-requires-clause-worker : goal.send-requires-clause-worker
+send-requires-clause-worker g c κs within = rw c.in_ok-make_room.ensures.made c.parts.invariant.parts.worker
+
+pub invariant_of-parts-in_default : goal.invariant_of-parts-in_default
+invariant_of-parts-in_default g c = rw (c.in_ok-make_room.ensures.made, c.in_default.ensures.unchanged) c.parts.invariant

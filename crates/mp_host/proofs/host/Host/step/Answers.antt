@@ -1,18 +1,22 @@
-use Rattle.std.proofs.Common.{◌≡◌, ◌-◌, ◌<◌, ◌∙◌, ℕ, All, ap, false, length, refl, subst, sym}
+use Rattle.std.proofs.Common.{◌≡◌, ◌-◌, ◌<◌, ◌∙◌, ℕ, List, All, ap, false, get_or, length, refl, set, subst, sym}
 use Rattle.std.specs.Vec.{vec_capacity}
 use Rattle.std.proofs.Math.Seq.{map-set_same}
+use Rattle.std.proofs.lemmas.List.{set-get_or}
 use Rattle.std.proofs.lemmas.List.Elements.{All-drop}
 use Rattle.mp_names.specs.Names.{is_before}
 use Rattle.mp_bins.specs.Bins.{bin_of_key}
 use Rattle.mp_model.specs.declared.record.Rec.{Rec}
 use Rattle.mp_model.specs.Facts.{JobFacts}
 use Rattle.mp_msg.specs.Contents.{IsRecordOf}
+use Rattle.mp_msg.specs.States.{BinContent}
 use Rattle.mp_ordered.specs.InOrder.{IsInOrder}
 use Rattle.mp_ordered.proofs.Placing.{pairs_drop}
+use Rattle.mp_host_laws.specs.declared.held.Held.{Held}
 use Rattle.mp_host_laws.specs.Hosted.{group_rank}
 use Rattle.mp_host_laws.proofs.Waiting.{state_wakes}
 use Rattle.mp_host.specs.Hosts.{hosted_of}
-use Rattle.mp_host.specs.Spans.{AreSpans}
+use Rattle.mp_host.specs.FirstWakes.{AreFirsts}
+use Rattle.mp_host.specs.Spans.{AreSpans, bins_of}
 use Rattle.mp_host.proofs.FirstWakes.{others_changed}
 use Rattle.mp_host.proofs.Moved.{out_fits}
 use Rattle.mp_host.proofs.Places.{place_is}
@@ -20,6 +24,10 @@ use Rattle.mp_host.proofs.Grouped.{all_fit, cell_here, changed_fits, group_is, h
 use Rattle.mp_host.proofs.Kept.{hosted_still}
 use Rattle.mp_host.proofs.Told.{none_before}
 use Rattle.mp_host.proofs.host.Host.step.Goals as goal
+
+-- a state that stayed as it was is put back
+as_it_was : {Cell : Type 0} (held : List (Held Cell)) (i : ℕ) (one : Held Cell) (state : BinContent Cell) → one ≡ get_or held i one → state ≡ one.state → set held i (record one { state = state }) ≡ held
+as_it_was held i one state at same = ap (λ s. set held i (record one { state = s })) same ∙ ap (set held i) at ∙ set-get_or held i one
 
 pub unreachable-requires : goal.unreachable-requires
 unreachable-requires g c =
@@ -131,3 +139,13 @@ returns-clause-outputs g c =
     let place = rw (← c.self.view_is) at (sym c.in-Some.ensures) in
     let cell = cell_here (q.fresh i.stage) job.shape.bins h c.args.time c.args.key c.in-Some.at place c.index_mut-one.result.now c.index_mut-one.ensures.value in
     rw (← c.self.view_is, cell) (rw (rules, is) at c.in_ok-outputs.ensures.outputs)
+
+pub invariant_of-self : goal.invariant_of-self
+invariant_of-self g c =
+    rw (as_it_was c.self.inside.held.items c.in-Some.at c.index_mut-one.result.now c.step_state.new.state c.index_mut-one.ensures.value c.in_err-outputs.ensures.unchanged) c.self.invariant
+
+pub invariant_of-self-inside : goal.invariant_of-self-inside
+invariant_of-self-inside g c =
+    let i = c.self.inside in
+    let same = as_it_was i.held.items c.in-Some.at c.index_mut-one.result.now c.step_state.new.state c.index_mut-one.ensures.value c.in_err-outputs.ensures.unchanged in
+    (subst (AreFirsts i.job.now.shape.bins i.firsts) (sym same) i.firsts_kept, (subst (λ (held : List (Held g.row.Q-Cell.Denot)). AreSpans i.spans (bins_of held)) (sym same) i.spans_kept, (i.each_bin, tt)))

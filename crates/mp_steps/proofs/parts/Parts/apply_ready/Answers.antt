@@ -100,3 +100,6 @@ returns g c =
     let self_is : c.if-stage-stages.self.worker ≡ record { number = i.log.worker; log = c.push.new.self.log; posted = i.posted.value.log; seen = i.seen } =
     elim c.if-stage-stages.branch [ then-stage-stages+in_ok-hold_records w ↦ ap worker_of w.self-is ∙ pushed | else-stage-stages+in_ok-hold_rows w ↦ ap worker_of w.self-is ∙ pushed ] in
     rw (← c.self.view_is, self_is) (makes c.self.invariant (Apply c.args.stage) (Group c.args.stage applied.time applied.key) c.requires.stage told.can refl c.push.new.self.log (ap (λ (l : WorkerLog). l.log) c.in_ok-push.ensures.pushed))
+
+pub invariant_of-self-in_err-push_changes : goal.invariant_of-self-in_err-push_changes
+invariant_of-self-in_err-push_changes g c = absurd (false≢true c.in_err-push_changes.ensures.done)

@@ -46,3 +46,9 @@ returns-clause-at_hub g c =
     let version = rw c.in-Got.is at c.in_ok-seen.ensures.version in
     let posted = rw (c.in-Got.is, c.worker-number.ensures) at c.in_ok-seen.ensures.posted in
     rw (c.of.ensures, log) (record { served = c.in_ok-seen.ensures.still_serves _ at.served; has_posted = posted; grows = grows_refl _; later = omega (arith, version) })
+
+pub invariant_of-self-in-Busy : goal.invariant_of-self-in-Busy
+invariant_of-self-in-Busy g c = rw (rw c.in-Busy.is at c.in_ok-seen.ensures.same_log) c.self.invariant
+
+pub invariant_of-self-then-version : goal.invariant_of-self-then-version
+invariant_of-self-then-version g c = rw (rw c.in-Got.is at c.in_ok-seen.ensures.log) c.self.invariant

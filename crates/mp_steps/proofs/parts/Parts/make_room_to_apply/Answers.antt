@@ -25,3 +25,9 @@ returns-clause-room g c =
     let lists = c.in_ok-make_room_for_changes.ensures in
     rw (all_written i.routers.len i.routers.items c.make_room_onward.new.routers i.routers.ok.0 (same_length content i.routers.items c.make_room_onward.new.routers same), c.in_ok-make_room.ensures.made)
     (record { names = omega arith; changes = omega arith; empty = lists.empty; list = omega (arith, lists.room); router = room.router; unsent = room.unsent })
+
+pub invariant_of-self : goal.invariant_of-self
+invariant_of-self g c = rw c.in_err-make_room.ensures.unchanged c.self.invariant
+
+pub invariant_of-self-in_err-make_room_for_changes : goal.invariant_of-self-in_err-make_room_for_changes
+invariant_of-self-in_err-make_room_for_changes g c = rw c.in_ok-make_room.ensures.made c.self.invariant

@@ -16,3 +16,6 @@ invariant_of-self-2 g c =
     let new = c.make_room-2.ensures in
     rw c.in_ok-make_room.ensures.made
     (kept_as kept (other_router kept.parts 0 c.make_room-2.new.self (new.stage ∙ at.0, record { once = rw (new.held, new.stage) at.1.once; unsent = rw (new.held, new.stage) at.1.unsent })))
+
+pub invariant_of-self : goal.invariant_of-self
+invariant_of-self g c = rw c.in_err-make_room.ensures.unchanged c.self.invariant

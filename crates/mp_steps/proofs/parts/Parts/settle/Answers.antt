@@ -2,6 +2,7 @@ use Rattle.std.proofs.Common.{ap, refl}
 use Rattle.mp_names.specs.declared.names.Name.TheVariants.{Settled}
 use Rattle.mp_names.specs.declared.kinds.Kind.TheVariants.{Settle}
 use Rattle.mp_handoff.specs.MoversState.{MoversState}
+use Rattle.mp_worker_invariant.proofs.Items.{again_there}
 use Rattle.mp_worker_invariant.proofs.Standing.{movers_at}
 use Rattle.mp_parts.proofs.Settling.{can_settle, none_to_settle, settled_counted, settled_kept}
 use Rattle.mp_steps.specs.Contents.{worker_of}
@@ -33,3 +34,11 @@ returns g c =
     let at = movers_at kept.parts c.args.stage c.requires.stage c.index_mut-movers.result.now c.index_mut-movers.ensures.value in
     let can = can_settle kept.sound kept.parts c.args.stage _ at c.in-Some.time c.in-Some.ensures.may_settle in
     rw (← c.self.view_is, c.in_ok-push.ensures.pushed, c.in_ok-make_room.ensures.made) (makes kept (Settle c.args.stage) (Settled c.args.stage c.in-Some.time) c.requires.stage can refl _ refl)
+
+pub invariant_of-self : goal.invariant_of-self
+invariant_of-self g c = rw c.in_err-make_room.ensures.unchanged c.self.invariant
+
+pub invariant_of-self-in_default : goal.invariant_of-self-in_default
+invariant_of-self-in_default g c =
+    let same = again_there c.self.inside.movers.items c.args.stage c.index_mut-movers.result.now c.settle.new.self c.index_mut-movers.ensures.value c.in_default.ensures.unchanged in
+    rw (c.in_ok-make_room.ensures.made, same) c.self.invariant

@@ -1,9 +1,8 @@
-use Rattle.std.proofs.Common.{◌≡◌, ap, arith, cond, refl}
+use Rattle.std.proofs.Common.{ap, arith, length, refl}
 use Rattle.mp_handoff.specs.MoversState.{MoversState}
-use Rattle.mp_steps.proofs.Rooms.{not_refused, some_names, two_at_most}
+use Rattle.mp_steps.proofs.Rooms.{not_refused, some_names}
 use Rattle.mp_steps.proofs.Stepping.{control_comes, control_stage}
 use Rattle.mp_steps.proofs.parts.Parts.take_control.Goals as goal
-use Rattle.mp_steps.proofs.parts.Parts.take_control.Goals.{then-unsettled, else-unsettled}
 
 pub index_mut-movers-requires : goal.index_mut-movers-requires
 index_mut-movers-requires g c =
@@ -12,14 +11,12 @@ index_mut-movers-requires g c =
 pub push-requires : goal.push-requires
 push-requires g c =
     let comes = control_comes c.self.invariant c.self.view_is c.args.index c.args.control c.requires.content c.requires.fresh c.requires.room c.index_mut-movers.ensures.value in
-    let count : c.if-unsettled.count ≡ cond c.unsettled.result 1 2 =
-    elim c.if-unsettled.branch [ then-unsettled w ↦ rw w.if-unsettled.true w.count-is | else-unsettled w ↦ rw w.if-unsettled.false w.count-is ] in
-    record { changes = rw (c.worker.ensures, c.one_less.ensures, c.one_more.ensures) (comes.counted c.unsettled.result c.unsettled.ensures.told c.if-unsettled.count count) }
+    record { changes = rw (c.worker.ensures, c.as_slice.ensures.all, c.new-changes.ensures) (comes.counted c.unsettled.result c.unsettled.ensures.told) }
 
 pub unreachable-requires : goal.unreachable-requires
 unreachable-requires g c =
     let room = rw (← c.self.view_is) at c.requires.room in
-    not_refused c.push.result (c.push.ensures.ready (some_names room.names) (omega (arith, room.changes, two_at_most c.if-unsettled.count c.one_less.result c.one_more.result))) c.in_default.not-Ok
+    not_refused c.push.result (c.push.ensures.ready (some_names room.names) (omega (arith, room.changes, c.as_slice.ensures.few, ap length c.as_slice.ensures.all))) c.in_default.not-Ok
 
 pub note-requires : goal.note-requires
 note-requires g c =

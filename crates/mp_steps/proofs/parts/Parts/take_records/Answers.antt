@@ -1,4 +1,4 @@
-use Rattle.std.proofs.Common.{◌≡◌, ◌==◌, ◌≤◌, ◌∙◌, arith, cond, subst, sym}
+use Rattle.std.proofs.Common.{◌≡◌, ◌==◌, ◌≤◌, ◌∙◌, arith, cond, refl, subst, sym}
 use Rattle.std.proofs.lemmas.Bool.{cond-false, cond-true, eq-eqb, eqb-true, false_from_ne_true}
 use Rattle.mp_names.specs.Limits.{most_in_bundle}
 use Rattle.mp_host_laws.specs.Hosted.{Hosted}
@@ -52,3 +52,10 @@ invariant_of-self g c =
     let new = rw (← c.self.view_is) at c.requires.new in
     let held = records_held _ _ b c.requires.bundle _ _ new kept.parts.legal _ at c.receive.new.self c.receive.ensures.stage c.receive.ensures.worker c.in-Ok-receive.ensures.held in
     rw (c.in-Ok.ensures.pushed, c.recs-recs.ensures, c.stage-stage.ensures) (kept_as kept (records_taken_here kept.sound kept.parts b c.requires.bundle new c.receive.new.self held))
+
+pub index_mut-host-requires : goal.index_mut-host-requires
+index_mut-host-requires g c =
+    omega (arith, stage_below _ _ c.args.bundle c.requires.bundle, c.stage-stage.ensures, c.self.invariant.parts.all_hosts, c.self.inside.hosts.ok.0)
+
+pub returns : goal.returns
+returns g c = rw (← c.self.view_is, c.in-Ok.ensures.pushed, c.recs-recs.ensures, c.stage-stage.ensures) refl
