@@ -9,11 +9,12 @@ ghost use Rattle.std.specs.Process.{exit_status};
 ghost use Rattle.mp_outside.specs.Fault.{Rose};
 ghost use Rattle.mp_outside.specs.Files.{SameFiles};
 ghost use Rattle.mp_words.specs.Words.{command_in};
-ghost use Rattle.mp_cli.specs.Ends.{CameTo, ComesWhere, IsCommandAnswered, IsRefusal, SaysAnswer, SaysLine};
-ghost use Rattle.mp_cli.specs.Ends.{WritesFile};
-ghost use Rattle.mp_cli.specs.Outcome.{MayCome, Outcome, line_said, status_of};
+ghost use Rattle.mp_command.specs.Ends.{CameTo, ComesWhere, IsCommandAnswered, IsRefusal, SaysAnswer, SaysLine};
+ghost use Rattle.mp_command.specs.Ends.{WritesFile};
+ghost use Rattle.mp_command.specs.Outcome.{MayCome, Outcome, line_said, status_of};
 
-use mp_cli::{lack_memory, run};
+use mp_cli::run;
+use mp_command::lack_memory;
 use mp_gate::OpenGate;
 use mp_outside::{Depot, HostDepot, HostOut, Sink};
 use std::env;

@@ -4,18 +4,11 @@
 #![tactic(auto)]
 
 mod causes;
-mod checking;
 mod demo;
-mod making;
-mod reading;
-mod refusal;
-mod reporting;
 mod running;
 mod serve;
-mod shape;
-mod status;
 mod top;
 mod writing;
 
-pub use status::{Status, lack_memory};
+pub use mp_command::Status;
 pub use top::run;

@@ -9,14 +9,14 @@ ghost use Rattle.mp_outside.specs.Sink.{OnlyAppends, grown};
 ghost use Rattle.mp_drive.specs.Driven.{HasBegun};
 ghost use Rattle.mp_report.specs.Report.{AreTalliesOf};
 ghost use Rattle.mp_words.specs.Limits.{AreWithinLimits};
-ghost use Rattle.mp_cli.specs.Outcome.{StopsAnswer};
-ghost use Rattle.mp_cli.specs.Refused.{EndsAs, outcome_of};
+ghost use Rattle.mp_command.specs.Outcome.{StopsAnswer};
+ghost use Rattle.mp_command.specs.Refused.{EndsAs, outcome_of};
 ghost use Rattle.mp_cli.specs.Running.{TellsSteps};
-ghost use Rattle.mp_cli.specs.Writing.{HoldsPart};
+ghost use Rattle.mp_command.specs.Writing.{HoldsPart};
 
-use crate::refusal::Refusal;
-use mp_board::Cause;
-use mp_drive::{DriveStop, Replayed, replay_with_tallies};
+use crate::causes::{refused_after, refused_at};
+use mp_command::Refusal;
+use mp_drive::{Replayed, replay_with_tallies};
 use mp_gate::Gate;
 use mp_job::Job;
 use mp_model::Query;
@@ -99,32 +99,36 @@ fn run_into<'a, Q: Query + Send, G: Gate + Sync, S: Sink, R: Threads + Wait + Sy
 {
     match options.schedule {
         Schedule::Threads => {
-            let tallies = run_with_tallies::<Q, Brand, _, _, _>(
+            match run_with_tallies::<Q, Brand, _, _, _>(
                 rt,
                 rt.alloc(),
                 job,
                 options.depth,
                 gate,
                 sink,
-            )?;
-            Ok(Ran {
-                steps: None,
-                tallies,
-            })
+            ) {
+                Ok(tallies) => Ok(Ran {
+                    steps: None,
+                    tallies,
+                }),
+                Err(cause) => Err(refused_after(cause)),
+            }
         }
         Schedule::Seeded(seed) => {
-            let run = replay_with_tallies::<Q, Brand, _, _>(
+            match replay_with_tallies::<Q, Brand, _, _>(
                 rt.alloc(),
                 job,
                 options.depth,
                 seed,
                 gate,
                 sink,
-            )?;
-            Ok(Ran {
-                steps: Some(run.steps),
-                tallies: run.tallies,
-            })
+            ) {
+                Ok(run) => Ok(Ran {
+                    steps: Some(run.steps),
+                    tallies: run.tallies,
+                }),
+                Err(stop) => Err(refused_at(stop)),
+            }
         }
     }
 }

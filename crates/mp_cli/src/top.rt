@@ -4,12 +4,12 @@ ghost use Rattle.mp_outside.specs.Fault.{Rose};
 ghost use Rattle.mp_outside.specs.Files.{SameFiles};
 ghost use Rattle.mp_outside.specs.Sink.{grown};
 ghost use Rattle.mp_words.specs.Words.{Asked, command_in};
-ghost use Rattle.mp_cli.specs.Ends.{CameTo, ComesWhere, IsCommandAnswered, IsCommandAnsweredInPart};
-ghost use Rattle.mp_cli.specs.Ends.{IsRefusal, LacksInput, OthersStay, SaysAnswer, SaysLine, WritesFile};
-ghost use Rattle.mp_cli.specs.Outcome.{Outcome, MayCome, called_for, line_said, status_of};
+ghost use Rattle.mp_command.specs.Ends.{CameTo, ComesWhere, IsCommandAnswered, IsCommandAnsweredInPart};
+ghost use Rattle.mp_command.specs.Ends.{IsRefusal, LacksInput, OthersStay, SaysAnswer, SaysLine, WritesFile};
+ghost use Rattle.mp_command.specs.Outcome.{Outcome, MayCome, called_for, line_said, status_of};
 
 use crate::serve::serve;
-use crate::status::{Status, conclude, refuse};
+use mp_command::{Status, conclude, refuse};
 use mp_gate::Gate;
 use mp_outside::{Depot, Sink};
 use std::sync::Wait;

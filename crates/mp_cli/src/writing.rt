@@ -11,17 +11,15 @@ ghost use Rattle.mp_job.specs.Legal.{ControlsFit};
 ghost use Rattle.mp_job.specs.Parts.{job_of};
 ghost use Rattle.mp_outline.specs.JobOutline.{outline_of};
 ghost use Rattle.mp_report.specs.Report.{IsReport};
-ghost use Rattle.mp_cli.specs.Config.{job_asked, shape_of};
-ghost use Rattle.mp_cli.specs.Outcome.{StopsAnswer};
-ghost use Rattle.mp_cli.specs.Queries.{IsReportOf, answer_of, stages_of};
-ghost use Rattle.mp_cli.specs.Refused.{EndsAs, outcome_of};
+ghost use Rattle.mp_command.specs.Config.{job_asked, shape_of};
+ghost use Rattle.mp_command.specs.Outcome.{StopsAnswer};
+ghost use Rattle.mp_command.specs.Queries.{IsReportOf, answer_of, stages_of};
+ghost use Rattle.mp_command.specs.Refused.{EndsAs, outcome_of};
 ghost use Rattle.mp_cli.specs.Running.{TellsSteps};
-ghost use Rattle.mp_cli.specs.Writing.{HoldsPart, WritesReport, WritesReportPart};
+ghost use Rattle.mp_command.specs.Writing.{HoldsPart, WritesReport, WritesReportPart};
 
-use crate::refusal::Refusal;
-use crate::reporting::report_to;
 use crate::running::answer_to;
-use crate::shape::shape_of;
+use mp_command::{Refusal, report_to, shape_of};
 use mp_gate::Gate;
 use mp_job::{Control, Job};
 use mp_model::{Event, Query};
@@ -35,8 +33,8 @@ use std::sync::Wait;
 use std::thread::Threads;
 
 /// Runs the dataflow that a command asks for on these events, with its bins moved as these control records
-/// say, and makes its file hold the answer, and then that of the report, where one is asked for, the report.
-/// `WriteFault`: a file couldn't be begun or appended to; `NoMemory`: no memory.
+/// say, and makes its file hold the answer, and then that of the report, where one is asked for, the report: how many
+/// steps the workers made, as [`run_asked`] says. `WriteFault`: a file couldn't be begun or appended to; `NoMemory`: no memory.
 pub fn write_answer<'a, D: Depot, G: Gate + Sync, R: Threads + Wait + Sync + AllocGlobal>(
     rt: &R,
     depot: &mut D,
@@ -44,7 +42,7 @@ pub fn write_answer<'a, D: Depot, G: Gate + Sync, R: Threads + Wait + Sync + All
     events: Vec<Event>,
     controls: Vec<Control>,
     gate: &G,
-) -> Result<(), Refusal<'a>>
+) -> Result<Option<u64>, Refusal<'a>>
     requires options { AreWithinLimits options.now }
     requires events { EventsAreLegal events.items }
     requires controls { ControlsFit (shape_of (options_in options.now)) controls.items }
@@ -64,52 +62,15 @@ pub fn write_answer<'a, D: Depot, G: Gate + Sync, R: Threads + Wait + Sync + All
         → Rose (D.write_faults depot.old) (D.write_faults depot.new)) }
 {
     match options.query {
-        QueryName::Q1 => run_query(rt, depot, Q1, options, events, controls, gate),
-        QueryName::Q2 => run_query(rt, depot, Q2, options, events, controls, gate),
-        QueryName::Q3 => run_query(rt, depot, Q3 {}, options, events, controls, gate),
-        QueryName::Q4 => run_query(rt, depot, Q4, options, events, controls, gate),
-        QueryName::Q5 => run_query(rt, depot, Q5 {}, options, events, controls, gate),
-        QueryName::Q6 => run_query(rt, depot, Q6, options, events, controls, gate),
-        QueryName::Q7 => run_query(rt, depot, Q7 {}, options, events, controls, gate),
-        QueryName::Q8 => run_query(rt, depot, Q8 {}, options, events, controls, gate),
+        QueryName::Q1 => run_asked(rt, depot, Q1, options, events, controls, gate),
+        QueryName::Q2 => run_asked(rt, depot, Q2, options, events, controls, gate),
+        QueryName::Q3 => run_asked(rt, depot, Q3 {}, options, events, controls, gate),
+        QueryName::Q4 => run_asked(rt, depot, Q4, options, events, controls, gate),
+        QueryName::Q5 => run_asked(rt, depot, Q5 {}, options, events, controls, gate),
+        QueryName::Q6 => run_asked(rt, depot, Q6, options, events, controls, gate),
+        QueryName::Q7 => run_asked(rt, depot, Q7 {}, options, events, controls, gate),
+        QueryName::Q8 => run_asked(rt, depot, Q8 {}, options, events, controls, gate),
     }
-}
-
-/// Runs a query on these events, with bins moved by these control records, and makes the files hold its
-/// answer and its report.
-fn run_query<'a, D: Depot, Q: Query + Send, G: Gate + Sync, R: Threads + Wait + Sync + AllocGlobal>(
-    rt: &R,
-    depot: &mut D,
-    query: Q,
-    options: &RunOptions<'a>,
-    events: Vec<Event>,
-    controls: Vec<Control>,
-    gate: &G,
-) -> Result<(), Refusal<'a>>
-    requires options { AreWithinLimits options.now }
-    requires events { EventsAreLegal events.items }
-    requires controls { ControlsFit (shape_of (options_in options.now)) controls.items }
-    requires stages { stages_of options.now.query ≡ Q.STAGES }
-    requires rows { GivesRows (Q.facts (Q.rules query)) }
-    ensures whole { let q = Q.facts (Q.rules query) in
-        let asked = options_in options.now in
-        let answered = with_file (D.files depot.old) asked.out (one_thread_answer q events.items) in
-        let job = job_of (Q.rules query) events.items controls.items (shape_of asked) in
-        OnOk result (WritesReport (IsReport q job) asked.report answered (D.files depot.new)) }
-    ensures part { let q = Q.facts (Q.rules query) in
-        let asked = options_in options.now in
-        let answer = one_thread_answer q events.items in
-        let job = job_of (Q.rules query) events.items controls.items (shape_of asked) in
-        OnErr result (HoldsPart (D.files depot.old) (D.files depot.new) asked.out answer
-        ⊎ WritesReportPart (IsReport q job) asked.report
-        (with_file (D.files depot.old) asked.out answer) (D.files depot.new)) }
-    ensures refused { IfErr result (λ r. StopsAnswer (outcome_of r)) }
-
-    ensures failed { IfErr result (λ r. EndsAs r 7
-        → Rose (D.write_faults depot.old) (D.write_faults depot.new)) }
-{
-    run_asked(rt, depot, query, options, events, controls, gate)?;
-    Ok(())
 }
 
 /// Runs a query on these events, with bins moved by these control records, and makes the files hold its

@@ -16,12 +16,21 @@ needed name = record (valued name) { required = true }
 abbrev pub defaulted : List ℕ → List ℕ → Rule
 defaulted name value = record (valued name) { defaults = value ∷ [] }
 
+-- the options of what a job reads
+abbrev pub input_rules : List Rule
+input_rules = needed (codes "query") ∷ needed (codes "events") ∷ needed (codes "config") ∷ []
+
+-- those of its size
+abbrev pub size_rules : List Rule
+size_rules = defaulted (codes "workers") (codes "1") ∷ defaulted (codes "bins") (codes "16") ∷ []
+
+-- that of the mailboxes' depth
+abbrev pub depth_rules : List Rule
+depth_rules = defaulted (codes "depth") (codes "64") ∷ []
+
 -- the options that both commands have which write an answer
 abbrev pub shared_rules : List Rule
-shared_rules =
-    needed (codes "query") ∷ needed (codes "events") ∷ needed (codes "config") ∷ needed (codes "out")
-    ∷ valued (codes "report")
-    ∷ defaulted (codes "workers") (codes "1") ∷ defaulted (codes "bins") (codes "16") ∷ defaulted (codes "depth") (codes "64") ∷ []
+shared_rules = input_rules ++ needed (codes "out") ∷ valued (codes "report") ∷ (size_rules ++ depth_rules)
 
 -- a command with these options
 abbrev pub shared_shape : List ℕ → Shape
@@ -37,10 +46,7 @@ replay_shape = record (shared_shape (codes "replay")) { rules = shared_rules ++ 
 
 -- `check` reads what `run` reads
 abbrev pub check_shape : Shape
-check_shape = record (new_shape (codes "check")) {
-  rules = needed (codes "query") ∷ needed (codes "events") ∷ needed (codes "config")
-      ∷ defaulted (codes "workers") (codes "1") ∷ defaulted (codes "bins") (codes "16") ∷ [];
-}
+check_shape = record (new_shape (codes "check")) { rules = input_rules ++ size_rules }
 
 -- `make` makes so many events, and may have a seed
 abbrev pub make_shape : Shape
@@ -49,16 +55,21 @@ make_shape = record (new_shape (codes "make")) { rules = needed (codes "count") 
 -- `demo` makes so many events and runs them
 abbrev pub demo_shape : Shape
 demo_shape = record (new_shape (codes "demo")) {
-  rules = needed (codes "query") ∷ needed (codes "count") ∷ valued (codes "seed")
-      ∷ defaulted (codes "workers") (codes "1") ∷ defaulted (codes "bins") (codes "16") ∷ defaulted (codes "depth") (codes "64") ∷ [];
+  rules = needed (codes "query") ∷ needed (codes "count") ∷ valued (codes "seed") ∷ (size_rules ++ depth_rules);
 }
 
 -- no option of the program itself, none for help or the version, no command `help`, and a subcommand has to be there
 abbrev pub bare : Shape → Shape
 bare s = record s { disable_help_flag = true; disable_version_flag = true; disable_help_subcommand = true; subcommand_required = true }
 
+-- the program with the subcommands that write an answer
+abbrev pub with_runs : App → App
+with_runs program = with_subcommand (with_subcommand program run_shape) replay_shape
+
+-- the program with the others
+abbrev pub with_others : App → App
+with_others program = with_subcommand (with_subcommand (with_subcommand program check_shape) make_shape) demo_shape
+
 -- the program with its subcommands
 unfoldable pub command_app : App
-command_app =
-    let runs = with_subcommand (with_subcommand (on_top bare (new_app (codes "megaphone"))) run_shape) replay_shape in
-    with_subcommand (with_subcommand (with_subcommand runs check_shape) make_shape) demo_shape
+command_app = with_others (with_runs (on_top bare (new_app (codes "megaphone"))))

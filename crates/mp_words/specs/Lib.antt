@@ -1,4 +1,5 @@
 -- What the contracts of this crate cite.
+pub mod Adding
 pub mod Command
 pub mod Limits
 pub mod Refused

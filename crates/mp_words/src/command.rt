@@ -1,8 +1,9 @@
 //! The command set, as clap is told it.
 ghost use Rattle.std.specs.Prelude.{◌≡◌, IfOk, false};
-ghost use Rattle.clap.specs.Words.{app_of, rule_of, shape_of};
-ghost use Rattle.clap.specs.declared.builder.command.Command.TheViews.{out-Command};
-ghost use Rattle.mp_words.specs.Command.{valued, needed, defaulted, shared_shape, replay_shape, check_shape, make_shape, demo_shape, command_app};
+ghost use Rattle.clap.specs.Words.{app_of, rule_of};
+ghost use Rattle.mp_words.specs.Adding.{AddsRules, Denotes};
+ghost use Rattle.mp_words.specs.Command.{check_shape, command_app, demo_shape, make_shape, replay_shape, shared_shape, with_others, with_runs};
+ghost use Rattle.mp_words.specs.Command.{defaulted, depth_rules, input_rules, needed, size_rules, valued};
 
 use clap::{Arg, ArgAction, Command};
 use std::alloc::{AllocError, Global};
@@ -11,64 +12,60 @@ use std::alloc::{AllocError, Global};
 pub fn command<'a>(alloc: Global) -> Result<Command<'a>, AllocError>
     ensures { IfOk result (λ c. app_of c ≡ command_app) }
 {
-    let run = shared_command(alloc, "run")?;
-    let replay = replay_command(alloc)?;
-    let check = check_command(alloc)?;
-    let make = make_command(alloc)?;
-    let demo = demo_command(alloc)?;
-    Command::new(alloc, "megaphone")
+    // Each subcommand is made where it is added: the proof writes out the drops of all that is alive at a `?`.
+    let program = Command::new(alloc, "megaphone")
         .disable_help_flag(true)
         .disable_version_flag(true)
         .disable_help_subcommand(true)
-        .subcommand_required(true)
-        .subcommand(run)?
-        .subcommand(replay)?
-        .subcommand(check)?
-        .subcommand(make)?
-        .subcommand(demo)
+        .subcommand_required(true);
+    let runs = with_runs(alloc, program)?;
+    with_others(alloc, runs)
+}
+
+/// The program with the subcommands that write an answer.
+fn with_runs<'a>(alloc: Global, program: Command<'a>) -> Result<Command<'a>, AllocError>
+    ensures { IfOk result (λ c. app_of c ≡ with_runs (app_of program.entry)) }
+{
+    let run = program.subcommand(shared_command(alloc, "run")?)?;
+    run.subcommand(replay_command(alloc)?)
+}
+
+/// The program with the other subcommands.
+fn with_others<'a>(alloc: Global, program: Command<'a>) -> Result<Command<'a>, AllocError>
+    ensures { IfOk result (λ c. app_of c ≡ with_others (app_of program.entry)) }
+{
+    let check = program.subcommand(check_command(alloc)?)?;
+    let make = check.subcommand(make_command(alloc)?)?;
+    make.subcommand(demo_command(alloc)?)
 }
 
 /// The command of this name, with the options that both have which write an answer.
 fn shared_command<'a>(alloc: Global, name: &'a str) -> Result<Command<'a>, AllocError>
-    ensures shape { IfOk result (λ c. shape_of c ≡ shared_shape name.entry.now) }
-    ensures local { IfOk result (λ c. (out-Command c).has_globals ≡ false) }
+    ensures { IfOk result (Denotes (shared_shape name.entry.now)) }
 {
-    Command::new(alloc, name)
-        .arg(needed(alloc, "query"))?
-        .arg(needed(alloc, "events"))?
-        .arg(needed(alloc, "config"))?
+    let command = with_inputs(alloc, Command::new(alloc, name))?
         .arg(needed(alloc, "out"))?
-        .arg(valued(alloc, "report"))?
-        .arg(defaulted(alloc, "workers", "1"))?
-        .arg(defaulted(alloc, "bins", "16"))?
-        .arg(defaulted(alloc, "depth", "64"))
+        .arg(valued(alloc, "report"))?;
+    with_depth(alloc, with_size(alloc, command)?)
 }
 
 /// `replay`, which may have a seed beside them.
 fn replay_command<'a>(alloc: Global) -> Result<Command<'a>, AllocError>
-    ensures shape { IfOk result (λ c. shape_of c ≡ replay_shape) }
-    ensures local { IfOk result (λ c. (out-Command c).has_globals ≡ false) }
+    ensures { IfOk result (Denotes replay_shape) }
 {
     shared_command(alloc, "replay")?.arg(valued(alloc, "seed"))
 }
 
 /// `check`, which reads what `run` reads.
 fn check_command<'a>(alloc: Global) -> Result<Command<'a>, AllocError>
-    ensures shape { IfOk result (λ c. shape_of c ≡ check_shape) }
-    ensures local { IfOk result (λ c. (out-Command c).has_globals ≡ false) }
+    ensures { IfOk result (Denotes check_shape) }
 {
-    Command::new(alloc, "check")
-        .arg(needed(alloc, "query"))?
-        .arg(needed(alloc, "events"))?
-        .arg(needed(alloc, "config"))?
-        .arg(defaulted(alloc, "workers", "1"))?
-        .arg(defaulted(alloc, "bins", "16"))
+    with_size(alloc, with_inputs(alloc, Command::new(alloc, "check"))?)
 }
 
 /// `make`, which makes events, and may have a seed.
 fn make_command<'a>(alloc: Global) -> Result<Command<'a>, AllocError>
-    ensures shape { IfOk result (λ c. shape_of c ≡ make_shape) }
-    ensures local { IfOk result (λ c. (out-Command c).has_globals ≡ false) }
+    ensures { IfOk result (Denotes make_shape) }
 {
     Command::new(alloc, "make")
         .arg(needed(alloc, "count"))?
@@ -78,16 +75,39 @@ fn make_command<'a>(alloc: Global) -> Result<Command<'a>, AllocError>
 
 /// `demo`, which makes events and runs them.
 fn demo_command<'a>(alloc: Global) -> Result<Command<'a>, AllocError>
-    ensures shape { IfOk result (λ c. shape_of c ≡ demo_shape) }
-    ensures local { IfOk result (λ c. (out-Command c).has_globals ≡ false) }
+    ensures { IfOk result (Denotes demo_shape) }
 {
-    Command::new(alloc, "demo")
+    let command = Command::new(alloc, "demo")
         .arg(needed(alloc, "query"))?
         .arg(needed(alloc, "count"))?
-        .arg(valued(alloc, "seed"))?
+        .arg(valued(alloc, "seed"))?;
+    with_depth(alloc, with_size(alloc, command)?)
+}
+
+/// The command with the options of what a job reads: its query, its event file and its configuration.
+fn with_inputs<'a>(alloc: Global, command: Command<'a>) -> Result<Command<'a>, AllocError>
+    ensures { IfOk result (AddsRules command.entry input_rules) }
+{
+    command
+        .arg(needed(alloc, "query"))?
+        .arg(needed(alloc, "events"))?
+        .arg(needed(alloc, "config"))
+}
+
+/// The command with the options of a job's size: its workers and its bins.
+fn with_size<'a>(alloc: Global, command: Command<'a>) -> Result<Command<'a>, AllocError>
+    ensures { IfOk result (AddsRules command.entry size_rules) }
+{
+    command
         .arg(defaulted(alloc, "workers", "1"))?
-        .arg(defaulted(alloc, "bins", "16"))?
-        .arg(defaulted(alloc, "depth", "64"))
+        .arg(defaulted(alloc, "bins", "16"))
+}
+
+/// The command with the option of the mailboxes' depth.
+fn with_depth<'a>(alloc: Global, command: Command<'a>) -> Result<Command<'a>, AllocError>
+    ensures { IfOk result (AddsRules command.entry depth_rules) }
+{
+    command.arg(defaulted(alloc, "depth", "64"))
 }
 
 /// The option `--name`, which takes one value.

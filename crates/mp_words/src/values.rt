@@ -1,5 +1,7 @@
 //! The values of the options, checked one by one.
-ghost use Rattle.std.specs.Prelude.{◌≡◌, ◌≤◌, IfSome, option_map, option_and_then};
+ghost use Rattle.std.specs.Prelude.{◌≡◌, ◌≤◌, ◌||◌, IfSome, codes, false, option_map, option_and_then};
+ghost use Rattle.std.specs.Option.{option_map_or};
+ghost use Rattle.std.specs.Str.{bytes_eq};
 ghost use Rattle.clap.specs.Words.{first_of, found_of, rows_of};
 ghost use Rattle.mp_words.specs.Limits.{AreWithinLimits, CheckIsWithinLimits, DemoIsWithinLimits};
 ghost use Rattle.mp_words.specs.Limits.{IsBinCount, IsPositiveUpTo, MakeIsWithinLimits, SeedIsWithinLimit};
@@ -19,22 +21,39 @@ pub fn run_options<'a>(matches: &ArgMatches<'a>, schedule: Schedule) -> Option<R
     ensures within { IfSome result AreWithinLimits }
 {
     let options = RunOptions {
-        query: query_named(text(matches, "query")?)?,
+        query: query_in(matches)?,
         events: text(matches, "events")?,
         config: text(matches, "config")?,
         out: text(matches, "out")?,
         report: text(matches, "report"),
-        workers: positive_number(text(matches, "workers")?, MAX_WORKERS)?,
-        bins: bins_named(text(matches, "bins")?)?,
-        depth: positive_number(text(matches, "depth")?, MAX_DEPTH)?,
+        workers: positive_in(matches, "workers", MAX_WORKERS)?,
+        bins: bins_in(matches)?,
+        depth: positive_in(matches, "depth", MAX_DEPTH)?,
         schedule,
     };
-    if options.out == options.events || options.out == options.config {
-        return None;
+    if answers_an_input(&options) || reports_again(&options) {
+        None
+    } else {
+        Some(options)
     }
+}
+
+/// Whether the answer is to be written to a name that is read.
+fn answers_an_input(options: &RunOptions) -> bool
+    ensures { result ≡ (bytes_eq options.now.out.now options.now.events.now
+        || bytes_eq options.now.out.now options.now.config.now) }
+{
+    options.out == options.events || options.out == options.config
+}
+
+/// Whether the report is to be written to the name of another file of the run.
+fn reports_again(options: &RunOptions) -> bool
+    ensures { let o = options_in options.now in
+        result ≡ option_map_or (is_one_of o.events o.config o.out) o.report false }
+{
     match options.report {
-        Some(report) if is_named_before(&options, report) => None,
-        _ => Some(options),
+        Some(report) => is_named_before(options, report),
+        None => false,
     }
 }
 
@@ -43,7 +62,7 @@ pub fn replay_options<'a>(matches: &ArgMatches<'a>) -> Option<RunOptions<'a>>
     ensures asked { option_map options_in result ≡ replay_of (rows_of (found_of matches.now)) }
     ensures within { IfSome result AreWithinLimits }
 {
-    let seed = seed_named(text(matches, "seed"))?;
+    let seed = seed_in(matches)?;
     run_options(matches, Schedule::Seeded(seed))
 }
 
@@ -60,11 +79,11 @@ pub fn check_options<'a>(matches: &ArgMatches<'a>) -> Option<CheckOptions<'a>>
     ensures within { IfSome result CheckIsWithinLimits }
 {
     Some(CheckOptions {
-        query: query_named(text(matches, "query")?)?,
+        query: query_in(matches)?,
         events: text(matches, "events")?,
         config: text(matches, "config")?,
-        workers: positive_number(text(matches, "workers")?, MAX_WORKERS)?,
-        bins: bins_named(text(matches, "bins")?)?,
+        workers: positive_in(matches, "workers", MAX_WORKERS)?,
+        bins: bins_in(matches)?,
     })
 }
 
@@ -74,8 +93,8 @@ pub fn make_options<'a>(matches: &ArgMatches<'a>) -> Option<MakeOptions<'a>>
     ensures within { IfSome result MakeIsWithinLimits }
 {
     Some(MakeOptions {
-        count: count_named(text(matches, "count")?)?,
-        seed: seed_named(text(matches, "seed"))?,
+        count: count_in(matches)?,
+        seed: seed_in(matches)?,
         out: text(matches, "out")?,
     })
 }
@@ -86,12 +105,12 @@ pub fn demo_options(matches: &ArgMatches) -> Option<DemoOptions>
     ensures within { IfSome result DemoIsWithinLimits }
 {
     Some(DemoOptions {
-        query: query_named(text(matches, "query")?)?,
-        count: count_named(text(matches, "count")?)?,
-        seed: seed_named(text(matches, "seed"))?,
-        workers: positive_number(text(matches, "workers")?, MAX_WORKERS)?,
-        bins: bins_named(text(matches, "bins")?)?,
-        depth: positive_number(text(matches, "depth")?, MAX_DEPTH)?,
+        query: query_in(matches)?,
+        count: count_in(matches)?,
+        seed: seed_in(matches)?,
+        workers: positive_in(matches, "workers", MAX_WORKERS)?,
+        bins: bins_in(matches)?,
+        depth: positive_in(matches, "depth", MAX_DEPTH)?,
     })
 }
 
@@ -100,6 +119,45 @@ fn text<'a>(matches: &ArgMatches<'a>, name: &str) -> Option<&'a str>
     ensures { option_map (λ s. s.now) result ≡ first_of name.now (rows_of (found_of matches.now)) }
 {
     matches.get_str(name)
+}
+
+/// The value of `--query`.
+fn query_in(matches: &ArgMatches) -> Option<QueryName>
+    ensures { result ≡ option_and_then query_of (first_of (codes "query") (rows_of (found_of matches.now))) }
+{
+    query_named(text(matches, "query")?)
+}
+
+/// The value of an option that is a number from 1 to `most`.
+fn positive_in(matches: &ArgMatches, name: &str, most: u32) -> Option<u32>
+    ensures value { result ≡ option_and_then (positive_up_to most) (first_of name.now (rows_of (found_of matches.now))) }
+    ensures within { IfSome result (IsPositiveUpTo most) }
+{
+    positive_number(text(matches, name)?, most)
+}
+
+/// The value of `--bins`.
+fn bins_in(matches: &ArgMatches) -> Option<u32>
+    ensures value { result ≡ option_and_then (power_up_to most_bins) (first_of (codes "bins") (rows_of (found_of matches.now))) }
+    ensures within { IfSome result IsBinCount }
+{
+    bins_named(text(matches, "bins")?)
+}
+
+/// The value of `--count`.
+fn count_in(matches: &ArgMatches) -> Option<u32>
+    ensures value { result ≡ option_and_then count_of (first_of (codes "count") (rows_of (found_of matches.now))) }
+    ensures within { IfSome result (λ count. count ≤ most_events) }
+{
+    count_named(text(matches, "count")?)
+}
+
+/// The value of `--seed`, which is 0 where it isn't there.
+fn seed_in(matches: &ArgMatches) -> Option<u64>
+    ensures value { result ≡ seed_of (first_of (codes "seed") (rows_of (found_of matches.now))) }
+    ensures within { IfSome result (λ seed. seed ≤ greatest_seed) }
+{
+    seed_named(text(matches, "seed"))
 }
 
 /// The query of this name.

@@ -1,7 +1,7 @@
 -- The name in memory holds the whole answer.
 use Rattle.std.proofs.Common.{◌∙◌, ap, sym}
 use Rattle.std.specs.Option.{option_copied}
-use Rattle.mp_cli.proofs.TwoMoves.{copied_some, got_written}
+use Rattle.mp_command.proofs.TwoMoves.{copied_some, got_written}
 use Rattle.mp_cli.proofs.demo.demo.Goals as goal
 
 pub unreachable-requires : goal.unreachable-requires

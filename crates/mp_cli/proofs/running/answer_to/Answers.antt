@@ -2,7 +2,7 @@
 use Rattle.std.proofs.Common.{ap, inr, rules}
 use Rattle.std.proofs.lemmas.Result.{on_err_weaker, on_ok_weaker}
 use Rattle.mp_outside.proofs.FileLemmas.{there_begun}
-use Rattle.mp_cli.proofs.Written.{written_from_begun}
+use Rattle.mp_command.proofs.Written.{written_from_begun}
 use Rattle.mp_cli.proofs.running.answer_to.Goals as goal
 
 pub new-sink-requires : goal.new-sink-requires

@@ -3,9 +3,9 @@ use Rattle.std.proofs.Common.{inr, ◌∙◌}
 use Rattle.std.proofs.lemmas.Result.{err_from_is_err_and}
 use Rattle.mp_words.specs.Values.{options_in}
 use Rattle.mp_words.specs.Words.{Run}
-use Rattle.mp_cli.specs.Config.{run_reading}
-use Rattle.mp_cli.specs.Lines.{line_after}
-use Rattle.mp_cli.proofs.Coming.{may_answer, may_from_config, may_from_events, may_stop}
+use Rattle.mp_command.specs.Config.{run_reading}
+use Rattle.mp_command.specs.Lines.{line_after}
+use Rattle.mp_command.proofs.Coming.{may_answer, may_from_config, may_from_events, may_stop}
 use Rattle.mp_cli.proofs.serve.answer.Goals as goal
 
 pub returns-in_err-events-clause-refused : goal.returns-in_err-events-clause-refused

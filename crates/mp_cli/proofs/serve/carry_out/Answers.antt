@@ -2,9 +2,9 @@
 use Rattle.std.proofs.lemmas.Result.{on_ok_weaker, on_err_weaker}
 use Rattle.mp_words.specs.Values.{check_in, make_in, options_in}
 use Rattle.mp_words.specs.Words.{Demo, Make}
-use Rattle.mp_cli.specs.Lines.{line_after}
-use Rattle.mp_cli.proofs.Ending.{apart_from_out, checked_from, made_from, made_in_part, others_at_end, others_made, run_from, run_part_from}
-use Rattle.mp_cli.proofs.Coming.{line_unread}
+use Rattle.mp_command.specs.Lines.{line_after}
+use Rattle.mp_command.proofs.Ending.{apart_from_out, checked_from, made_from, made_in_part, others_at_end, others_made, run_from, run_part_from}
+use Rattle.mp_command.proofs.Coming.{line_unread}
 use Rattle.mp_cli.proofs.serve.carry_out.Goals as goal
 
 pub returns-in-Run-clause-answered : goal.returns-in-Run-clause-answered

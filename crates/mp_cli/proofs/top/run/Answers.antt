@@ -1,9 +1,9 @@
 -- Each clause by what the line, or the refusal's outcome, says.
 use Rattle.std.proofs.Common.{◌≡◌, arith}
-use Rattle.mp_cli.specs.Refused.{outcome_of}
-use Rattle.mp_cli.specs.Outcome.{Answered}
-use Rattle.mp_cli.proofs.Codes.{outcome_at, status_at, usage_at, complete_at, one_of_both}
-use Rattle.mp_cli.proofs.Codes.{done-complete, done-outcome, done-part, done-printed, done-refusal, done-usage, done-writes}
+use Rattle.mp_command.specs.Refused.{outcome_of}
+use Rattle.mp_command.specs.Outcome.{Answered}
+use Rattle.mp_command.proofs.Codes.{outcome_at, status_at, usage_at, complete_at, one_of_both}
+use Rattle.mp_command.proofs.Codes.{done-complete, done-outcome, done-part, done-printed, done-refusal, done-usage, done-writes}
 use Rattle.mp_cli.proofs.top.run.Goals as goal
 
 pub returns-in-Ok-clause-usage : goal.returns-in-Ok-clause-usage

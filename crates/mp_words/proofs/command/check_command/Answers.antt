@@ -1,20 +1,10 @@
--- Five arguments are five rules.
-use Rattle.std.proofs.Common.{ap}
+-- The rules of both steps.
+use Rattle.std.proofs.Common.{codes}
 use Rattle.std.proofs.lemmas.Result.{IfOk-weaker}
-use Rattle.clap.specs.Words.{App}
-use Rattle.mp_words.proofs.Shapes.{Denotes, added}
+use Rattle.mp_words.proofs.Shapes.{fresh, joined, whole}
 use Rattle.mp_words.proofs.command.check_command.Goals as goal
 
 pub returns : goal.returns
 returns c =
-    let start : Denotes _ c.new.result = record { shape = ap (λ (a : App). a.top) c.new.ensures.app; local = c.new.ensures.local } in
-    let first = added _ _ _ _ _ start c.in_ok-arg.ensures c.needed.ensures.rule c.needed.ensures.local in
-    let second = added _ _ _ _ _ first c.in_ok-arg-2.ensures c.needed-2.ensures.rule c.needed-2.ensures.local in
-    let third = added _ _ _ _ _ second c.in_ok-arg-3.ensures c.needed-3.ensures.rule c.needed-3.ensures.local in
-    let fourth = added _ _ _ _ _ third c.in_ok-arg-4.ensures c.defaulted.ensures.rule c.defaulted.ensures.local in
-    record {
-      shape = IfOk-weaker c.arg-5.result _ _
-          (λ last adds. (added _ _ _ _ last fourth adds c.defaulted-2.ensures.rule c.defaulted-2.ensures.local).shape) c.arg-5.ensures;
-      local = IfOk-weaker c.arg-5.result _ _
-          (λ last adds. (added _ _ _ _ last fourth adds c.defaulted-2.ensures.rule c.defaulted-2.ensures.local).local) c.arg-5.ensures;
-    }
+    let inputs = joined _ _ _ _ _ (fresh (codes "check") _ c.new.ensures.app c.new.ensures.local) c.in_ok-with_inputs.ensures in
+    IfOk-weaker c.with_size.result _ _ (λ last adds. whole _ _ _ (joined _ _ _ _ last inputs adds)) c.with_size.ensures

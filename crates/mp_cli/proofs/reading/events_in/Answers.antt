@@ -1,7 +1,0 @@
--- The reader of events found no memory.
-use Rattle.std.proofs.Common.{inl}
-use Rattle.mp_cli.specs.Reading.{no_memory}
-use Rattle.mp_cli.proofs.reading.events_in.Goals as goal
-
-pub returns-clause-refused : goal.returns-clause-refused
-returns-clause-refused g c = inl no_memory

@@ -1,0 +1,14 @@
+-- The whole line was said.
+use Rattle.std.proofs.Common.{length, inl, sym, ap, refl, ◌∙◌, List, ℕ, arith}
+use Rattle.std.proofs.Math.Seq.{take-length}
+use Rattle.mp_outside.specs.Sink.{grown}
+use Rattle.mp_command.proofs.status.conclude.Goals as goal
+
+pub returns-in-Ok-clause-said : goal.returns-in-Ok-clause-said
+returns-in-Ok-clause-said g c =
+    let line = c.args.line.now in
+    record {
+      count = length line;
+      grew = c.in-Ok.ensures.whole ∙ ap (λ (xs : List ℕ). grown (g.S.Sink.written c.args.said.now) xs) (sym (take-length line));
+      ends = inl (refl, omega arith);
+    }

@@ -1,0 +1,9 @@
+-- What the contracts of this crate cite.
+pub mod Config
+pub mod Ends
+pub mod Lines
+pub mod Outcome
+pub mod Queries
+pub mod Reading
+pub mod Refused
+pub mod Writing

@@ -1,0 +1,59 @@
+//! The command `make`: events that are made from a seed, as a file.
+ghost use Rattle.std.specs.Prelude.{◌≡◌, ◌⊎◌, [], Err, ℕ, OnErr, OnOk, IfErr, IfOk, take};
+ghost use Rattle.mp_outside.specs.Fault.{Rose};
+ghost use Rattle.mp_outside.specs.Files.{with_file};
+ghost use Rattle.mp_outside.specs.Sink.{OnlyAppends, grown};
+ghost use Rattle.mp_outside.specs.declared.fault.Fault.TheVariants.{Failed};
+ghost use Rattle.mp_words.specs.Values.{make_in};
+ghost use Rattle.mp_command.specs.Outcome.{StopsAnswer};
+ghost use Rattle.mp_command.specs.Refused.{EndsAs, outcome_of};
+ghost use Rattle.mp_command.specs.Writing.{HoldsPart, event_file, made_file};
+
+use crate::refusal::Refusal;
+use mp_events::write_event;
+use mp_make::make_events;
+use mp_model::Event;
+use mp_outside::{Depot, DepotSink, Fault, Sink, write_piece};
+use mp_words::MakeOptions;
+use std::alloc::Global;
+
+/// Makes events, and makes a file hold their lines. It says nothing. `WriteFault`: the file couldn't be begun or
+/// appended to; `NoMemory`: no memory.
+pub fn make<'a, D: Depot>(
+    alloc: Global,
+    depot: &mut D,
+    options: &MakeOptions<'a>,
+) -> Result<Vec<u8>, Refusal<'a>>
+    ensures quiet { IfOk result (λ line. line.items ≡ []) }
+    ensures whole { let text = made_file (make_in options.now) in
+        OnOk result (D.files depot.new ≡ with_file (D.files depot.old) options.now.out.now text) }
+    ensures part { let text = made_file (make_in options.now) in
+        OnErr result (HoldsPart (D.files depot.old) (D.files depot.new) options.now.out.now text) }
+    ensures refused { IfErr result (λ r. StopsAnswer (outcome_of r)) }
+    ensures failed { IfErr result (λ r. EndsAs r 7
+        → Rose (D.write_faults depot.old) (D.write_faults depot.new)) }
+{
+    let events = make_events(alloc, options.count, options.seed)?;
+    depot.begin(options.out)?;
+    let mut sink = DepotSink::new(depot, options.out);
+    write_events(alloc, events.as_slice(), &mut sink)?;
+    Ok(Vec::new(alloc))
+}
+
+/// Writes the lines of events, each as one piece. `Failed`: the sink's own; `NoMemory`: no memory. A part of the
+/// lines, from the front, may be written.
+fn write_events<S: Sink>(alloc: Global, events: &[Event], sink: &mut S) -> Result<(), Fault>
+    ensures whole { OnOk result
+        (S.written sink.new ≡ grown (S.written sink.old) (event_file events.now)) }
+    ensures part { OnErr result ((k : ℕ)
+        × (S.written sink.new ≡ grown (S.written sink.old) (take k (event_file events.now)))) }
+    ensures failed { result ≡ Err Failed → Rose (S.faults sink.old) (S.faults sink.new) }
+    ensures appends_only { OnlyAppends S.frame S.faults sink.old sink.new }
+{
+    for event in events {
+        let mut line = Vec::new(alloc);
+        write_event(&mut line, event)?;
+        write_piece(sink, line.as_slice())?;
+    }
+    Ok(())
+}

@@ -1,0 +1,51 @@
+//! What a demo runs: its options, and its control records.
+ghost use Rattle.std.specs.Prelude.{◌≡◌, ◌<◌, ◌≤◌, IfErr, IfOk, None};
+ghost use Rattle.mp_job.specs.Legal.{ControlsFit};
+ghost use Rattle.mp_words.specs.Limits.{AreWithinLimits, DemoIsWithinLimits};
+ghost use Rattle.mp_command.specs.Lines.{answer_name};
+ghost use Rattle.mp_command.specs.Outcome.{NoMemory};
+ghost use Rattle.mp_command.specs.Refused.{outcome_of};
+
+use crate::refusal::Refusal;
+use mp_control::Shape;
+use mp_plans::{Control, all_at_once, fluid};
+use mp_words::{DemoOptions, RunOptions, Schedule};
+use std::alloc::Global;
+
+/// The name that a demo writes its answer to, in memory.
+pub const ANSWER: &str = "answer";
+
+/// The run that a demo makes on files in memory. It reads no files, so the names of these say nothing.
+pub fn run_in_memory(options: &DemoOptions) -> RunOptions<'static>
+    requires { DemoIsWithinLimits options.now }
+    ensures within { AreWithinLimits result }
+    ensures query { result.query ≡ options.now.query }
+    ensures out { result.out.now ≡ answer_name }
+    ensures report { result.report ≡ None }
+{
+    RunOptions {
+        query: options.query,
+        events: "events",
+        config: "config",
+        out: ANSWER,
+        report: None,
+        workers: options.workers,
+        bins: options.bins,
+        depth: options.depth,
+        schedule: Schedule::Threads,
+    }
+}
+
+/// The control records that move every bin of the first stage at 600, and then one after the other from 1200 on.
+pub fn two_moves<'a>(alloc: Global, shape: Shape) -> Result<Vec<Control>, Refusal<'a>>
+    requires workers { 0 < shape.workers }
+    requires bins { shape.bins ≤ 256 }
+    requires stages { 0 < shape.stages }
+    ensures fit { IfOk result (λ controls. ControlsFit shape controls.items) }
+    ensures refused { IfErr result (λ r. outcome_of r ≡ NoMemory) }
+{
+    let mut controls = Vec::new(alloc);
+    all_at_once(&mut controls, shape, 600, 0, 1)?;
+    fluid(&mut controls, shape, 1200, 30, 0, 2)?;
+    Ok(controls)
+}
