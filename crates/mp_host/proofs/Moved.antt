@@ -1,5 +1,5 @@
 -- What a host is once a state is taken out, put back or installed, and which groups come and go with it.
-use Rattle.std.proofs.Common.{◌≡◌, ◌++◌, ◌||◌, ℕ, suc, ◌+◌, ◌<◌, Bool, true, false, cond, not, Option, Result, Ok, Err, IsOk, is_ok, None, Some, List, [], ◌∷◌, All, drop, filter, get_or, length, position, take, sym, ap, ◌∙◌, subst, refl, add-one}
+use Rattle.std.proofs.Common.{◌≡◌, ◌++◌, ◌||◌, ℕ, suc, ◌+◌, ◌<◌, Bool, true, false, not, Option, None, Some, List, [], ◌∷◌, All, drop, filter, get_or, length, position, take, sym, ap, ◌∙◌, subst, refl, add-one}
 use Rattle.std.specs.List.{list_any}
 use Rattle.std.proofs.lemmas.List.Elements.{All-append, All-drop, All-get_or, All-push, All-take, filter_agree}
 use Rattle.mp_names.specs.declared.names.Name.{Name}
@@ -19,7 +19,7 @@ use Rattle.mp_host_laws.specs.Moving.{AreNumbersOf, IsTakenOut, brought, not_wai
 use Rattle.mp_host.specs.Hosts.{IsHosted, MayBeHeld}
 use Rattle.mp_host.specs.Waiting.{waits_beside}
 use Rattle.mp_host.proofs.Kept.{states_fit}
-use Rattle.mp_host.proofs.Places.{around, parts_are, place_is, place_of}
+use Rattle.mp_held.proofs.Places.{around, parts_are, place_is, place_of}
 
 or_assoc : (a b c : Bool) → (a || (b || c)) ≡ (a || b || c)
 or_assoc true b c = refl
@@ -84,11 +84,6 @@ packet_fits q nothing job sound j b t s is = record {
       let same = same_parts j j a.0.time p.1 a.0.key k a.0.tag p.3.0 a.2 in
       (a.0, a.1, same.1, post_named q nothing job j a.0 u a.1 (subst (λ (x : Name). is_posted (outline_of q job) x u ≡ true) (sym a.2) p.3.2));
 }
-
--- a list with room for one more takes it
-pub pushed : {X Y E : Type 0} (r : Result Y E) (one : X) (old new : List X) → IsOk r → new ≡ cond (is_ok r) (old ++ one ∷ []) old → new ≡ old ++ one ∷ []
-pushed (Ok y) one old new ok e = e
-pushed (Err y) one old new ok e = absurd cc
 
 -- where no state has a place none can be taken out
 pub none_taken : {Cell : Type 0} (b t : ℕ) (one : Held Cell) (old new : Hosted Cell) → IsTakenOut b t one old new → position (is_held_before b t) old.held ≡ None → ⊥

@@ -11,8 +11,6 @@ ghost use Rattle.mp_host.specs.Waiting.{is_woken_beside};
 
 use crate::Host;
 use crate::groups::has_group;
-use crate::states::has_wake;
-use mp_bins::bin_of;
 use mp_model::{Naming, Query, Time};
 
 impl<'a, Q: Query, J: Naming> Host<'a, Q, J> {
@@ -54,9 +52,7 @@ impl<'a, Q: Query, J: Naming> Host<'a, Q, J> {
         requires to { to ≤ length self.now.held }
         ensures { result ≡ is_woken_beside self.now from to time key }
     {
-        let bin = bin_of(key, self.job.shape().bins);
-        let span = self.spans.of(bin);
-        has_wake(&self.held[..from], span, bin, time, key)
-            || has_wake(&self.held[to..], span.behind(to), bin, time, key)
+        let _ = &self.job;
+        self.states.has_wake_beside(from, to, time, key)
     }
 }

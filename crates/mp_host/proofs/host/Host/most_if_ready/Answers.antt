@@ -1,4 +1,3 @@
-use Rattle.std.proofs.Common.{◌≡◌, ℕ, Option, None, Some}
 use Rattle.mp_host.proofs.Enough.{most_holds}
 use Rattle.mp_host.proofs.Told.{none_by_log, one_ready, whole_here}
 use Rattle.mp_host.proofs.host.Host.most_if_ready.Goals as goal
