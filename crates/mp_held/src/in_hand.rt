@@ -1,5 +1,5 @@
 //! The states of bins in hand, with what finds them.
-ghost use Rattle.std.specs.Prelude.{◌≡◌, ◌≤◌, ◌<◌, ◌+◌, ◌-◌, ◌++◌, ◌∷◌, [], All, suc, IfOk, IsSome, OnErr, OnOk, length, position, slice_index_or, true};
+ghost use Rattle.std.specs.Prelude.{◌≡◌, ◌≤◌, ◌<◌, ◌+◌, ◌-◌, ◌++◌, ◌∷◌, [], All, Some, suc, IfOk, IsSome, OnErr, OnOk, length, position, slice_index_or, true};
 ghost use Rattle.mp_bins.specs.Bins.{IsBinCount, bin_of_key};
 ghost use Rattle.mp_postdated.specs.Wakes.{Has};
 ghost use Rattle.mp_host_laws.specs.Applying.{FirstIsChanged};
@@ -129,11 +129,15 @@ impl<C: Drop> InHand<C> {
     }
 
     // Where the state stands that a group finds: the first of its key's bin that began by its time.
-    fn place_of(&self, group: &Group) -> Option<usize>
-        ensures { result ≡ position (is_held_before (bin_of_key group.now.key self.now.bins) (suc group.now.time)) self.now.held }
+    fn place_of(&self, group: &Group) -> usize
+        requires { IsSome (state_for self.now group.now.time group.now.key) }
+        ensures { position (is_held_before (bin_of_key group.now.key self.now.bins) (suc group.now.time)) self.now.held ≡ Some result }
     {
         let bin = bin_of(group.key(), self.bins);
-        self.place_before(bin, u128::from(group.time()) + 1)
+        let Some(at) = self.place_before(bin, u128::from(group.time()) + 1) else {
+            unreachable!()
+        };
+        at
     }
 
     /// Sorts the wakes of the first state of a bin that began before a time, if there is one, so that they are counted
@@ -172,9 +176,7 @@ pub fn step_group<Q: Query>(
     ensures same { states.new ≡ record states.old { held = states.new.held } }
     ensures unchanged { OnErr result (states.new ≡ states.old) }
 {
-    let Some(at) = states.place_of(group) else {
-        unreachable!()
-    };
+    let at = states.place_of(group);
     let one = &mut states.held[at];
     let bin = one.bin;
     let outputs = step_state(alloc, query, stage, &mut one.state, group, posts)?;
@@ -196,8 +198,6 @@ pub fn most_of_group<Q: Query>(
     ensures { let q = Q.facts (Q.rules query.now) in
         result ≡ q.most stage (cell_for (q.fresh stage) states.now group.now.time group.now.key) group.now }
 {
-    let Some(at) = states.place_of(group) else {
-        unreachable!()
-    };
+    let at = states.place_of(group);
     most_of_state(alloc, query, stage, &states.held[at].state, group)
 }

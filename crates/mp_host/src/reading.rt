@@ -1,9 +1,9 @@
 //! Which group may be applied.
-ghost use Rattle.std.specs.Prelude.{◌≡◌, ◌==◌, ◌↔◌, ℕ, suc, Some, IfNone, IfSome, position};
+ghost use Rattle.std.specs.Prelude.{◌≡◌, ◌==◌, ◌↔◌, ℕ, Some, IfNone, IfSome};
 ghost use Rattle.mp_names.specs.Logs.{Log};
 ghost use Rattle.mp_bins.specs.Bins.{bin_of_key};
 ghost use Rattle.mp_bins.specs.Notes.{owner_at};
-ghost use Rattle.mp_host_laws.specs.Hosted.{StandsInOrder, first_group, first_wake_of, has_wake_at, is_held_before};
+ghost use Rattle.mp_host_laws.specs.Hosted.{StandsInOrder, first_group, first_wake_of, has_wake_at};
 ghost use Rattle.mp_host_laws.specs.HostOf.{HostMatchesLogAndSeen, IsReadyAt, OwnersAreCurrent};
 ghost use Rattle.mp_host.specs.Hosts.{IsHosted};
 ghost use Rattle.mp_host.specs.Ready.{IsReadyHere};

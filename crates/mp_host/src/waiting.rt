@@ -1,10 +1,10 @@
 //! Whether a group waits.
-ghost use Rattle.std.specs.Prelude.{◌≡◌, ◌≤◌, ◌||◌, drop, length, take};
+ghost use Rattle.std.specs.Prelude.{◌≡◌, ◌≤◌, ◌||◌, length};
 ghost use Rattle.std.specs.List.{list_any};
 ghost use Rattle.mp_names.specs.declared.names.Name.TheVariants.{Group as GroupName};
 ghost use Rattle.mp_names.specs.Logs.{Log, LogIsLegal, is_pending};
 ghost use Rattle.mp_outline.specs.JobOutline.{outline_of};
-ghost use Rattle.mp_host_laws.specs.Hosted.{has_wake_at, has_wake_in, is_of, waits_at};
+ghost use Rattle.mp_host_laws.specs.Hosted.{has_wake_at, is_of, waits_at};
 ghost use Rattle.mp_host_laws.specs.HostOf.{IsHostOf};
 ghost use Rattle.mp_host.specs.Hosts.{IsHosted};
 ghost use Rattle.mp_host.specs.Waiting.{is_woken_beside};
