@@ -1,6 +1,6 @@
 -- What a group finds in hand, and what is in hand once a state is out, behind the others, or stepped.
 use Rattle.std.proofs.Common.{◌≡◌, ◌≢◌, ◌↔◌, ◌⊎◌, ◌==◌, ◌++◌, ◌+◌, ◌<◌, ◌∙◌, ℕ, suc, All, Contains, IsSome, length, List, [], ◌∷◌, None, Option, Some, true, ap, cond, drop, get_or, position, refl, set, subst, sym, take}
-use Rattle.std.proofs.lemmas.List.{set_split}
+use Rattle.std.proofs.lemmas.List.{set-get_or, set_split}
 use Rattle.std.proofs.lemmas.List.Elements.{All-append, All-drop, All-get_or, All-push, All-set, All-take}
 use Rattle.mp_bins.specs.Bins.{bin_of_key}
 use Rattle.mp_model.specs.Entry.{Entry}
@@ -61,3 +61,7 @@ module _ {Cell : Type 0} (s : States Cell) (t k i : ℕ) (place : position (is_h
         found = subst (λ (x : Held Cell). is_held_before (bin_of_key k s.bins) (suc t) x ≡ true) (sym is) (at.passes one);
         how = record { takes = record { bin = refl; since = refl; wakes = wakes; cells = cells }; order = order; kept = kept };
       }
+
+-- a state that stayed as it was is put back
+pub as_it_was : {Cell : Type 0} (held : List (Held Cell)) (at : ℕ) (one : Held Cell) (state : BinContent Cell) → one ≡ get_or held at one → state ≡ one.state → set held at (record one { state = state }) ≡ held
+as_it_was held at one state is same = ap (λ s. set held at (record one { state = s })) same ∙ ap (set held at) is ∙ set-get_or held at one

@@ -1,4 +1,4 @@
-use Rattle.std.proofs.Common.{◌∙◌, ap, get_or, sym}
+use Rattle.std.proofs.Common.{◌∙◌, ap, get_or}
 use Rattle.mp_held.specs.States.{States}
 use Rattle.mp_held.proofs.Found.{cell_found}
 use Rattle.mp_held.proofs.in_hand.most_of_group.Goals as goal

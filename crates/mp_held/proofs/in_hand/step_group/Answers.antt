@@ -5,7 +5,7 @@ use Rattle.mp_postdated.specs.Wakes.{Has}
 use Rattle.mp_held.specs.Spans.{AreSpans}
 use Rattle.mp_held.specs.States.{States}
 use Rattle.mp_held.proofs.FirstWakes.{others_changed}
-use Rattle.mp_held.proofs.Found.{cell_found, first_stepped, inside_at, inside_changed}
+use Rattle.mp_held.proofs.Found.{as_it_was, cell_found, first_stepped, inside_at, inside_changed}
 use Rattle.mp_held.proofs.Places.{place_is}
 use Rattle.mp_held.proofs.in_hand.step_group.Goals as goal
 
@@ -78,3 +78,6 @@ returns-clause-outputs g c =
     let is = c.index_mut-one.ensures.value ∙ ap (λ (s : States g.row.Q-Cell.Denot). get_or s.held c.place_of-at.result one) c.states.view_is in
     let cell = cell_found c.args.states.now c.args.group.now.time c.args.group.now.key c.place_of-at.result c.place_of-at.ensures one is (q.fresh c.args.stage) in
     rw cell c.in_ok-outputs.ensures.outputs
+
+pub invariant_of-states : goal.invariant_of-states
+invariant_of-states g c = rw (as_it_was c.states.inside.held.items c.place_of-at.result c.index_mut-one.result.now c.step_state.new.state c.index_mut-one.ensures.value c.in_err-outputs.ensures.unchanged) c.states.invariant
