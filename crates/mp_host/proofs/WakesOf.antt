@@ -1,13 +1,14 @@
 -- Which states have a wake.
-use Rattle.std.proofs.Common.{◌≡◌, ◌&&◌, ◌||◌, ◌==◌, ℕ, Bool, true, false, List, [], ◌∷◌, All, refl, sym, ◌∙◌}
-use Rattle.std.proofs.lemmas.Bool.{eq-eqb, or_left, or_right}
-use Rattle.std.proofs.lemmas.List.Elements.{All-head, All-tail, All-weaker}
+use Rattle.std.proofs.Common.{◌≡◌, ◌&&◌, ◌||◌, ◌==◌, ℕ, Bool, true, false, List, [], ◌∷◌, All, drop, refl, sym, take, ◌∙◌}
+use Rattle.std.proofs.lemmas.Bool.{eq-eqb, or_right}
+use Rattle.std.proofs.lemmas.List.Elements.{All-drop, All-head, All-tail, All-take, All-weaker}
 use Rattle.std.specs.List.{list_any}
 use Rattle.mp_bins.specs.Bins.{bin_of_key}
 use Rattle.mp_model.specs.Facts.{JobFacts, QueryFacts}
 use Rattle.mp_host_laws.specs.declared.held.Held.{Held}
 use Rattle.mp_host_laws.specs.Hosted.{Hosted, StandsInOrder, StateStands, has_wake_in, wakes_in}
 use Rattle.mp_host_laws.proofs.Waiting.{wake_in}
+use Rattle.mp_held.specs.States.{States, has_own_wake_beside}
 
 -- where only states of one bin have the wake, only those need be asked
 module _ {Cell : Type 0} (t k b : ℕ) where
@@ -34,12 +35,13 @@ module _ {Cell : Type 0} (q : QueryFacts Cell) (job : JobFacts) (h : Hosted Cell
       (λ s own e. sym (own.own.wakes t k (wake_in (wakes_in s) t k e)))
       h.held denotes.states
 
--- one of two tests
-pub by_first : (r a b : Bool) → r ≡ a → r ≡ true → r ≡ (a || b)
-by_first r a b e f = f ∙ sym (or_left a b (sym e ∙ f))
-
-pub by_second : (r s a b : Bool) → r ≡ a → r ≡ false → s ≡ b → s ≡ (a || b)
-by_second r s a b e f g = rw (← e, f) g
+-- so those beside some places are asked for by their bin
+pub own_beside : {Cell : Type 0} (states : States Cell) (bins t k : ℕ) → states.bins ≡ bins → All (IsOwn t k (bin_of_key k bins)) states.held → (from to : ℕ)
+    → has_own_wake_beside states from to t k ≡ (list_any (has_wake_in t k) (take from states.held) || list_any (has_wake_in t k) (drop to states.held))
+own_beside states bins t k same own from to =
+    let here = only_its_bins t k (bin_of_key k bins) (take from states.held) (All-take (IsOwn t k (bin_of_key k bins)) from states.held own) in
+    let there = only_its_bins t k (bin_of_key k bins) (drop to states.held) (All-drop (IsOwn t k (bin_of_key k bins)) to states.held own) in
+    rw (same, here, there) refl
 
 -- where the second is asked for first
 pub by_second_alone : (r a b : Bool) → r ≡ b → r ≡ true → r ≡ (a || b)

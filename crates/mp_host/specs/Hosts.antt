@@ -1,5 +1,5 @@
 -- What a host of a job keeps to.
-use Rattle.std.specs.Prelude.{◌≡◌, ◌<◌, ℕ, All, Contains, List}
+use Rattle.std.specs.Prelude.{◌≡◌, ◌<◌, ℕ, All, Contains}
 use Rattle.mp_model.specs.declared.record.Rec.{Rec}
 use Rattle.mp_model.specs.Facts.{JobFacts, QueryFacts}
 use Rattle.mp_model.specs.Stages.{stage_records}
@@ -7,17 +7,18 @@ use Rattle.mp_job.specs.Legal.{JobIsLegal}
 use Rattle.mp_ordered.specs.InOrder.{InOrder}
 use Rattle.mp_postdated.specs.Wakes.{Has}
 use Rattle.mp_host_laws.specs.declared.held.Held.{Held}
+use Rattle.mp_held.specs.States.{States}
 use Rattle.mp_host_laws.specs.Hosted.{Hosted, StandsInOrder, StateStands, wakes_in}
 
 -- what contracts see of a host with these parts
-abbrev pub hosted_of : {Cell : Type 0} → ℕ → ℕ → InOrder Rec → List (Held Cell) → ℕ → Hosted Cell
-hosted_of stage worker records held room_for_bins = record {
+abbrev pub hosted_of : {Cell : Type 0} → ℕ → ℕ → InOrder Rec → States Cell → Hosted Cell
+hosted_of stage worker records states = record {
   stage = stage;
   worker = worker;
   records = records.items;
-  held = held;
+  held = states.held;
   room = records.room;
-  room_for_bins = room_for_bins;
+  room_for_bins = states.room;
 }
 
 module _ {Cell : Type 0} (q : QueryFacts Cell) (job : JobFacts) where

@@ -12,12 +12,10 @@ ghost use Rattle.mp_host_laws.specs.HostOf.{HostMatchesLogAndSeen, OwnersAreCurr
 ghost use Rattle.mp_host.specs.Ready.{IsReadyHere};
 ghost use Rattle.mp_host.specs.Telling.{AppliesGroup, IfDid};
 
-use crate::firsts::renew;
 use crate::groups::first_records;
-use crate::posts::posts_of;
-use crate::stepping::step_state;
 use crate::{Applied, Host};
 use mp_bins::Owners;
+use mp_held::{posts_of, step_group};
 use mp_job::put_in_order;
 use mp_model::{Group, Naming, Query, Time, Value};
 use mp_stamps::Seen;
@@ -134,18 +132,12 @@ impl<'a, Q: Query, J: Naming> Host<'a, Q, J> {
         ensures unchanged { OnErr result (self.new ≡ self.old) }
     {
         let woken = self.is_first_woken(time, key);
-        let Some(at) = self.place_at(time, key) else {
-            unreachable!()
-        };
         let recs = first_records(&self.records, time, key);
         let count = recs.len();
         let group = Group::new(time, key, woken, recs);
-        let one = &mut self.held[at];
-        let bin = one.bin;
         let query = self.job.query();
-        let outputs = step_state(alloc, query, self.stage, &mut one.state, &group, posts)?;
+        let outputs = step_group(alloc, query, self.stage, &mut self.states, &group, posts)?;
         self.records.drop_first(count);
-        renew(&mut self.firsts, &self.held, &self.spans, bin);
         Ok(outputs)
     }
 }

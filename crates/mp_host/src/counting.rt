@@ -17,9 +17,8 @@ ghost use Rattle.mp_host.specs.Waiting.{begins_unwoken, is_new, new_keys, unwoke
 
 use crate::Host;
 use crate::groups::first_records;
-use crate::posts::count_posts;
-use crate::stepping::most_of_state;
 use mp_bins::Owners;
+use mp_held::{count_posts, most_of_group};
 use mp_host_laws::Held;
 use mp_model::{Group, Naming, Query, Rec, Time};
 use mp_stamps::Seen;
@@ -43,7 +42,7 @@ impl<'a, Q: Query, J: Naming> Host<'a, Q, J> {
         ensures hosted { IsHosted (Q.facts J.job.rules) J.job J.job self.now }
     {
         let mut count = 0;
-        for (at, one) in self.held.iter().enumerate() {
+        for (at, one) in self.states.as_slice().iter().enumerate() {
             count += self.count_new(one, at + 1, time);
         }
         count
@@ -144,22 +143,7 @@ impl<'a, Q: Query, J: Naming> Host<'a, Q, J> {
         let query = self.job.query();
         let recs = first_records(&self.records, time, key);
         let group = Group::new(time, key, self.is_first_woken(time, key), recs);
-        let outputs = self.most_outputs(alloc, &group);
+        let outputs = most_of_group(alloc, query, self.stage, &self.states, &group);
         outputs.saturating_add(count_posts(query, self.stage, recs))
-    }
-
-    // No fewer than the outputs of a group, whose bin is in hand at its time.
-    fn most_outputs(&self, alloc: Global, group: &Group) -> u64
-        requires in_hand { IsSome (state_at self.now (bin_of_key group.now.key J.job.shape.bins) group.now.time) }
-        requires fits { let q = Q.facts J.job.rules in let h = self.now in
-            q.fits h.stage (cell_at (q.fresh h.stage) J.job.shape.bins h group.now.time group.now.key) group.now ≡ true }
-        ensures { let q = Q.facts J.job.rules in let h = self.now in
-            result ≡ q.most h.stage (cell_at (q.fresh h.stage) J.job.shape.bins h group.now.time group.now.key) group.now }
-    {
-        let Some(at) = self.place_at(group.time(), group.key()) else {
-            unreachable!()
-        };
-        let query = self.job.query();
-        most_of_state(alloc, query, self.stage, &self.held[at].state, group)
     }
 }

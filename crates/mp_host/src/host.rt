@@ -1,19 +1,16 @@
 //! The host of a stage on a worker.
-ghost use Rattle.std.specs.Prelude.{◌≡◌, ◌≤◌, ◌<◌, ◌+◌, IfOk, IsOk, OnErr, OnOk, length};
+ghost use Rattle.std.specs.Prelude.{◌≡◌, ◌≤◌, ◌<◌, ◌+◌, IfOk, IsOk, OnErr, OnOk};
 ghost use Rattle.mp_names.specs.Logs.{empty_log};
 ghost use Rattle.mp_job.specs.Legal.{JobIsLegal};
 ghost use Rattle.mp_msg.specs.Contents.{IsRecordOf};
 ghost use Rattle.mp_host_laws.specs.Applying.{IsReceived};
 ghost use Rattle.mp_host_laws.specs.Hosted.{IsNew, first_held};
 ghost use Rattle.mp_host_laws.specs.HostOf.{IsHostOf};
-ghost use Rattle.mp_host.specs.FirstWakes.{AreFirsts};
-ghost use Rattle.mp_host.specs.Spans.{AreSpans, bins_of};
 ghost use Rattle.mp_host.specs.Telling.{TakesRecord};
 
 use crate::order::ByGroup;
-use crate::spans::{Spans, spans_of};
 use mp_bins::first_owner;
-use mp_firsts::Firsts;
+use mp_held::InHand;
 use mp_host_laws::Held;
 use mp_job::Job;
 use mp_model::{Naming, Query, Rec};
@@ -30,30 +27,21 @@ pub struct Host<'a, Q: Query, J: Naming> {
     pub(crate) worker: u32,
     // Those whose group isn't applied.
     pub(crate) records: OrderedRuns<Rec, ByGroup>,
-    // The states of bins in hand, each as the packet that brought it left it and the groups applied since.
-    pub(crate) held: Vec<Held<Q::Cell>>,
-    // Where those of each bin stand.
-    pub(crate) spans: Spans,
-    // The first wake of those of each bin. Kept, since each look at what is ready asks the first of all.
-    pub(crate) firsts: Firsts,
+    pub(crate) states: InHand<Q::Cell>,
     pub(crate) of: PhantomData<J>,
-    ghost firsts_kept: { AreFirsts job.now.shape.bins firsts held.items },
-    ghost spans_kept: { AreSpans spans (bins_of held.items) },
-    ghost each_bin: { length spans ≡ job.now.shape.bins },
+    ghost each_bin: { states.bins ≡ job.now.shape.bins },
 }
 
 impl<'a, Q: Query, J: Naming> Model for Host<'a, Q, J> {
     ghost use Rattle.mp_host_laws.specs.Hosted.{Hosted};
-    ghost use Rattle.std.specs.Prelude.{◌-◌, length};
-    ghost use Rattle.std.specs.Vec.{vec_capacity};
     ghost use Rattle.mp_host.specs.Hosts.{IsHosted, hosted_of};
 
     ghost Value = { Hosted Q.Cell };
 
-    ghost view = { λ h. hosted_of h.stage h.worker h.records h.held.items (vec_capacity h.held - length h.held.items) };
+    ghost view = { λ h. hosted_of h.stage h.worker h.records h.states };
 
     ghost invariant = { λ h.
-        IsHosted (Q.facts J.job.rules) J.job h.job.now (hosted_of h.stage h.worker h.records h.held.items (vec_capacity h.held - length h.held.items)) };
+        IsHosted (Q.facts J.job.rules) J.job h.job.now (hosted_of h.stage h.worker h.records h.states) };
 }
 
 impl<'a, Q: Query, J: Naming> Host<'a, Q, J> {
@@ -73,17 +61,13 @@ impl<'a, Q: Query, J: Naming> Host<'a, Q, J> {
         ensures held { IfOk result (λ h. IsHostOf (Q.facts J.job.rules) J.job empty_log h) }
     {
         let held = first_held::<Q>(alloc, worker, job)?;
-        let bins = job.shape().bins;
-        let spans = spans_of(alloc, bins, &held)?;
-        let firsts = Firsts::new(alloc, bins as usize)?;
+        let states = InHand::new(alloc, job.shape().bins, held)?;
         Ok(Host {
             job,
             stage,
             worker,
             records: OrderedRuns::new(alloc),
-            held,
-            spans,
-            firsts,
+            states,
             of: PhantomData,
         })
     }
@@ -96,7 +80,7 @@ impl<'a, Q: Query, J: Naming> Host<'a, Q, J> {
         ensures same { self.new ≡ record self.old { room = self.new.room; room_for_bins = self.new.room_for_bins } }
         ensures no_less { (self.old.room ≤ self.new.room) × (self.old.room_for_bins ≤ self.new.room_for_bins) }
     {
-        self.held.reserve(1)?;
+        self.states.make_room()?;
         self.records.make_room(count)
     }
 

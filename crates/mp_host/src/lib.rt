@@ -6,20 +6,13 @@
 
 mod applied;
 mod applying;
-mod cells;
 mod counting;
-mod firsts;
 mod groups;
 mod host;
 mod moving;
-mod numbers;
 mod order;
-mod posts;
 mod reading;
 mod receiving;
-mod spans;
-mod states;
-mod stepping;
 mod waiting;
 
 pub use applied::Applied;

@@ -11,8 +11,7 @@ ghost use Rattle.mp_host.specs.Moves.{GetsBack, GivesUp, NothingLeaves, TakesPac
 ghost use Rattle.mp_host.specs.Waiting.{waits_beside};
 
 use crate::Host;
-use crate::firsts::renew;
-use crate::numbers::add_one;
+use mp_held::add_one;
 use mp_host_laws::Held;
 use mp_model::{Naming, Query, Time};
 use mp_msg::BinState;
@@ -37,10 +36,11 @@ impl<'a, Q: Query, J: Naming> Host<'a, Q, J> {
     {
         let _ = &self.job;
         let mut numbers = Vec::new(alloc);
-        let Some(at) = self.place_before(bin, u128::from(time)) else {
+        let Some(at) = self.states.place_before(bin, u128::from(time)) else {
             return Ok(numbers);
         };
-        self.count_waiting(&self.held[at].state.wakes, at, at + 1, &mut numbers)?;
+        let one = &self.states.as_slice()[at];
+        self.count_waiting(&one.state.wakes, at, at + 1, &mut numbers)?;
         Ok(numbers)
     }
 
@@ -49,11 +49,7 @@ impl<'a, Q: Query, J: Naming> Host<'a, Q, J> {
     pub fn sort_wakes(&mut self, bin: u32, time: Time) -> Result<(), AllocError>
         ensures { self.new ≡ self.old }
     {
-        let Some(at) = self.place_before(bin, u128::from(time)) else {
-            return Ok(());
-        };
-        let one = &mut self.held[at];
-        one.state.wakes.sort()
+        self.states.sort_wakes(bin, time)
     }
 
     /// Takes out the bin's state that is in hand just before a time: the first here that began before it; `None` exactly where
@@ -66,11 +62,8 @@ impl<'a, Q: Query, J: Naming> Host<'a, Q, J> {
         ensures held { IfSome result (λ one. (log : Log) → GivesUp (Q.facts J.job.rules) J.job log bin time one self.old self.new) }
         ensures here { IfNone result ((log : Log) → NothingLeaves (Q.facts J.job.rules) J.job log self.old bin time) }
     {
-        let at = self.place_before(bin, u128::from(time))?;
-        let one = self.held.remove(at);
-        self.spans.close_up(at);
-        renew(&mut self.firsts, &self.held, &self.spans, one.bin);
-        Some(one)
+        let at = self.states.place_before(bin, u128::from(time))?;
+        Some(self.states.take(at))
     }
 
     /// Puts a state that was taken out back in hand. There is room for it. Takes no memory.
@@ -93,7 +86,7 @@ impl<'a, Q: Query, J: Naming> Host<'a, Q, J> {
         ensures few { All (λ n. n.1 < 2 ^ 63) numbers.new.items }
         ensures denotes { StandsInOrder (Q.facts J.job.rules) J.job self.now }
     {
-        let _ = &self.held;
+        let _ = &self.states;
         let _ = self.count_waiting(&state.wakes, 0, 0, numbers);
     }
 
@@ -118,10 +111,7 @@ impl<'a, Q: Query, J: Naming> Host<'a, Q, J> {
         requires fits { MayBeHeld (Q.facts J.job.rules) J.job self.old.stage one }
         ensures { IsPutIn one self.old self.new }
     {
-        let bin = one.bin;
-        self.spans.widen(bin, self.held.len());
-        self.held.push_reserved(one);
-        renew(&mut self.firsts, &self.held, &self.spans, bin);
+        self.states.hold(one);
     }
 
     // How many of the wakes there are of each time whose groups wait neither by a record here nor by a wake of a state that

@@ -1,20 +1,18 @@
 //! Which group may be applied.
-ghost use Rattle.std.specs.Prelude.{◌≡◌, ◌==◌, ◌↔◌, ℕ, suc, Some, IfNone, IfSome, position};
+ghost use Rattle.std.specs.Prelude.{◌≡◌, ◌==◌, ◌↔◌, ℕ, Some, IfNone, IfSome};
 ghost use Rattle.mp_names.specs.Logs.{Log};
 ghost use Rattle.mp_bins.specs.Bins.{bin_of_key};
 ghost use Rattle.mp_bins.specs.Notes.{owner_at};
-ghost use Rattle.mp_host_laws.specs.Hosted.{StandsInOrder, first_group, first_wake_of, has_wake_at, is_held_before};
+ghost use Rattle.mp_host_laws.specs.Hosted.{StandsInOrder, first_group, first_wake_of, has_wake_at};
 ghost use Rattle.mp_host_laws.specs.HostOf.{HostMatchesLogAndSeen, IsReadyAt, OwnersAreCurrent};
 ghost use Rattle.mp_host.specs.Hosts.{IsHosted};
 ghost use Rattle.mp_host.specs.Ready.{IsReadyHere};
 
 use crate::Host;
-use crate::states::place_before;
 use mp_bins::{Owners, bin_of};
-use mp_firsts::earlier_of;
+use mp_held::{all_has_come, earlier_of};
 use mp_model::{Naming, Query, Time};
-use mp_names::Loc;
-use mp_stamps::{Seen, passed};
+use mp_stamps::Seen;
 
 impl<'a, Q: Query, J: Naming> Host<'a, Q, J> {
     /// The time and key of the group that may be applied, `None` exactly where there is none: the first that waits, once
@@ -39,9 +37,7 @@ impl<'a, Q: Query, J: Naming> Host<'a, Q, J> {
         ensures hosted { IsHosted (Q.facts J.job.rules) J.job J.job self.now }
     {
         let (time, key) = self.first()?;
-        let is_ready = passed(seen.frontier(Loc::Mail(self.stage)), time)
-            && passed(seen.frontier(Loc::State(self.stage)), time)
-            && self.owns(owners, time, key);
+        let is_ready = all_has_come(seen, self.stage, time) && self.owns(owners, time, key);
         if is_ready { Some((time, key)) } else { None }
     }
 
@@ -70,7 +66,7 @@ impl<'a, Q: Query, J: Naming> Host<'a, Q, J> {
         ensures first { result ≡ first_wake_of self.now.held }
         ensures denotes { StandsInOrder (Q.facts J.job.rules) J.job self.now }
     {
-        self.firsts.first()
+        self.states.first_wake()
     }
 
     // Whether the bin of a key is this worker's at a time, by what was noted.
@@ -80,20 +76,5 @@ impl<'a, Q: Query, J: Naming> Host<'a, Q, J> {
     {
         let bin = bin_of(key, self.job.shape().bins);
         owners.owner(self.stage, bin, time) == self.worker
-    }
-
-    // Where the state stands that a group of a key finds at a time: the first of the key's bin that began by then.
-    pub(crate) fn place_at(&self, time: Time, key: u64) -> Option<usize>
-        ensures { result ≡ position (is_held_before (bin_of_key key J.job.shape.bins) (suc time)) self.now.held }
-    {
-        let bin = bin_of(key, self.job.shape().bins);
-        self.place_before(bin, u128::from(time) + 1)
-    }
-
-    // Where the first state of a bin stands that began before a time.
-    pub(crate) fn place_before(&self, bin: u32, time: u128) -> Option<usize>
-        ensures { result ≡ position (is_held_before bin time) self.now.held }
-    {
-        place_before(&self.held, self.spans.of(bin), bin, time)
     }
 }

@@ -1,5 +1,5 @@
 //! How a host receives bundles of records.
-ghost use Rattle.std.specs.Prelude.{◌≡◌, ◌≤◌, ◌<◌, ◌+◌, ◌||◌, All, IfErr, IsOk, OnErr, OnOk, length, map, not, reverse, slice_index_or, take};
+ghost use Rattle.std.specs.Prelude.{◌≡◌, ◌≤◌, ◌<◌, ◌+◌, All, IfErr, IsOk, OnErr, OnOk, length, reverse, slice_index_or, take};
 ghost use Rattle.std.specs.List.{list_any};
 ghost use Rattle.mp_names.specs.Logs.{Log, LogIsLegal};
 ghost use Rattle.mp_model.specs.declared.record.Rec.{Rec};
@@ -7,7 +7,7 @@ ghost use Rattle.mp_outline.specs.JobOutline.{outline_of};
 ghost use Rattle.mp_msg.specs.Bundles.{names_in};
 ghost use Rattle.mp_msg.specs.Contents.{IsRecordOf};
 ghost use Rattle.mp_count_laws.specs.Changes.{new_groups};
-ghost use Rattle.mp_host_laws.specs.Hosted.{is_of, waits_at};
+ghost use Rattle.mp_host_laws.specs.Hosted.{is_of};
 ghost use Rattle.mp_host_laws.specs.HostOf.{IsHostOf};
 ghost use Rattle.mp_host.specs.Receiving.{AreToCome, TakesRecords, begins_group};
 

@@ -1,18 +1,16 @@
 //! Whether a group waits.
-ghost use Rattle.std.specs.Prelude.{◌≡◌, ◌≤◌, ◌||◌, drop, length, take};
+ghost use Rattle.std.specs.Prelude.{◌≡◌, ◌≤◌, ◌||◌, length};
 ghost use Rattle.std.specs.List.{list_any};
 ghost use Rattle.mp_names.specs.declared.names.Name.TheVariants.{Group as GroupName};
 ghost use Rattle.mp_names.specs.Logs.{Log, LogIsLegal, is_pending};
 ghost use Rattle.mp_outline.specs.JobOutline.{outline_of};
-ghost use Rattle.mp_host_laws.specs.Hosted.{has_wake_at, has_wake_in, is_of, waits_at};
+ghost use Rattle.mp_host_laws.specs.Hosted.{has_wake_at, is_of, waits_at};
 ghost use Rattle.mp_host_laws.specs.HostOf.{IsHostOf};
 ghost use Rattle.mp_host.specs.Hosts.{IsHosted};
 ghost use Rattle.mp_host.specs.Waiting.{is_woken_beside};
 
 use crate::Host;
 use crate::groups::has_group;
-use crate::states::has_wake;
-use mp_bins::bin_of;
 use mp_model::{Naming, Query, Time};
 
 impl<'a, Q: Query, J: Naming> Host<'a, Q, J> {
@@ -54,9 +52,7 @@ impl<'a, Q: Query, J: Naming> Host<'a, Q, J> {
         requires to { to ≤ length self.now.held }
         ensures { result ≡ is_woken_beside self.now from to time key }
     {
-        let bin = bin_of(key, self.job.shape().bins);
-        let span = self.spans.of(bin);
-        has_wake(&self.held[..from], span, bin, time, key)
-            || has_wake(&self.held[to..], span.behind(to), bin, time, key)
+        let _ = &self.job;
+        self.states.has_wake_beside(from, to, time, key)
     }
 }

@@ -1,10 +1,8 @@
-use Rattle.std.proofs.Common.{◌-◌, ◌∙◌, ap, length}
-use Rattle.std.specs.Vec.{vec_capacity}
+use Rattle.std.proofs.Common.{◌∙◌, ap, refl}
 use Rattle.mp_model.specs.Facts.{JobFacts}
-use Rattle.mp_host_laws.specs.Hosted.{Hosted, records_of}
 use Rattle.mp_host.specs.Hosts.{hosted_of}
 use Rattle.mp_host.proofs.Enough.{cut_sum}
-use Rattle.mp_host.proofs.Grouped.{group_is}
+use Rattle.mp_host.proofs.Grouped.{cell_here, found_here, group_is}
 use Rattle.mp_host.proofs.Told.{group_is_in_time, none_before}
 use Rattle.mp_host.proofs.host.Host.most_of_first.Goals as goal
 
@@ -15,13 +13,25 @@ first_records-recs-requires g c =
     let rules = job.rules in
     none_before (g.Q.Query.facts rules) (record { stages = laws.has_stages rules; later = laws.posts_are_later rules; nothing = laws.later_stages_post_nothing rules; fit = laws.sums_fit rules }) job _ _ c.self.invariant c.args.time c.args.key (rw (← c.self.view_is) at c.requires.first)
 
-pub most_outputs-outputs-requires-clause-in_hand : goal.most_outputs-outputs-requires-clause-in_hand
-most_outputs-outputs-requires-clause-in_hand g c = λ κs b. rw c.new-group.ensures c.requires.in_hand
+pub most_of_group-outputs-requires-clause-in_hand : goal.most_of_group-outputs-requires-clause-in_hand
+most_of_group-outputs-requires-clause-in_hand g c = λ κs b.
+    let i = c.self.inside in
+    let h = hosted_of i.stage i.worker i.records i.states in
+    let bins = i.each_bin ∙ ap (λ (j : JobFacts). j.shape.bins) c.self.invariant.same in
+    rw c.new-group.ensures (found_here h i.states refl bins c.args.time c.args.key (rw (← c.self.view_is) at c.requires.in_hand))
 
-pub most_outputs-outputs-requires-clause-fits : goal.most_outputs-outputs-requires-clause-fits
-most_outputs-outputs-requires-clause-fits g c = λ κs b.
-    let records = c.first_records-recs.ensures.records ∙ ap (λ (h : Hosted g.row.Q-Cell.Denot). records_of h c.args.time c.args.key) c.self.view_is in
-    rw (group_is c.args.self.now c.args.time c.args.key c.new-group.result _ _ c.new-group.ensures c.is_first_woken.ensures records) c.requires.fits
+pub most_of_group-outputs-requires-clause-fits : goal.most_of_group-outputs-requires-clause-fits
+most_of_group-outputs-requires-clause-fits g c = λ κs b.
+    let q = g.Q.Query.facts g.J.Naming.job.rules in
+    let i = c.self.inside in
+    let h = hosted_of i.stage i.worker i.records i.states in
+    let rules = c.query-query.ensures ∙ ap (λ (j : JobFacts). j.rules) c.self.invariant.same in
+    let bins = i.each_bin ∙ ap (λ (j : JobFacts). j.shape.bins) c.self.invariant.same in
+    let woken = rw (← c.self.view_is) at c.is_first_woken.ensures in
+    let is = group_is h c.args.time c.args.key c.new-group.result _ _ c.new-group.ensures woken c.first_records-recs.ensures.records in
+    let cell = cell_here h i.states refl bins (q.fresh i.stage) c.args.time c.args.key in
+    let fits = rw (← c.self.view_is) at c.requires.fits in
+    rw (rules, is, cell) fits
 
 pub count_posts-requires-after_bounds : goal.count_posts-requires-after_bounds
 count_posts-requires-after_bounds g c = λ κs b.
@@ -32,12 +42,15 @@ count_posts-requires-after_bounds g c = λ κs b.
 
 pub returns : goal.returns
 returns g c =
-    let rules = c.query-query.ensures ∙ ap (λ (j : JobFacts). j.rules) c.self.invariant.same in
+    let q = g.Q.Query.facts g.J.Naming.job.rules in
     let i = c.self.inside in
-    let h = hosted_of i.stage i.worker i.records i.held.items (vec_capacity i.held - length i.held.items) in
+    let h = hosted_of i.stage i.worker i.records i.states in
+    let rules = c.query-query.ensures ∙ ap (λ (j : JobFacts). j.rules) c.self.invariant.same in
+    let bins = i.each_bin ∙ ap (λ (j : JobFacts). j.shape.bins) c.self.invariant.same in
     let woken = rw (← c.self.view_is) at c.is_first_woken.ensures in
     let is = group_is h c.args.time c.args.key c.new-group.result _ _ c.new-group.ensures woken c.first_records-recs.ensures.records in
-    let outputs = rw (is, ← c.self.view_is) at c.most_outputs-outputs.ensures in
+    let cell = cell_here h i.states refl bins (q.fresh i.stage) c.args.time c.args.key in
+    let outputs = rw (rules, is) at c.most_of_group-outputs.ensures in
     let posts = rw (rules, c.first_records-recs.ensures.records) at c.count_posts.ensures in
     let sum = rw (outputs, posts) at c.saturating_add.ensures in
-    rw (← c.self.view_is) (sum ∙ cut_sum _ _ _)
+    rw (← c.self.view_is, ← cell) (sum ∙ cut_sum _ _ _)

@@ -25,6 +25,11 @@ invariant_of-self-else-is_err g c =
     let h = c.self.invariant in
     rw c.make_room.ensures.items (hosted_still _ _ _ _ _ _ _ _ h h.order.content h.order.records (states_fit _ _ _ _ h))
 
+pub invariant_of-self : goal.invariant_of-self
+invariant_of-self g c =
+    let h = c.self.invariant in
+    rw c.make_room.ensures.items (hosted_still _ _ _ _ _ _ _ _ h h.order.content h.order.records (states_fit _ _ _ _ h))
+
 pub returns-clause-held : goal.returns-clause-held
 returns-clause-held g c =
     let job = g.J.Naming.job in

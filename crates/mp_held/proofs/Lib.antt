@@ -1,0 +1,9 @@
+pub mod Places
+mod Numbered
+mod Finding
+mod Stepped
+mod Within
+mod Spanned
+mod FirstWakes
+mod Failures
+mod Found

@@ -1,0 +1,6 @@
+-- What the contracts of this crate cite.
+pub mod Cells
+pub mod FirstWakes
+pub mod Numbers
+pub mod Spans
+pub mod States
