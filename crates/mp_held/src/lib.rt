@@ -1,4 +1,4 @@
-//! Layer: the parts of a worker.
+//! Layer: the migrating operator: F and S.
 //!
 //! The states of bins that a host has in hand, each found by its bin, and how the step of a group changes one.
 #![tactic(auto)]
