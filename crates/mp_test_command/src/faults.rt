@@ -1,14 +1,12 @@
 //! What comes of faults: which come first, and what then stands in the files.
 ghost use Rattle.std.specs.Prelude.{◌<◌};
 
-use crate::fixture::{Q1, cut, ended_by, files};
-use mp_cli::run;
+use crate::fixture::{code_of, files};
 use mp_gate::OpenGate;
 use mp_outside::{MemDepot, MemSink, Op};
 use std::alloc::{AllocError, Global};
 use std::process::Abort;
 use std::sync::Wait;
-use std::test::Fail;
 use std::thread::Threads;
 
 const THREE_BIDS: &[u8] = b"B|5|7|2|100\nB|3|7|1|250\nB|5|2|9|99\n";
@@ -18,6 +16,8 @@ const ANSWER: [&[u8]; 2] = [b"3|7|1|222\n", b"5|2|9|88\n5|7|2|89\n"];
 
 /// The report of three workers.
 const REPORT: [&[u8]; 3] = [b"worker 0 3\n", b"worker 1 0\n", b"worker 2 0\n"];
+
+const Q1: &str = "megaphone run --query q1 --events e --config c --out o";
 
 const CHECK: &str = "megaphone check --query q1 --events e --config c";
 
@@ -130,7 +130,7 @@ fn held(alloc: Global, calls: &[Call], name: &str) -> Result<Vec<u8>, AllocError
 
 /// A depot with the three bids, of which the call after these fails.
 fn failing_after(alloc: Global, calls: &[Call], op: Op) -> Result<MemDepot, AllocError> {
-    let mut depot = files(alloc, THREE_BIDS, b"")?;
+    let mut depot = files(alloc, THREE_BIDS)?;
     depot.put("o", OLD)?;
     depot.put("r", OLD)?;
     let before = calls.iter().filter(|call| call.op == op).count();
@@ -138,43 +138,110 @@ fn failing_after(alloc: Global, calls: &[Call], op: Op) -> Result<MemDepot, Allo
     Ok(depot)
 }
 
+/// Does what a line says on the files of a depot, and compares the status and what is said.
+fn ends_with<R: Threads + Wait + Sync + AllocGlobal + Abort>(
+    rt: &R,
+    depot: &mut MemDepot,
+    line: &str,
+    status: u8,
+    says: &str,
+) -> Result<(), AllocError> {
+    let mut said = MemSink::new(rt.alloc());
+    let code = code_of(rt, depot, &mut said, line, &OpenGate)?;
+    assert!(rt; code == status, "{line}");
+    assert!(rt; said.bytes() == says.as_bytes(), "{line}");
+    Ok(())
+}
+
+/// A file holds what these calls put there.
+fn holds(
+    rt: &impl Abort,
+    alloc: Global,
+    depot: &MemDepot,
+    calls: &[Call],
+    name: &str,
+) -> Result<(), AllocError> {
+    let wanted = held(alloc, calls, name)?;
+    assert!(rt; depot.get(name) == Some(wanted.as_slice()), "{name}");
+    Ok(())
+}
+
+/// How a run ends: where a call fails, which one, the status and what is said.
+type End = (Op, u8, &'static str);
+
 /// Runs a line where the call after these fails, and compares its end.
 fn ends<R: Threads + Wait + Sync + AllocGlobal + Abort>(
     rt: &R,
     line: &str,
     portion: u64,
     calls: &[Call],
-    end: (Op, u8, &str),
-) -> Result<(), Fail>
+    end: End,
+) -> Result<(), AllocError>
     requires { 0 < portion }
 {
     let (op, status, says) = end;
     let mut depot = failing_after(rt.alloc(), calls, op)?;
     depot.take_at_most(portion);
-    let (code, said) = ended_by(rt, &mut depot, line)?;
-    assert_eq!(rt; (code, said.bytes()), (status, says.as_bytes()), "{line}");
-    for name in ["o", "r"] {
-        let wanted = held(rt.alloc(), calls, name)?;
-        assert_eq!(rt; depot.get(name), Some(wanted.as_slice()), "{line}: {name}");
+    ends_with(rt, &mut depot, line, status, says)?;
+    holds(rt, rt.alloc(), &depot, calls, "o")?;
+    holds(rt, rt.alloc(), &depot, calls, "r")
+}
+
+fn end_of(op: Op) -> End {
+    match op {
+        Op::Find | Op::Read => (op, 6, "read fault\n"),
+        _ => (op, 7, "write fault\n"),
+    }
+}
+
+/// Each of these calls fails once.
+fn each_fails<R: Threads + Wait + Sync + AllocGlobal + Abort>(
+    rt: &R,
+    line: &str,
+    portion: u64,
+    calls: &[Call],
+) -> Result<(), AllocError>
+    requires { 0 < portion }
+{
+    for (at, call) in calls.iter().enumerate() {
+        ends(rt, line, portion, &calls[..at], end_of(call.op))?;
     }
     Ok(())
 }
 
+/// No call comes after these.
+fn all_are_made<R: Threads + Wait + Sync + AllocGlobal + Abort>(
+    rt: &R,
+    line: &str,
+    portion: u64,
+    calls: &[Call],
+) -> Result<(), AllocError>
+    requires { 0 < portion }
+{
+    for op in [Op::Find, Op::Read, Op::Begin, Op::Append] {
+        ends(rt, line, portion, calls, (op, 0, ""))?;
+    }
+    Ok(())
+}
+
+fn fails_in_portions<R: Threads + Wait + Sync + AllocGlobal + Abort>(
+    rt: &R,
+    line: &str,
+    portion: usize,
+    reports: bool,
+) -> Result<(), AllocError>
+    requires { 0 < portion }
+{
+    let calls = calls_of(rt.alloc(), portion, reports)?;
+    each_fails(rt, line, portion as u64, calls.as_slice())?;
+    all_are_made(rt, line, portion as u64, calls.as_slice())
+}
+
 #[test]
-fn failing_calls(rt: HostRuntime) -> Result<(), Fail> {
+fn failing_calls(rt: HostRuntime) -> Result<(), AllocError> {
     for (line, reports) in LINES {
         for portion in [1, 7, 64] {
-            let calls = calls_of(rt.alloc(), portion, reports)?;
-            for (at, call) in calls.iter().enumerate() {
-                let end = match call.op {
-                    Op::Find | Op::Read => (call.op, 6, "read fault\n"),
-                    _ => (call.op, 7, "write fault\n"),
-                };
-                ends(&rt, line, portion as u64, &calls[..at], end)?;
-            }
-            for op in [Op::Find, Op::Read, Op::Begin, Op::Append] {
-                ends(&rt, line, portion as u64, calls.as_slice(), (op, 0, ""))?;
-            }
+            fails_in_portions(&rt, line, portion, reports)?;
         }
     }
     Ok(())
@@ -186,52 +253,84 @@ fn finds<R: Threads + Wait + Sync + AllocGlobal + Abort>(
     nth: u64,
     status: u8,
     says: &str,
-) -> Result<(), Fail> {
-    let mut depot = files(rt.alloc(), b"x", b"")?;
+) -> Result<(), AllocError> {
+    let mut depot = files(rt.alloc(), b"x")?;
     depot.fail(Op::Find, nth)?;
-    let (code, said) = ended_by(rt, &mut depot, Q1)?;
-    assert_eq!(rt; (code, said.bytes()), (status, says.as_bytes()));
-    Ok(())
+    ends_with(rt, &mut depot, Q1, status, says)
 }
 
 #[test]
-fn faults_and_bad_lines(rt: HostRuntime) -> Result<(), Fail> {
+fn faults_and_bad_lines(rt: HostRuntime) -> Result<(), AllocError> {
     finds(&rt, 1, 6, "read fault\n")?;
     finds(&rt, 2, 3, "events line 1: kind\n")
 }
 
-/// Runs a line where the output takes so many bytes one by one and then fails, and compares its end.
+/// An output that takes so many bytes one by one and then fails.
+fn failing_output(alloc: Global, taken: u64) -> Result<MemSink, AllocError> {
+    let mut said = MemSink::new(alloc);
+    said.take_at_most(1);
+    said.fail(Op::Write, taken.saturating_add(1))?;
+    Ok(said)
+}
+
+/// Runs a line with such an output, and compares its end.
 fn says_first<R: Threads + Wait + Sync + AllocGlobal + Abort>(
     rt: &R,
     line: &str,
     events: &[u8],
-    taken: u64,
-    end: (u8, &[u8]),
-) -> Result<(), Fail> {
-    let mut depot = files(rt.alloc(), events, b"")?;
-    let mut said = MemSink::new(rt.alloc());
-    said.take_at_most(1);
-    said.fail(Op::Write, taken.saturating_add(1))?;
-    let words = cut(rt.alloc(), line)?;
-    let ended = run(rt, words.as_slice(), &mut depot, &mut said, &OpenGate);
-    assert_eq!(rt; (ended.code, said.bytes()), end);
+    says: &[u8],
+    status: u8,
+) -> Result<(), AllocError> {
+    let mut depot = files(rt.alloc(), events)?;
+    let mut said = failing_output(rt.alloc(), says.len() as u64)?;
+    let code = code_of(rt, &mut depot, &mut said, line, &OpenGate)?;
+    assert!(rt; code == status, "{line}");
+    assert!(rt; said.bytes() == says, "{line}");
     Ok(())
 }
 
-/// The words, the events, the status where the output fails and where it doesn't, and what is said.
-const SAID: [(&str, &[u8], u8, u8, &str); 2] = [
-    (Q1, b"x", 3, 3, "events line 1: kind\n"),
-    (CHECK, THREE_BIDS, 7, 0, "ok 3 events 0 controls\n"),
+/// The output fails at each of the bytes, and at none.
+fn fails_at_each<R: Threads + Wait + Sync + AllocGlobal + Abort>(
+    rt: &R,
+    said: &Said,
+) -> Result<(), AllocError> {
+    let says = said.says.as_bytes();
+    for taken in 0..says.len() {
+        says_first(rt, said.line, said.events, &says[..taken], said.fault)?;
+    }
+    says_first(rt, said.line, said.events, says, said.whole)
+}
+
+/// The words, the events, what is said, and the status where the output fails and where it doesn't.
+struct Said {
+    line: &'static str,
+    events: &'static [u8],
+    says: &'static str,
+    fault: u8,
+    whole: u8,
+}
+
+const SAID: [Said; 2] = [
+    Said {
+        line: Q1,
+        events: b"x",
+        says: "events line 1: kind\n",
+        fault: 3,
+        whole: 3,
+    },
+    Said {
+        line: CHECK,
+        events: THREE_BIDS,
+        says: "ok 3 events 0 controls\n",
+        fault: 7,
+        whole: 0,
+    },
 ];
 
 #[test]
-fn failing_output(rt: HostRuntime) -> Result<(), Fail> {
-    for (line, events, fault, whole, says) in SAID {
-        for taken in 0..=says.len() {
-            let status = if taken < says.len() { fault } else { whole };
-            let end = (status, &says.as_bytes()[..taken]);
-            says_first(&rt, line, events, taken as u64, end)?;
-        }
+fn output_that_fails(rt: HostRuntime) -> Result<(), AllocError> {
+    for said in &SAID {
+        fails_at_each(&rt, said)?;
     }
     Ok(())
 }

@@ -2,11 +2,14 @@
 ghost use Rattle.std.specs.Prelude.{⊤};
 ghost use Rattle.mp_outside.specs.Memory.{depot_files, depot_read_faults, depot_write_faults};
 
-use crate::fixture::{ended_at, files};
+use crate::fixture::{code_of, files};
 use mp_gate::{Gate, Kind};
-use mp_outside::{Depot, Fault, MemDepot};
+use mp_outside::{Depot, Fault, MemDepot, MemSink};
+use std::alloc::AllocError;
+use std::process::Abort;
+use std::sync::Wait;
 use std::sync::atomic::{AtomicBool, Ordering};
-use std::test::Fail;
+use std::thread::Threads;
 
 /// What a gate and a depot have seen.
 #[derive(Drop)]
@@ -96,23 +99,45 @@ const LINES: [&str; 2] = [
     "megaphone replay --query q1 --events e --config c --out o --workers 3 --bins 4",
 ];
 
+fn answers<R: Threads + Wait + Sync + AllocGlobal + Abort>(
+    rt: &R,
+    line: &str,
+    depot: &mut SeenDepot<'_>,
+    gate: &SeenGate<'_>,
+) -> Result<(), AllocError> {
+    let mut said = MemSink::new(rt.alloc());
+    let code = code_of(rt, depot, &mut said, line, gate)?;
+    assert!(rt; code == 0, "{line}");
+    assert!(rt; depot.memory.get("o") == Some(b"5|1|1|178\n5|4|1|89\n".as_slice()));
+    Ok(())
+}
+
+fn worked(rt: &impl Abort, seen: &Seen) {
+    assert!(rt; seen.first_applies.load(Ordering::SeqCst));
+    assert!(rt; seen.second_applies.load(Ordering::SeqCst));
+    assert!(rt; !seen.strayed.load(Ordering::SeqCst));
+}
+
+fn answers_by_workers<R: Threads + Wait + Sync + AllocGlobal + Abort>(
+    rt: &R,
+    line: &str,
+) -> Result<(), AllocError> {
+    let seen = Seen::nothing();
+    let mut depot = SeenDepot {
+        memory: files(rt.alloc(), TWO_BIDS)?,
+        seen: &seen,
+    };
+    answers(rt, line, &mut depot, &SeenGate { seen: &seen })?;
+    worked(rt, &seen);
+    Ok(())
+}
+
 // An answer that is computed beside the workers is appended while worker 0 is at no write, and workers for show alone apply
 // no group.
 #[test]
-fn answers_without_workers(rt: HostRuntime) -> Result<(), Fail> {
+fn answers_without_workers(rt: HostRuntime) -> Result<(), AllocError> {
     for line in LINES {
-        let seen = Seen::nothing();
-        let gate = SeenGate { seen: &seen };
-        let mut depot = SeenDepot {
-            memory: files(rt.alloc(), TWO_BIDS, b"")?,
-            seen: &seen,
-        };
-        let (code, _) = ended_at(&rt, &mut depot, line, &gate)?;
-        let answer = b"5|1|1|178\n5|4|1|89\n".as_slice();
-        assert_eq!(rt; (code, depot.memory.get("o")), (0, Some(answer)));
-        assert!(rt; seen.first_applies.load(Ordering::SeqCst));
-        assert!(rt; seen.second_applies.load(Ordering::SeqCst));
-        assert!(rt; !seen.strayed.load(Ordering::SeqCst));
+        answers_by_workers(&rt, line)?;
     }
     Ok(())
 }

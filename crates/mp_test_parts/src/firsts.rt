@@ -3,11 +3,11 @@ ghost use Rattle.std.specs.Prelude.{◌≡◌, None, replicate};
 
 use mp_firsts::Firsts;
 use mp_names::Time;
+use std::alloc::AllocError;
 use std::process::Abort;
-use std::test::Fail;
 
 fn first_is(rt: &impl Abort, firsts: &Firsts, wake: Option<(Time, u64)>) {
-    assert_eq!(rt; firsts.first(), wake);
+    assert!(rt; firsts.first() == wake);
 }
 
 // A wake comes at place 1, then one that is earlier by its key at place 0, which goes again.
@@ -24,7 +24,7 @@ fn follow_changes(rt: &impl Abort, firsts: &mut Firsts)
 }
 
 #[test]
-fn the_first_wake_follows_changes(rt: HostRuntime) -> Result<(), Fail> {
+fn the_first_wake_follows_changes(rt: HostRuntime) -> Result<(), AllocError> {
     let mut firsts = Firsts::new(rt.alloc(), 3)?;
     follow_changes(&rt, &mut firsts);
     Ok(())

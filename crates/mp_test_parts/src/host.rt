@@ -12,7 +12,6 @@ use mp_samples::{AnsweringBids, one_move, state_of_bin, to_worker_two};
 use std::alloc::{AllocError, Global};
 use std::marker::Brand;
 use std::process::Abort;
-use std::test::Fail;
 
 // An empty list with room for a number for each time that the state has a wake at.
 fn room_for(alloc: Global, state: &BinState<u64>) -> Result<Vec<(Time, u64)>, AllocError>
@@ -62,7 +61,7 @@ fn wake_is_told<J: Naming>(
 }
 
 fn is_one_at_fifteen(rt: &impl Abort, numbers: &[(Time, u64)]) {
-    assert_eq!(rt; numbers, [(15, 1)].as_slice());
+    assert!(rt; numbers == [(15, 1)].as_slice());
 }
 
 // The bin comes at 10.
@@ -96,7 +95,7 @@ fn wake_is_ready<J: Naming>(
 }
 
 fn is_ready(rt: &impl Abort, group: Option<(Time, u64)>) {
-    assert_eq!(rt; group, Some((15, 7)));
+    assert!(rt; group == Some((15, 7)));
 }
 
 // Worker 2 takes the bin in hand at 10. Its wake at 15 waits for the frontier.
@@ -133,25 +132,22 @@ fn nothing_leaves<J: Naming>(rt: &impl Abort, host: &mut Host<'_, AnsweringBids,
 }
 
 fn pending_are<J: Naming>(rt: &impl Abort, host: &Host<'_, AnsweringBids, J>, count: u64) {
-    assert_eq!(rt; host.pending(15), count);
+    assert!(rt; host.pending(15) == count);
 }
 
 fn auction_is_marked(rt: &impl Abort, state: &BinState<u64>) {
-    assert_eq!(rt; state.cells.get(&7).copied(), Some(1));
+    assert!(rt; state.cells.get(&7).copied() == Some(1));
 }
 
 // The bin leaves with its mark and its wake, and comes back.
-fn bin_leaves<J: Naming>(
-    rt: &impl Abort,
-    host: &mut Host<'_, AnsweringBids, J>,
-) -> Result<(), Fail> {
+fn bin_leaves<J: Naming>(rt: &impl Abort, host: &mut Host<'_, AnsweringBids, J>) -> bool {
     let Some(one) = host.take_bin(1, 20) else {
-        return Err("no state".into());
+        return false;
     };
     auction_is_marked(rt, &one.state);
     pending_are(rt, host, 0);
     host.put_back(one);
-    Ok(())
+    true
 }
 
 // The bin leaves with the wake at 15, once its wakes are sorted, and comes back with it.
@@ -159,10 +155,10 @@ fn bin_comes_back<J: Naming>(
     rt: &impl Abort,
     alloc: Global,
     host: &mut Host<'_, AnsweringBids, J>,
-) -> Result<(), Fail> {
+) -> Result<(), AllocError> {
     wake_leaves(rt, alloc, host)?;
     nothing_leaves(rt, host);
-    bin_leaves(rt, host)?;
+    assert!(rt; bin_leaves(rt, host));
     pending_are(rt, host, 1);
     Ok(())
 }
@@ -171,7 +167,7 @@ fn bin_comes_and_leaves<J: Naming>(
     rt: &impl Abort,
     alloc: Global,
     job: &Job<AnsweringBids>,
-) -> Result<(), Fail>
+) -> Result<(), AllocError>
     requires job { job.now ≡ J.job }
     requires one_move { J.job ≡ one_move }
 {
@@ -182,7 +178,7 @@ fn bin_comes_and_leaves<J: Naming>(
 }
 
 #[test]
-fn a_bin_comes_and_leaves_with_its_wakes(rt: HostRuntime) -> Result<(), Fail> {
+fn a_bin_comes_and_leaves_with_its_wakes(rt: HostRuntime) -> Result<(), AllocError> {
     let job = one_move(rt.alloc())?;
     bin_comes_and_leaves::<Brand>(&rt, rt.alloc(), &job)
 }

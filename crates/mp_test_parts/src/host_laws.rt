@@ -6,17 +6,15 @@ use mp_host_laws::{
     waiting_groups_are_told,
 };
 use mp_samples::WakingBids;
-use std::test::Fail;
 
 #[test]
-fn laws_hold_of_a_query(_rt: HostRuntime) -> Result<(), Fail> {
+fn laws_hold_of_a_query(_rt: HostRuntime) {
     hosts_begin_empty::<WakingBids>();
     records_are_held::<WakingBids>();
     waiting_groups_are_told::<WakingBids>();
     groups_are_held::<WakingBids>();
     bins_leave::<WakingBids>();
     packets_are_held::<WakingBids>();
-    Ok(())
 }
 
 /// Which group is first, which keys wait and what is told of wakes, worked out.
@@ -25,7 +23,6 @@ fn busy_host_waits()
 {}
 
 #[test]
-fn definitions_are_worked_out(_rt: HostRuntime) -> Result<(), Fail> {
+fn definitions_are_worked_out(_rt: HostRuntime) {
     busy_host_waits();
-    Ok(())
 }

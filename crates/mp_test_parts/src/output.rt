@@ -11,7 +11,6 @@ use mp_stamps::{Loc, Seen};
 use std::alloc::{AllocError, Global};
 use std::marker::Brand;
 use std::process::Abort;
-use std::test::Fail;
 
 // The job's three rows come, the last of them first.
 fn receive_three<J: Naming>(
@@ -41,11 +40,11 @@ fn writes<J: Naming>(
     seen: &Seen,
     wrote: Wrote,
 ) {
-    assert_eq!(rt; rows.write_due(seen, sink), Ok(wrote));
+    assert!(rt; rows.write_due(seen, sink) == Ok(wrote));
 }
 
 fn bytes_are(rt: &impl Abort, sink: &MemSink, bytes: &[u8]) {
-    assert_eq!(rt; sink.bytes(), bytes);
+    assert!(rt; sink.bytes() == bytes);
 }
 
 fn first_time_is_written<J: Naming>(
@@ -96,13 +95,12 @@ fn times_are_written<J: Naming>(rt: &impl Abort, alloc: Global) -> Result<(), Al
 }
 
 #[test]
-fn each_time_is_written_once_passed(rt: HostRuntime) -> Result<(), Fail> {
-    times_are_written::<Brand>(&rt, rt.alloc())?;
-    Ok(())
+fn each_time_is_written_once_passed(rt: HostRuntime) -> Result<(), AllocError> {
+    times_are_written::<Brand>(&rt, rt.alloc())
 }
 
 fn is_refused(rt: &impl Abort, refused: Result<Wrote, OutRefused>) {
-    assert_eq!(rt; refused, Err(OutRefused::WriteFault));
+    assert!(rt; refused == Err(OutRefused::WriteFault));
 }
 
 // A try to write that fails, and then one that does not.
@@ -135,9 +133,8 @@ fn fault_leaves_rows<J: Naming>(rt: &impl Abort, alloc: Global) -> Result<(), Al
 }
 
 #[test]
-fn a_fault_leaves_the_rows(rt: HostRuntime) -> Result<(), Fail> {
-    fault_leaves_rows::<Brand>(&rt, rt.alloc())?;
-    Ok(())
+fn a_fault_leaves_the_rows(rt: HostRuntime) -> Result<(), AllocError> {
+    fault_leaves_rows::<Brand>(&rt, rt.alloc())
 }
 
 // The output of this key's group at a time.
@@ -181,7 +178,7 @@ fn key_sent_is<J: Naming>(
     unsent: &mut Unsent<AnsweringBids, J>,
     key: Option<u64>,
 ) {
-    assert_eq!(rt; key_sent(unsent), key);
+    assert!(rt; key_sent(unsent) == key);
 }
 
 fn rows_go_in_order<J: Naming>(rt: &impl Abort, alloc: Global) -> Result<(), AllocError>
@@ -197,8 +194,7 @@ fn rows_go_in_order<J: Naming>(rt: &impl Abort, alloc: Global) -> Result<(), All
 }
 
 #[test]
-fn a_row_that_is_held_again_goes_in_front(rt: HostRuntime) -> Result<(), Fail> {
+fn a_row_that_is_held_again_goes_in_front(rt: HostRuntime) -> Result<(), AllocError> {
     answer_rows_are_rows::<AnsweringBids>();
-    rows_go_in_order::<Brand>(&rt, rt.alloc())?;
-    Ok(())
+    rows_go_in_order::<Brand>(&rt, rt.alloc())
 }

@@ -6,10 +6,9 @@ use mp_worker_invariant::{
     conditions_are_told, groups_hand_on, outputs_go_in_turn, parts_are_asked, parts_begin,
     parts_hear_their_own, rows_are_sent, shares_are_ingested, steps_keep_parts, steps_stay_legal,
 };
-use std::test::Fail;
 
 #[test]
-fn laws_hold_of_a_query(_rt: HostRuntime) -> Result<(), Fail> {
+fn laws_hold_of_a_query(_rt: HostRuntime) {
     parts_begin::<WakingBids>();
     parts_are_asked::<WakingBids>();
     parts_hear_their_own::<WakingBids>();
@@ -20,7 +19,6 @@ fn laws_hold_of_a_query(_rt: HostRuntime) -> Result<(), Fail> {
     steps_stay_legal::<WakingBids>();
     conditions_are_told::<WakingBids>();
     steps_keep_parts::<WakingBids>();
-    Ok(())
 }
 
 /// What the groups of a bid give, worked out.
@@ -34,8 +32,7 @@ fn controls_go_in_turn()
 {}
 
 #[test]
-fn definitions_are_worked_out(_rt: HostRuntime) -> Result<(), Fail> {
+fn definitions_are_worked_out(_rt: HostRuntime) {
     one_bid_gives_a_row();
     controls_go_in_turn();
-    Ok(())
 }

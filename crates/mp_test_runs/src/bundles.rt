@@ -1,19 +1,15 @@
 //! Records that travel together: seventy of one time and one key, in two messages.
-ghost use Rattle.std.specs.Prelude.{◌≡◌};
 ghost use Rattle.mp_model.specs.Legal.{EventIsLegal};
 
-use crate::script::{Line, plays};
-use mp_drive::Plain;
+use crate::script::{Line, Part, follows};
+use mp_drive::DriveStop;
 use mp_job::{Event, Job, Shape};
-use mp_model::{Naming, Value};
-use mp_names::{Kind, Name, Tag};
-use mp_outside::MemSink;
+use mp_model::Value;
+use mp_names::{Frontier, Kind, Loc, Name, Tag};
 use mp_q_simple::Q1;
 use mp_worker::Turn;
 use std::alloc::{AllocError, Global};
 use std::marker::Brand;
-use std::process::Abort;
-use std::test::Fail;
 
 const SHAPE: Shape = Shape {
     workers: 1,
@@ -45,18 +41,26 @@ fn seventy_bids(alloc: Global) -> Result<Job<Q1>, AllocError> {
     Ok(job)
 }
 
-// So many records, of which this is the first by its index.
-fn records(index: u64, count: u64) -> Turn {
-    Turn::Did(
-        Name::Rec {
-            stage: 0,
-            time: 1,
-            key: 1,
-            tag: Tag(0, index),
-        },
-        count,
-    )
-}
+// The first 64 records, and the others.
+const FIRST_BUNDLE: Turn = Turn::Did(
+    Name::Rec {
+        stage: 0,
+        time: 1,
+        key: 1,
+        tag: Tag(0, 0),
+    },
+    64,
+);
+
+const SECOND_BUNDLE: Turn = Turn::Did(
+    Name::Rec {
+        stage: 0,
+        time: 1,
+        key: 1,
+        tag: Tag(0, 64),
+    },
+    6,
+);
 
 const GROUP: Turn = Turn::Did(
     Name::Group {
@@ -67,28 +71,33 @@ const GROUP: Turn = Turn::Did(
     1,
 );
 
+// Each record is taken in by itself.
 fn ingested(alloc: Global) -> Result<Vec<Line>, AllocError> {
     let mut lines = Vec::new(alloc);
     for index in 0..RECORDS {
-        lines.push((0, Kind::Ingest, records(index, 1)))?;
+        let name = Name::Rec {
+            stage: 0,
+            time: 1,
+            key: 1,
+            tag: Tag(0, index),
+        };
+        lines.push((0, Kind::Ingest, Turn::Did(name, 1)))?;
     }
     Ok(lines)
 }
 
 // The first 64 travel in one message, and the others in the next.
-fn applied() -> [Line; 9] {
-    [
-        (0, Kind::Route(0), records(0, 64)),
-        (0, Kind::Route(0), records(64, 6)),
-        (0, Kind::Route(0), Turn::NotNow),
-        (0, Kind::Receive(0), records(0, 64)),
-        (0, Kind::Receive(0), records(64, 6)),
-        (0, Kind::Receive(0), Turn::NotNow),
-        (0, Kind::Exchange, Turn::Seen(1)),
-        (0, Kind::Apply(0), GROUP),
-        (0, Kind::Apply(0), Turn::NotNow),
-    ]
-}
+const APPLIED: [Line; 9] = [
+    (0, Kind::Route(0), FIRST_BUNDLE),
+    (0, Kind::Route(0), SECOND_BUNDLE),
+    (0, Kind::Route(0), Turn::NotNow),
+    (0, Kind::Receive(0), FIRST_BUNDLE),
+    (0, Kind::Receive(0), SECOND_BUNDLE),
+    (0, Kind::Receive(0), Turn::NotNow),
+    (0, Kind::Exchange, Turn::Seen(1)),
+    (0, Kind::Apply(0), GROUP),
+    (0, Kind::Apply(0), Turn::NotNow),
+];
 
 // Each output of the group is an answer row.
 fn rows_sent(alloc: Global) -> Result<Vec<Line>, AllocError> {
@@ -104,19 +113,32 @@ fn rows_sent(alloc: Global) -> Result<Vec<Line>, AllocError> {
     Ok(lines)
 }
 
-fn two_messages<R: AllocGlobal + Abort, J: Naming>(rt: &R, job: &Job<Q1>) -> Result<(), Fail>
-    requires job { job.now ≡ J.job }
-{
-    let mut sink = MemSink::new(rt.alloc());
-    let mut plain = Plain::<Q1, J>::open(rt.alloc(), job, 100)?;
-    plays(rt, &mut plain, &ingested(rt.alloc())?, &mut sink)?;
-    plays(rt, &mut plain, &applied(), &mut sink)?;
-    plays(rt, &mut plain, &rows_sent(rt.alloc())?, &mut sink)?;
-    Ok(())
+// What is seen between them: worker 0 exchanges once, before it applies the group.
+fn parts<'l>(ingested: &'l [Line], sent: &'l [Line]) -> [Part<'l>; 3] {
+    [
+        Part {
+            lines: ingested,
+            at: Loc::Source,
+            frontier: Frontier::At(1),
+        },
+        Part {
+            lines: &APPLIED,
+            at: Loc::Mail(0),
+            frontier: Frontier::Done,
+        },
+        Part {
+            lines: sent,
+            at: Loc::Host(0),
+            frontier: Frontier::At(1),
+        },
+    ]
 }
 
 #[test]
-fn seventy_in_two_bundles(rt: HostRuntime) -> Result<(), Fail> {
+fn seventy_in_two_bundles(rt: HostRuntime) -> Result<(), DriveStop> {
     let job = seventy_bids(rt.alloc())?;
-    two_messages::<_, Brand>(&rt, &job)
+    let ingested = ingested(rt.alloc())?;
+    let sent = rows_sent(rt.alloc())?;
+    let parts = parts(ingested.as_slice(), sent.as_slice());
+    follows::<Q1, Brand>(&rt, rt.alloc(), &job, 100, &parts)
 }

@@ -7,13 +7,9 @@
 #[cfg(test)]
 mod bundles;
 #[cfg(test)]
-mod draws;
-#[cfg(test)]
 mod fold;
 #[cfg(test)]
 mod handing;
-#[cfg(test)]
-mod passes;
 #[cfg(test)]
 mod schedule;
 #[cfg(test)]

@@ -2,19 +2,19 @@
 ghost use Rattle.std.specs.Prelude.{◌≡◌, ◌<◌};
 
 use crate::handing::one_move;
-use mp_drive::{Draws, Plain};
+use mp_drive::{Draws, DriveStop, replay};
 use mp_gate::{Gate, OpenGate};
 use mp_job::Job;
 use mp_model::Naming;
 use mp_names::Kind;
 use mp_outside::MemSink;
 use mp_q_auction::Q4;
-use mp_worker::Turn;
 use std::alloc::{AllocError, Global};
 use std::cell::Cell;
 use std::marker::Brand;
 use std::process::Abort;
-use std::test::Fail;
+
+const ANSWER: &[u8] = b"100|10|60\n";
 
 type Step = (u32, Kind);
 
@@ -136,83 +136,61 @@ impl Gate for ListedGate {
     }
 }
 
+// A gate that waits for these steps.
+fn listed(alloc: Global) -> Result<ListedGate, AllocError> {
+    Ok(ListedGate {
+        steps: places_tried(alloc)?,
+        passes: Cell::new(0),
+        wrong: Cell::new(0),
+    })
+}
+
+// Each of the steps was passed for, in order, and no other.
+fn all_passed(rt: &impl Abort, gate: &ListedGate) {
+    assert!(rt; gate.wrong.get() == 0);
+    assert!(rt; gate.passes.get() == gate.steps.len() as u64);
+}
+
 // The schedule tries what it should, and makes as many steps.
 fn seed_makes_the_steps<J: Naming>(
     rt: &impl Abort,
     alloc: Global,
     job: &Job<Q4>,
-) -> Result<(), Fail>
+    gate: &ListedGate,
+    sink: &mut MemSink,
+) -> Result<(), DriveStop>
     requires { job.now ≡ J.job }
 {
-    let gate = ListedGate {
-        steps: places_tried(alloc)?,
-        passes: Cell::new(0),
-        wrong: Cell::new(0),
-    };
-    let mut sink = MemSink::new(alloc);
-    let mut plain = Plain::<Q4, J>::open(alloc, job, 64)?;
-    let Ok(made) = plain.drive_seed(0, &gate, &mut sink) else {
-        return Err("the run stopped".into());
-    };
-    assert_eq!(rt; made, 42);
-    assert_eq!(rt; gate.wrong.get(), 0);
-    assert_eq!(rt; gate.passes.get(), gate.steps.len() as u64);
-    assert_eq!(rt; sink.bytes(), b"100|10|60\n".as_slice());
+    let made = replay::<Q4, J, _, _>(alloc, job, 64, 0, gate, sink)?;
+    assert!(rt; made == 42);
+    assert!(rt; sink.bytes() == ANSWER);
     Ok(())
 }
 
 #[test]
-fn the_schedule_of_seed_0(rt: HostRuntime) -> Result<(), Fail> {
+fn the_schedule_of_seed_0(rt: HostRuntime) -> Result<(), DriveStop> {
     let job = one_move(rt.alloc())?;
-    seed_makes_the_steps::<Brand>(&rt, rt.alloc(), &job)
-}
-
-// Driven as a list, each of these steps is made, and after them each worker knows the end.
-fn list_makes_the_steps<J: Naming>(
-    rt: &impl Abort,
-    alloc: Global,
-    job: &Job<Q4>,
-) -> Result<(), Fail>
-    requires { job.now ≡ J.job }
-{
-    let mut sink = MemSink::new(alloc);
-    let mut plain = Plain::<Q4, J>::open(alloc, job, 64)?;
-    let Ok(turns) = plain.drive_list(alloc, &STEPS, &mut sink) else {
-        return Err("the list stopped".into());
-    };
-    assert_eq!(rt; turns.len(), 42);
-    assert!(rt; turns.iter().all(|turn| *turn != Turn::NotNow));
-    assert!(rt; plain.is_finished());
-    assert_eq!(rt; sink.bytes(), b"100|10|60\n".as_slice());
+    let gate = listed(rt.alloc())?;
+    let mut sink = MemSink::new(rt.alloc());
+    seed_makes_the_steps::<Brand>(&rt, rt.alloc(), &job, &gate, &mut sink)?;
+    all_passed(&rt, &gate);
     Ok(())
-}
-
-#[test]
-fn the_schedule_as_a_list(rt: HostRuntime) -> Result<(), Fail> {
-    let job = one_move(rt.alloc())?;
-    list_makes_the_steps::<Brand>(&rt, rt.alloc(), &job)
 }
 
 // How many steps the schedule of a seed has.
-fn steps_of_seed<J: Naming>(alloc: Global, job: &Job<Q4>, seed: u64) -> Result<u64, Fail>
+fn steps_of_seed<J: Naming>(alloc: Global, job: &Job<Q4>, seed: u64) -> Result<u64, DriveStop>
     requires { job.now ≡ J.job }
 {
     let mut sink = MemSink::new(alloc);
-    let mut plain = Plain::<Q4, J>::open(alloc, job, 64)?;
-    match plain.drive_seed(seed, &OpenGate, &mut sink) {
-        Ok(made) => Ok(made),
-        Err(_) => Err("the run stopped".into()),
-    }
+    replay::<Q4, J, _, _>(alloc, job, 64, seed, &OpenGate, &mut sink)
 }
 
 #[test]
-fn other_seeds_make_other_steps(rt: HostRuntime) -> Result<(), Fail> {
+fn other_seeds_make_other_steps(rt: HostRuntime) -> Result<(), DriveStop> {
     let job = one_move(rt.alloc())?;
-    assert_eq!(rt; steps_of_seed::<Brand>(rt.alloc(), &job, 1)?, 46);
-    assert_eq!(rt; steps_of_seed::<Brand>(rt.alloc(), &job, 7)?, 50);
-    assert_eq!(rt;
-        steps_of_seed::<Brand>(rt.alloc(), &job, 281_474_976_710_656)?,
-        46
-    );
+    for (seed, steps) in [(1, 46), (7, 50), (281_474_976_710_656, 46)] {
+        let made = steps_of_seed::<Brand>(rt.alloc(), &job, seed)?;
+        assert!(rt; made == steps, "seed {seed}");
+    }
     Ok(())
 }

@@ -1,33 +1,94 @@
-//! Lists of steps, with what each answers.
+//! Lists of steps, with what each answers and what is seen after them.
 ghost use Rattle.std.specs.Prelude.{◌≡◌};
+ghost use Rattle.mp_output.specs.Rows.{GivesRows};
 
-use mp_drive::Plain;
+use mp_drive::{DriveStop, Plain};
+use mp_job::Job;
 use mp_model::{Naming, Query};
-use mp_names::Kind;
+use mp_names::{Frontier, Kind, Loc};
 use mp_outside::MemSink;
 use mp_worker::Turn;
+use std::alloc::{AllocError, Global};
 use std::process::Abort;
-use std::test::Fail;
 
 /// A worker, the kind of its step, and what that answers.
 pub type Line = (u32, Kind, Turn);
 
-/// Drives the steps of this script as one list, and compares what they answer.
-pub fn plays<'a, R: AllocGlobal + Abort, Q: Query, J: Naming>(
-    rt: &R,
-    plain: &mut Plain<'a, Q, J>,
-    script: &[Line],
-    sink: &mut MemSink,
-) -> Result<(), Fail> {
-    let mut steps = Vec::new(rt.alloc());
-    let mut turns = Vec::new(rt.alloc());
-    for (worker, kind, turn) in script {
+/// Steps of a list, and a frontier that is seen after them.
+#[derive(Clone, Copy)]
+pub struct Part<'l> {
+    pub lines: &'l [Line],
+    pub at: Loc,
+    pub frontier: Frontier,
+}
+
+/// The steps of these lines.
+fn steps_of(alloc: Global, lines: &[Line]) -> Result<Vec<(u32, Kind)>, AllocError> {
+    let mut steps = Vec::new(alloc);
+    for (worker, kind, _) in lines {
         steps.push((*worker, *kind))?;
-        turns.push(*turn)?;
     }
-    let Ok(answered) = plain.drive_list(rt.alloc(), steps.as_slice(), sink) else {
-        return Err("the list stopped".into());
-    };
-    assert_eq!(rt; answered.as_slice(), turns.as_slice());
+    Ok(steps)
+}
+
+fn is_turn_of(line: Option<&Line>, turn: Turn) -> bool {
+    match line {
+        Some((_, _, wanted)) => *wanted == turn,
+        None => false,
+    }
+}
+
+/// The turns are those of the lines.
+fn are_as_wanted(rt: &impl Abort, turns: &[Turn], lines: &[Line]) {
+    assert!(rt; turns.len() == lines.len());
+    for (at, turn) in turns.iter().enumerate() {
+        assert!(rt; is_turn_of(lines.get(at), *turn), "line {at}");
+    }
+}
+
+/// Drives these steps as one list, and compares what they answer.
+pub fn plays<Q: Query, J: Naming>(
+    rt: &impl Abort,
+    alloc: Global,
+    plain: &mut Plain<'_, Q, J>,
+    lines: &[Line],
+    sink: &mut MemSink,
+) -> Result<(), DriveStop> {
+    let steps = steps_of(alloc, lines)?;
+    let turns = plain.drive_list(alloc, steps.as_slice(), sink)?;
+    are_as_wanted(rt, turns.as_slice(), lines);
+    Ok(())
+}
+
+/// Drives the steps of each part, and compares what they answer and what is seen then.
+fn goes_on<Q: Query, J: Naming>(
+    rt: &impl Abort,
+    alloc: Global,
+    plain: &mut Plain<'_, Q, J>,
+    parts: &[Part<'_>],
+    sink: &mut MemSink,
+) -> Result<(), DriveStop> {
+    for part in parts {
+        plays(rt, alloc, plain, part.lines, sink)?;
+        assert!(rt; plain.seen().frontier(part.at) == part.frontier);
+    }
+    Ok(())
+}
+
+/// Workers with mailboxes for `depth` messages follow these parts. None of them writes.
+pub fn follows<Q: Query, J: Naming>(
+    rt: &impl Abort,
+    alloc: Global,
+    job: &Job<Q>,
+    depth: u32,
+    parts: &[Part<'_>],
+) -> Result<(), DriveStop>
+    requires job { job.now ≡ J.job }
+    requires rows { GivesRows (Q.facts J.job.rules) }
+{
+    let mut sink = MemSink::new(alloc);
+    let mut plain = Plain::<Q, J>::open(alloc, job, depth)?;
+    goes_on(rt, alloc, &mut plain, parts, &mut sink)?;
+    assert!(rt; sink.bytes().is_empty());
     Ok(())
 }

@@ -1,8 +1,7 @@
 //! Numbers in ascending order in blocks, parted by a limit, with ample memory.
 use mp_ordered::{Cut, Order, OrderedBlocks};
-use std::alloc::Global;
+use std::alloc::{AllocError, Global};
 use std::process::Abort;
-use std::test::*;
 
 struct Rising;
 
@@ -33,16 +32,6 @@ impl Cut<u64> for Below {
     }
 }
 
-// The numbers beside a limit: the last below it, and the first from it on.
-fn beside(numbers: &OrderedBlocks<u64, Rising>, limit: u64) -> (Option<u64>, Option<u64>) {
-    let _ = numbers.first();
-    let cut = Below { limit };
-    (
-        numbers.last_in_front(&cut).copied(),
-        numbers.first_behind(&cut).copied(),
-    )
-}
-
 // Takes out the last number below a limit.
 fn take_below(numbers: &mut OrderedBlocks<u64, Rising>, limit: u64) -> Option<u64> {
     let _ = numbers.first();
@@ -60,7 +49,7 @@ fn drop_below(numbers: &mut OrderedBlocks<u64, Rising>, limit: u64) -> usize {
 }
 
 // The numbers below 300, put in out of order.
-fn below_300(alloc: Global) -> Result<OrderedBlocks<u64, Rising>, Fail> {
+fn below_300(alloc: Global) -> Result<OrderedBlocks<u64, Rising>, AllocError> {
     let mut numbers = OrderedBlocks::<u64, Rising>::new(alloc);
     numbers.make_room(300)?;
     for place in 0..300 {
@@ -69,32 +58,25 @@ fn below_300(alloc: Global) -> Result<OrderedBlocks<u64, Rising>, Fail> {
     Ok(numbers)
 }
 
-// Parts the numbers below 300 by limits.
-fn stand_beside(rt: &impl Abort, numbers: &OrderedBlocks<u64, Rising>) {
-    for (limit, last, next) in [
-        (0, None, Some(0)),
-        (150, Some(149), Some(150)),
-        (300, Some(299), None),
-    ] {
-        assert_eq!(rt; beside(numbers, limit), (last, next), "at {limit}");
-    }
-}
-
 // Takes numbers out of those below 300.
 fn come_out(rt: &impl Abort, numbers: &mut OrderedBlocks<u64, Rising>) {
-    assert_eq!(rt; take_below(numbers, 150), Some(149));
-    assert_eq!(rt; drop_below(numbers, 296), 295);
-    assert_eq!(rt; numbers.pop_first(), Some(296));
-    assert_eq!(rt; numbers.first(), Some(&297));
+    assert!(rt; take_below(numbers, 150) == Some(149));
+    assert!(rt; drop_below(numbers, 296) == 295);
+}
+
+fn are_left(
+    rt: &impl Abort,
+    numbers: &OrderedBlocks<u64, Rising>,
+    left: &[u64],
+) -> Result<(), AllocError> {
+    let found = numbers.to_vec()?;
+    assert!(rt; found.as_slice() == left);
+    Ok(())
 }
 
 #[test]
-fn numbers_are_parted(rt: HostRuntime) -> Result<(), Fail> {
-    assert!(rt; OrderedBlocks::<u64, Rising>::new(rt.alloc()).is_empty());
+fn numbers_are_parted(rt: HostRuntime) -> Result<(), AllocError> {
     let mut numbers = below_300(rt.alloc())?;
-    stand_beside(&rt, &numbers);
     come_out(&rt, &mut numbers);
-    assert_eq!(rt; numbers.to_vec()?.as_slice(), [297, 298, 299].as_slice());
-    assert_eq!(rt; numbers.as_blocks().len(), 1);
-    Ok(())
+    are_left(&rt, &numbers, &[296, 297, 298, 299])
 }

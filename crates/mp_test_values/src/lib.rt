@@ -10,8 +10,6 @@ mod bins;
 #[cfg(test)]
 mod blocks;
 #[cfg(test)]
-mod gate;
-#[cfg(test)]
 mod outside;
 #[cfg(test)]
 mod postdated;

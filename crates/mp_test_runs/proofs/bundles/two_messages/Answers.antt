@@ -1,5 +1,0 @@
-use Rattle.mp_cli.proofs.GivingRows.{q1_gives_rows}
-use Rattle.mp_test_runs.proofs.bundles.two_messages.Goals as goal
-
-pub open-requires-clause-rows : goal.open-requires-clause-rows
-open-requires-clause-rows g c κs within = q1_gives_rows

@@ -1,6 +1,0 @@
--- One bin is 2^0 of them.
-use Rattle.std.proofs.Common.{arith, refl}
-use Rattle.mp_test_runs.proofs.fold.one_bin.Goals as goal
-
-pub returns-clause-legal : goal.returns-clause-legal
-returns-clause-legal c = record { some_worker = omega arith; few_workers = omega arith; few_bins = omega arith; bins = (0, omega arith, refl) }

@@ -1,5 +1,0 @@
--- The name that is picked is that of the job.
-use Rattle.mp_test_runs.proofs.fold.writes_the_fold.Given as goal
-
-abbrev pub ghosts-replay : goal.ghosts-replay
-ghosts-replay g a = record { job = a.job.now }
