@@ -14,8 +14,8 @@ use Rattle.mp_tally.specs.declared.tally.Tally.{Tally}
 use Rattle.mp_tally.specs.Tallies.{IsTallyOf, TellsLog}
 use Rattle.mp_tally.proofs.Lists.{push_all, some_at}
 use Rattle.mp_tally.proofs.Told.{full_is_tallied}
-use Rattle.mp_refinement.specs.State.{WorkerState}
-use Rattle.mp_refinement.specs.SystemState.{KnowsTheEnd, SystemState}
+use Rattle.mp_worker_refinement.specs.State.{WorkerState}
+use Rattle.mp_worker_refinement.specs.SystemState.{KnowsTheEnd, SystemState}
 use Rattle.mp_drive.specs.Driven.{AllAreFull, AllKnowTheEnd, AreComplete, AreReached}
 use Rattle.mp_drive.proofs.Ended.{finished}
 

@@ -22,8 +22,8 @@ use Rattle.mp_machine.proofs.Worlds.{run_right}
 use Rattle.mp_model.specs.Answers.{one_thread_answer}
 use Rattle.mp_model.specs.Facts.{JobFacts, QueryFacts}
 use Rattle.mp_outline.specs.JobOutline.{outline_of}
-use Rattle.mp_refinement.specs.State.{WorkerState}
-use Rattle.mp_refinement.specs.SystemState.{IsWorkerOf, KnowsTheEnd, SystemState}
+use Rattle.mp_worker_refinement.specs.State.{WorkerState}
+use Rattle.mp_worker_refinement.specs.SystemState.{IsWorkerOf, KnowsTheEnd, SystemState}
 use Rattle.mp_answer_laws.specs.Lines.{written_lines}
 use Rattle.mp_answer_laws.proofs.Written.{full_logs_answer, written_lines_begin}
 use Rattle.mp_drive.specs.Driven.{AllKnowTheEnd, AreReached, HasBegun, HasKept, HasWritten, first_log}

@@ -11,7 +11,7 @@ use Rattle.mp_machine.specs.Worlds.{World, start_of_machine}
 use Rattle.mp_machine.specs.Runs.{Turn, is_made, made_count, run_of_machine, turns_of, world_after}
 use Rattle.mp_machine.proofs.Bounds.{steps_bounded}
 use Rattle.mp_machine.proofs.Worlds.{turns_more}
-use Rattle.mp_refinement.specs.SystemState.{KnowsTheEnd, Refines, SystemState}
+use Rattle.mp_worker_refinement.specs.SystemState.{KnowsTheEnd, Refines, SystemState}
 use Rattle.mp_drive.specs.declared.stop.DriveStop.{DriveStop}
 use Rattle.mp_draws.specs.Draws.{draw_of}
 use Rattle.mp_drive.specs.Driven.{AllKnowTheEnd, AreAfter, AreReached, LeadsOn}

@@ -6,7 +6,7 @@ use Rattle.mp_names.specs.Outlines.{Outline}
 use Rattle.mp_machine.specs.Worlds.{World, start_of_machine}
 use Rattle.mp_machine.specs.Runs.{Turn, NotNow, after_turn, run_of_machine, step_of_machine, turn_of_machine, turns_of, world_after}
 use Rattle.mp_machine.proofs.Worlds.{after_more, turns_more}
-use Rattle.mp_refinement.specs.SystemState.{Refines, SystemState}
+use Rattle.mp_worker_refinement.specs.SystemState.{Refines, SystemState}
 use Rattle.mp_drive.specs.Driven.{AreAfter, LeadsOn}
 
 module _ (o : Outline) where

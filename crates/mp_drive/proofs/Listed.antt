@@ -6,7 +6,7 @@ use Rattle.mp_names.specs.Outlines.{Outline}
 use Rattle.mp_machine.specs.Runs.{Turn, run_of_machine, turns_of, world_after}
 use Rattle.mp_machine.specs.Worlds.{World, start_of_machine}
 use Rattle.mp_machine.proofs.Worlds.{after_more, turns_more}
-use Rattle.mp_refinement.specs.SystemState.{SystemState}
+use Rattle.mp_worker_refinement.specs.SystemState.{SystemState}
 use Rattle.mp_worker.specs.declared.turn.Turn.{Turn as Answered}
 use Rattle.mp_drive.specs.Driven.{AreAfter, LeadsOn, turn_in}
 

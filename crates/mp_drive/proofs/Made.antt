@@ -10,7 +10,7 @@ use Rattle.mp_machine.specs.Runs.{Turn, is_made, made_count, run_of_machine, tur
 use Rattle.mp_machine.specs.Worlds.{start_of_machine}
 use Rattle.mp_machine.proofs.Bounds.{steps_bounded}
 use Rattle.mp_machine.proofs.Worlds.{turns_more}
-use Rattle.mp_refinement.specs.SystemState.{SystemState}
+use Rattle.mp_worker_refinement.specs.SystemState.{SystemState}
 use Rattle.mp_worker.specs.declared.turn.Turn.{Turn as Answered}
 use Rattle.mp_drive.specs.declared.stop.DriveStop.{DriveStop}
 use Rattle.mp_drive.specs.Driven.{AreReachedBy, LeadsOn, made_by, turn_in}

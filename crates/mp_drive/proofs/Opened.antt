@@ -9,10 +9,10 @@ use Rattle.mp_stamps.specs.declared.seen.Seen.{Seen}
 use Rattle.mp_mailbox.specs.Queues.{Queues, empty_queues}
 use Rattle.mp_machine.specs.Worlds.{start_of_machine}
 use Rattle.mp_board.specs.Boards.{ShowsFrontiers}
-use Rattle.mp_refinement.specs.Laws.{IsNewWorker}
-use Rattle.mp_refinement.specs.State.{WorkerState}
-use Rattle.mp_refinement.specs.SystemState.{Refines, SystemState}
-use Rattle.mp_refinement.proofs.Begins.{opening_is_the_start}
+use Rattle.mp_worker_refinement.specs.Laws.{IsNewWorker}
+use Rattle.mp_worker_refinement.specs.State.{WorkerState}
+use Rattle.mp_worker_refinement.specs.SystemState.{Refines, SystemState}
+use Rattle.mp_worker_refinement.proofs.Begins.{opening_is_the_start}
 use Rattle.mp_tally.proofs.Lists.{push_all}
 use Rattle.mp_drive.specs.Driven.{AreReached, AreReachedBy}
 

@@ -8,8 +8,8 @@ use Rattle.mp_names.proofs.Steps.{applied_own}
 use Rattle.mp_machine.specs.Runs.{run_of_machine}
 use Rattle.mp_machine.proofs.Holding.{in_one_place}
 use Rattle.mp_machine.proofs.Worlds.{run_right}
-use Rattle.mp_refinement.specs.State.{WorkerState}
-use Rattle.mp_refinement.specs.SystemState.{SystemState}
+use Rattle.mp_worker_refinement.specs.State.{WorkerState}
+use Rattle.mp_worker_refinement.specs.SystemState.{SystemState}
 use Rattle.mp_drive.specs.Driven.{AreReached}
 use Rattle.mp_drive.specs.Ownership.{KeepOwnership}
 use Rattle.mp_tally.proofs.Full.{applied_once}

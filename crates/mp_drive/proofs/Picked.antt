@@ -10,7 +10,7 @@ use Rattle.mp_names.specs.Outlines.{Outline}
 use Rattle.mp_machine.specs.Places.{places}
 use Rattle.mp_machine.specs.Runs.{Turn, is_made, run_of_machine, turn_of_machine, world_after}
 use Rattle.mp_machine.specs.Worlds.{World}
-use Rattle.mp_refinement.specs.SystemState.{SystemState}
+use Rattle.mp_worker_refinement.specs.SystemState.{SystemState}
 use Rattle.mp_draws.specs.Draws.{draw_of}
 use Rattle.mp_worker.proofs.Numbered.{behind, in_front}
 use Rattle.mp_drive.specs.Driven.{AreAfter}

@@ -14,12 +14,12 @@ use Rattle.mp_model.specs.Facts.{JobFacts, QueryFacts}
 use Rattle.mp_outside.specs.Sink.{grown}
 use Rattle.mp_answer_laws.specs.Lines.{lines_of_time}
 use Rattle.mp_msg.specs.declared.names.Names.{Names}
-use Rattle.mp_refinement.specs.Ends.{FollowsLog, MessagesFollowLog}
-use Rattle.mp_refinement.specs.Mail.{MailboxAllows, MailboxBlocks}
-use Rattle.mp_refinement.specs.Served.{PostFollows}
-use Rattle.mp_refinement.specs.State.{CanMake, Makes, WorkerState}
-use Rattle.mp_refinement.specs.Steps.{Tells}
-use Rattle.mp_refinement.specs.SystemState.{queues_denote, queues_wait}
+use Rattle.mp_worker_refinement.specs.Ends.{FollowsLog, MessagesFollowLog}
+use Rattle.mp_worker_refinement.specs.Mail.{MailboxAllows, MailboxBlocks}
+use Rattle.mp_worker_refinement.specs.Served.{PostFollows}
+use Rattle.mp_worker_refinement.specs.State.{CanMake, Makes, WorkerState}
+use Rattle.mp_worker_refinement.specs.Steps.{Tells}
+use Rattle.mp_worker_refinement.specs.SystemState.{queues_denote, queues_wait}
 use Rattle.mp_worker.specs.declared.turn.Stop.{Stop}
 use Rattle.mp_worker.specs.declared.turn.Stop.TheVariants as stop
 use Rattle.mp_worker.specs.declared.turn.Turn.{Turn as Answered}

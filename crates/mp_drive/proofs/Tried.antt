@@ -17,8 +17,8 @@ use Rattle.mp_machine.specs.Worlds.{World}
 use Rattle.mp_machine.proofs.Ends.{all_over}
 use Rattle.mp_machine.proofs.Places.{place_listed}
 use Rattle.mp_machine.proofs.Worlds.{run_right}
-use Rattle.mp_refinement.specs.State.{WorkerState}
-use Rattle.mp_refinement.specs.SystemState.{Refines, KnowsTheEnd, SystemState}
+use Rattle.mp_worker_refinement.specs.State.{WorkerState}
+use Rattle.mp_worker_refinement.specs.SystemState.{Refines, KnowsTheEnd, SystemState}
 use Rattle.mp_drive.specs.Driven.{AllKnowTheEnd, AreAfter, AreReached, LeadsOn, turn_in}
 use Rattle.mp_drive.specs.Schedule.{AreFinished}
 use Rattle.mp_worker.specs.declared.turn.Turn.{Turn as Answered}

@@ -16,15 +16,15 @@ use Rattle.mp_machine.specs.Runs.{Did, NotNow, Saw, Turn, after_turn, run_of_mac
 use Rattle.mp_machine.proofs.Turns.{not_now_from}
 use Rattle.mp_machine.proofs.Worlds.{after_more, exchange_place, run_right}
 use Rattle.mp_board.specs.Boards.{Posted, ShowsFrontiers, exchanged, version_with}
-use Rattle.mp_refinement.specs.Ends.{PostMatchesLog, FollowsLog, MessagesFollowLog}
-use Rattle.mp_refinement.specs.Served.{IsAtHub, IsAtPost}
-use Rattle.mp_refinement.specs.Laws.{MailFollows, StepsMayBeAsked}
-use Rattle.mp_refinement.specs.Mail.{MailboxBlocks, MailboxAllows}
-use Rattle.mp_refinement.specs.State.{CanMake, Makes, WorkerState}
-use Rattle.mp_refinement.specs.SystemState.{Refines, SystemState, queues_denote, queues_wait}
-use Rattle.mp_refinement.proofs.Asked.{may_be_asked}
-use Rattle.mp_refinement.proofs.Exchanges as exchanges
-use Rattle.mp_refinement.proofs.Steps as steps
+use Rattle.mp_worker_refinement.specs.Ends.{PostMatchesLog, FollowsLog, MessagesFollowLog}
+use Rattle.mp_worker_refinement.specs.Served.{IsAtHub, IsAtPost}
+use Rattle.mp_worker_refinement.specs.Laws.{MailFollows, StepsMayBeAsked}
+use Rattle.mp_worker_refinement.specs.Mail.{MailboxBlocks, MailboxAllows}
+use Rattle.mp_worker_refinement.specs.State.{CanMake, Makes, WorkerState}
+use Rattle.mp_worker_refinement.specs.SystemState.{Refines, SystemState, queues_denote, queues_wait}
+use Rattle.mp_worker_refinement.proofs.Asked.{may_be_asked}
+use Rattle.mp_worker_refinement.proofs.Exchanges as exchanges
+use Rattle.mp_worker_refinement.proofs.Steps as steps
 use Rattle.mp_worker.specs.declared.turn.Stop.{Stop}
 use Rattle.mp_worker.specs.declared.turn.Turn.{Turn as Answered}
 use Rattle.mp_worker.specs.declared.turn.Turn.TheVariants as worker

@@ -20,13 +20,13 @@ use Rattle.mp_output.specs.Holding.{answer_at}
 use Rattle.mp_machine.specs.Runs.{run_of_machine, step_of_machine}
 use Rattle.mp_machine.proofs.Worlds.{run_right, step_right}
 use Rattle.mp_board.specs.Boards.{Posted}
-use Rattle.mp_refinement.specs.State.{CanMake, Makes, WorkerState, as_machine, with_step}
+use Rattle.mp_worker_refinement.specs.State.{CanMake, Makes, WorkerState, as_machine, with_step}
 use Rattle.mp_msg.specs.declared.names.Names.{Names}
-use Rattle.mp_refinement.specs.Steps.{Tells}
-use Rattle.mp_refinement.specs.SystemState.{Refines, SystemState, queues_wait, with_worker}
-use Rattle.mp_refinement.proofs.Messages.{messages_kept}
-use Rattle.mp_refinement.proofs.Asked.{may_be_asked}
-use Rattle.mp_refinement.proofs.Steps as steps
+use Rattle.mp_worker_refinement.specs.Steps.{Tells}
+use Rattle.mp_worker_refinement.specs.SystemState.{Refines, SystemState, queues_wait, with_worker}
+use Rattle.mp_worker_refinement.proofs.Messages.{messages_kept}
+use Rattle.mp_worker_refinement.proofs.Asked.{may_be_asked}
+use Rattle.mp_worker_refinement.proofs.Steps as steps
 use Rattle.mp_answer_laws.specs.Lines.{lines_of_time, written_lines}
 use Rattle.mp_answer_laws.proofs.Written.{parts_of_lines_begin, writing_adds_lines}
 use Rattle.mp_worker.specs.declared.turn.Stop.{Stop}

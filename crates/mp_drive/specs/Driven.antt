@@ -12,8 +12,8 @@ use Rattle.mp_model.specs.Facts.{QueryFacts}
 use Rattle.mp_machine.specs.Promises.{LogIsFull}
 use Rattle.mp_machine.specs.Runs.{Turn, Did, IsFinished, NotNow, Saw, made_count, run_of_machine, turns_of}
 use Rattle.mp_machine.specs.Worlds.{start_of_machine}
-use Rattle.mp_refinement.specs.State.{WorkerState}
-use Rattle.mp_refinement.specs.SystemState.{Refines, KnowsTheEnd, SystemState}
+use Rattle.mp_worker_refinement.specs.State.{WorkerState}
+use Rattle.mp_worker_refinement.specs.SystemState.{Refines, KnowsTheEnd, SystemState}
 use Rattle.mp_answer_laws.specs.Lines.{written_lines}
 use Rattle.mp_worker.specs.declared.turn.Turn.{Turn as Answered}
 use Rattle.mp_worker.specs.declared.turn.Turn.TheVariants as worker

@@ -5,8 +5,8 @@ use Rattle.mp_names.specs.Names.{Distinct, In}
 use Rattle.mp_names.specs.Outlines.{Outline, group_owner}
 use Rattle.mp_machine.specs.Holding.{HasOneHolder, HasOnePacket}
 use Rattle.mp_machine.specs.Worlds.{World}
-use Rattle.mp_refinement.specs.State.{WorkerState}
-use Rattle.mp_refinement.specs.SystemState.{Refines, SystemState}
+use Rattle.mp_worker_refinement.specs.State.{WorkerState}
+use Rattle.mp_worker_refinement.specs.SystemState.{Refines, SystemState}
 
 -- The workers are in a state of the machine in which each bin of each stage has one holder or one packet on the way, never both. A group is applied by its owner alone, so it is in no two logs, and twice in none
 pub record KeepOwnership (o : Outline) (t : SystemState) : Type 0 where

@@ -6,7 +6,7 @@ use Rattle.mp_names.specs.Outlines.{Outline}
 use Rattle.mp_model.specs.Facts.{JobFacts, QueryFacts}
 use Rattle.mp_outline.specs.JobOutline.{outline_of}
 use Rattle.mp_machine.specs.Runs.{Turn, made_count, run_of_machine}
-use Rattle.mp_refinement.specs.SystemState.{SystemState}
+use Rattle.mp_worker_refinement.specs.SystemState.{SystemState}
 use Rattle.mp_drive.specs.declared.stop.DriveStop.{DriveStop}
 use Rattle.mp_drive.specs.declared.stop.DriveStop.TheVariants as stop
 use Rattle.mp_draws.specs.Draws.{draw_of}

@@ -5,7 +5,7 @@ use Rattle.mp_names.specs.Outlines.{Outline, name_count}
 use Rattle.mp_machine.specs.Places.{places}
 use Rattle.mp_machine.specs.Runs.{Turn, WorkerIsFinished, is_made, made_count, run_of_machine, turn_of_machine, world_after}
 use Rattle.mp_machine.specs.Worlds.{World, start_of_machine}
-use Rattle.mp_refinement.specs.SystemState.{SystemState}
+use Rattle.mp_worker_refinement.specs.SystemState.{SystemState}
 use Rattle.mp_draws.specs.Draws.{draw_of}
 use Rattle.mp_drive.specs.Driven.{AreAfter, LeadsOn, Steps}
 

@@ -2,7 +2,7 @@
 ghost use Rattle.std.specs.Prelude.{◌≡◌, ℕ, IfOk, Some, length, slice_get};
 ghost use Rattle.mp_outline.specs.JobOutline.{outline_of};
 ghost use Rattle.mp_tally.specs.declared.tally.Tally.{Tally as Told};
-ghost use Rattle.mp_refinement.specs.State.{WorkerState};
+ghost use Rattle.mp_worker_refinement.specs.State.{WorkerState};
 ghost use Rattle.mp_drive.specs.Driven.{AllKnowTheEnd, AreComplete};
 ghost use Rattle.mp_tally.specs.Tallies.{IsTallyOf, TellsLog};
 

@@ -1,6 +1,6 @@
 //! What a control record that is taken changes at the counts.
 ghost use Rattle.std.specs.Prelude.{◌≡◌, ◌≤◌, length};
-ghost use Rattle.mp_count_laws.specs.Changes.{control_taken_at};
+ghost use Rattle.mp_rows_laws.specs.Changes.{control_taken_at};
 
 use mp_names::{Change, Loc, Pointstamp, Time};
 use std::marker::Model;

@@ -16,7 +16,7 @@ use Rattle.mp_host_laws.specs.declared.held.Held.{Held}
 use Rattle.mp_host_laws.specs.Hosted.{Hosted, began_before, cell_at, has_wake_at, is_held_before, is_of, records_of, state_at, wakes_in}
 use Rattle.mp_host_laws.specs.Applying.{FirstIsChanged, IsApplied, group_here, posts_here}
 use Rattle.mp_host_laws.proofs.Waiting.{from_is_of}
-use Rattle.mp_held.specs.States.{StateIsStepped, States, cell_for, state_for}
+use Rattle.mp_host_states.specs.States.{StateIsStepped, States, cell_for, state_for}
 use Rattle.mp_host.specs.Hosts.{IsHosted, MayBeHeld}
 use Rattle.mp_host.proofs.Kept.{states_fit}
 

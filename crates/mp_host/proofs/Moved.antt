@@ -19,7 +19,7 @@ use Rattle.mp_host_laws.specs.Moving.{AreNumbersOf, IsTakenOut, brought, not_wai
 use Rattle.mp_host.specs.Hosts.{IsHosted, MayBeHeld}
 use Rattle.mp_host.specs.Waiting.{waits_beside}
 use Rattle.mp_host.proofs.Kept.{states_fit}
-use Rattle.mp_held.proofs.Places.{around, parts_are, place_is, place_of}
+use Rattle.mp_host_states.proofs.Places.{around, parts_are, place_is, place_of}
 
 or_assoc : (a b c : Bool) → (a || (b || c)) ≡ (a || b || c)
 or_assoc true b c = refl

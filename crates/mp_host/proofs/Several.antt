@@ -15,9 +15,9 @@ use Rattle.mp_names.proofs.Keeps.{took_keeps}
 use Rattle.mp_model.specs.declared.record.Rec.{Rec}
 use Rattle.mp_model.specs.Facts.{JobFacts, QueryFacts}
 use Rattle.mp_outline.specs.JobOutline.{name_of_record}
-use Rattle.mp_count_laws.specs.Changes.{group_of, new_groups}
-use Rattle.mp_count_laws.proofs.Pushes.{any_push, or_false}
-use Rattle.mp_count_laws.proofs.Took.{group_kept}
+use Rattle.mp_rows_laws.specs.Changes.{group_of, new_groups}
+use Rattle.mp_rows_laws.proofs.Pushes.{any_push, or_false}
+use Rattle.mp_rows_laws.proofs.Took.{group_kept}
 use Rattle.mp_host_laws.specs.Hosted.{Hosted, is_of, waits_at}
 use Rattle.mp_host_laws.specs.HostOf.{IsHostOf}
 use Rattle.mp_host.specs.Receiving.{AreToCome, begins_group, groups_begun, with_all_taken}

@@ -13,7 +13,7 @@ use Rattle.mp_outline.proofs.Found.{found, found_there}
 use Rattle.mp_outline.proofs.Pairs.{AllPairs-Pairs, Pairs}
 use Rattle.mp_host_laws.specs.Moving.{AreNumbersOf}
 use Rattle.mp_host.proofs.Enough.{filter_length}
-use Rattle.mp_held.specs.Numbers.{numbers_of, times, with_one}
+use Rattle.mp_host_states.specs.Numbers.{numbers_of, times, with_one}
 use Rattle.mp_host.proofs.Woken.{length_within, rising_once}
 
 -- the number of a time, or nothing

@@ -8,7 +8,7 @@ use Rattle.mp_model.specs.Facts.{JobFacts, QueryFacts}
 use Rattle.mp_host_laws.specs.declared.held.Held.{Held}
 use Rattle.mp_host_laws.specs.Hosted.{Hosted, StandsInOrder, StateStands, has_wake_in, wakes_in}
 use Rattle.mp_host_laws.proofs.Waiting.{wake_in}
-use Rattle.mp_held.specs.States.{States, has_own_wake_beside}
+use Rattle.mp_host_states.specs.States.{States, has_own_wake_beside}
 
 -- where only states of one bin have the wake, only those need be asked
 module _ {Cell : Type 0} (t k b : ℕ) where

@@ -7,7 +7,7 @@ use Rattle.mp_job.specs.Legal.{JobIsLegal}
 use Rattle.mp_ordered.specs.InOrder.{InOrder}
 use Rattle.mp_postdated.specs.Wakes.{Has}
 use Rattle.mp_host_laws.specs.declared.held.Held.{Held}
-use Rattle.mp_held.specs.States.{States}
+use Rattle.mp_host_states.specs.States.{States}
 use Rattle.mp_host_laws.specs.Hosted.{Hosted, StandsInOrder, StateStands, wakes_in}
 
 -- what contracts see of a host with these parts

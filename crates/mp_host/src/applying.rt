@@ -15,7 +15,7 @@ ghost use Rattle.mp_host.specs.Telling.{AppliesGroup, IfDid};
 use crate::groups::first_records;
 use crate::{Applied, Host};
 use mp_bins::Owners;
-use mp_held::{posts_of, step_group};
+use mp_host_states::{posts_of, step_group};
 use mp_job::put_in_order;
 use mp_model::{Group, Naming, Query, Time, Value};
 use mp_stamps::Seen;

@@ -18,8 +18,8 @@ ghost use Rattle.mp_host.specs.Waiting.{begins_unwoken, is_new, new_keys, unwoke
 use crate::Host;
 use crate::groups::first_records;
 use mp_bins::Owners;
-use mp_held::{count_posts, most_of_group};
 use mp_host_laws::Held;
+use mp_host_states::{count_posts, most_of_group};
 use mp_model::{Group, Naming, Query, Rec, Time};
 use mp_stamps::Seen;
 use std::alloc::Global;

@@ -10,8 +10,8 @@ ghost use Rattle.mp_host.specs.Telling.{TakesRecord};
 
 use crate::order::ByGroup;
 use mp_bins::first_owner;
-use mp_held::InHand;
 use mp_host_laws::Held;
+use mp_host_states::InHand;
 use mp_job::Job;
 use mp_model::{Naming, Query, Rec};
 use mp_msg::BinState;

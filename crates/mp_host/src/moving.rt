@@ -11,8 +11,8 @@ ghost use Rattle.mp_host.specs.Moves.{GetsBack, GivesUp, NothingLeaves, TakesPac
 ghost use Rattle.mp_host.specs.Waiting.{waits_beside};
 
 use crate::Host;
-use mp_held::add_one;
 use mp_host_laws::Held;
+use mp_host_states::add_one;
 use mp_model::{Naming, Query, Time};
 use mp_msg::BinState;
 use mp_postdated::Wakes;

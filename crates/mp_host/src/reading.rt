@@ -10,7 +10,7 @@ ghost use Rattle.mp_host.specs.Ready.{IsReadyHere};
 
 use crate::Host;
 use mp_bins::{Owners, bin_of};
-use mp_held::{all_has_come, earlier_of};
+use mp_host_states::{all_has_come, earlier_of};
 use mp_model::{Naming, Query, Time};
 use mp_stamps::Seen;
 

@@ -6,7 +6,7 @@ ghost use Rattle.mp_model.specs.declared.record.Rec.{Rec};
 ghost use Rattle.mp_outline.specs.JobOutline.{outline_of};
 ghost use Rattle.mp_msg.specs.Bundles.{names_in};
 ghost use Rattle.mp_msg.specs.Contents.{IsRecordOf};
-ghost use Rattle.mp_count_laws.specs.Changes.{new_groups};
+ghost use Rattle.mp_rows_laws.specs.Changes.{new_groups};
 ghost use Rattle.mp_host_laws.specs.Hosted.{is_of};
 ghost use Rattle.mp_host_laws.specs.HostOf.{IsHostOf};
 ghost use Rattle.mp_host.specs.Receiving.{AreToCome, TakesRecords, begins_group};

@@ -1,8 +1,8 @@
 //! The first of many wakes.
 ghost use Rattle.std.specs.Prelude.{◌≡◌, None, replicate};
 
-use mp_firsts::Firsts;
 use mp_names::Time;
+use mp_tournament::Firsts;
 use std::alloc::AllocError;
 use std::process::Abort;
 

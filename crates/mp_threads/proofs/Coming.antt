@@ -4,8 +4,8 @@ use Rattle.std.specs.Prelude.{IfOk, map, slice_get}
 use Rattle.std.specs.declared.result.Result.{Result}
 use Rattle.mp_names.specs.Logs.{empty_log}
 use Rattle.mp_names.specs.Outlines.{Outline}
-use Rattle.mp_refinement.specs.State.{WorkerState}
-use Rattle.mp_member.specs.Members.{MemberState}
+use Rattle.mp_worker_refinement.specs.State.{WorkerState}
+use Rattle.mp_threads_member.specs.Members.{MemberState}
 use Rattle.mp_threads.specs.Crews.{AreByNumber, AreFinished, HasDoneNothing, IsFinished}
 use Rattle.mp_threads.proofs.Lists.{all_at, all_head, as_many, numbers_same}
 

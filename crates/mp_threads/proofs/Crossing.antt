@@ -10,23 +10,23 @@ use Rattle.mp_model.specs.declared.naming.Naming as naming
 use Rattle.mp_rows.specs.declared.outlined.Outlined as outlined
 use Rattle.mp_names.proofs.pointstamps.ControlCursor.TheSendSync as cursor
 use Rattle.mp_job.proofs.job.Job.TheSendSync as job
-use Rattle.mp_member.below.mp_bins.proofs.owners.Owners.TheSendSync as owners
-use Rattle.mp_member.below.mp_route.proofs.router.Router.TheSendSync as router
-use Rattle.mp_member.below.mp_host.proofs.host.Host.TheSendSync as host
-use Rattle.mp_member.below.mp_handoff.proofs.movers.Movers.TheSendSync as movers
+use Rattle.mp_threads_member.below.mp_bins.proofs.owners.Owners.TheSendSync as owners
+use Rattle.mp_threads_member.below.mp_route.proofs.router.Router.TheSendSync as router
+use Rattle.mp_threads_member.below.mp_host.proofs.host.Host.TheSendSync as host
+use Rattle.mp_threads_member.below.mp_handoff.proofs.movers.Movers.TheSendSync as movers
 use Rattle.mp_output.proofs.unsent.Unsent.TheSendSync as unsent
 use Rattle.mp_output.proofs.rows.Rows.TheSendSync as rows
-use Rattle.mp_member.below.mp_parts.proofs.room.ChangeLists.TheSendSync as lists
+use Rattle.mp_threads_member.below.mp_worker_parts.proofs.room.ChangeLists.TheSendSync as lists
 use Rattle.mp_seat.proofs.lock.SeatLock.TheSendSync as lock
 use Rattle.mp_seat.proofs.seat.Seat.TheSendSync as seat
 use Rattle.mp_stamps.proofs.counts.Counts.TheSendSync as counts
 use Rattle.mp_ruled.proofs.post.RuledPost.TheSendSync as post
 use Rattle.mp_msg.proofs.message.Msg.TheSendSync as message
 use Rattle.mp_rows.specs.contracts.log.Log as log
-use Rattle.mp_hub.specs.contracts.shared.Shared as shared
+use Rattle.mp_threads_hub.specs.contracts.shared.Shared as shared
 use Rattle.mp_worker.specs.contracts.worker.Worker as worker
-use Rattle.mp_hub.specs.contracts.hub.SeatHub as hub
-use Rattle.mp_member.specs.contracts.member.Member as member
+use Rattle.mp_threads_hub.specs.contracts.hub.SeatHub as hub
+use Rattle.mp_threads_member.specs.contracts.member.Member as member
 
 pub log_send : (O : RattleType) (g : outlined.Ghosts O.Denot) → IsSend (log.the_row O g)
 log_send O g = search (phantom.the_field_send, crosses, sendable) depth 60 fits 20000

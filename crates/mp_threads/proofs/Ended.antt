@@ -12,12 +12,12 @@ use Rattle.mp_model.specs.Answers.{one_thread_answer}
 use Rattle.mp_model.specs.Facts.{JobFacts, QueryFacts}
 use Rattle.mp_outline.specs.JobOutline.{outline_of}
 use Rattle.mp_answer_laws.proofs.Written.{written_lines_begin}
-use Rattle.mp_refinement.specs.State.{WorkerState}
+use Rattle.mp_worker_refinement.specs.State.{WorkerState}
 use Rattle.mp_worker.specs.declared.turn.Stop.{Stop}
 use Rattle.mp_worker.specs.declared.turn.Stop.TheVariants.{Write}
-use Rattle.mp_member.specs.Driving.{GoesOn, HasBegun, HasWritten, StopsBy}
+use Rattle.mp_threads_member.specs.Driving.{GoesOn, HasBegun, HasWritten, StopsBy}
 use Rattle.mp_threads.specs.Crews.{IsFinished}
-use Rattle.mp_member.proofs.Driven.{answer_written}
+use Rattle.mp_threads_member.proofs.Driven.{answer_written}
 
 -- what is known where all were driven to the end
 pub where_true : {E P : Type 0} (driven : Result Bool E) → driven ≡ Ok true → IfOk driven (λ over. IsTrue over → P) → P

@@ -6,9 +6,9 @@ use Rattle.mp_names.specs.Outlines.{Outline}
 use Rattle.mp_machine.specs.Promises.{LogIsFull}
 use Rattle.mp_ruled.specs.Posts.{PostState, RuledStands}
 use Rattle.mp_seat.specs.Seats.{IsIdle, LockIdentity, SeatState}
-use Rattle.mp_refinement.specs.State.{WorkerState}
-use Rattle.mp_refinement.specs.SystemState.{KnowsTheEnd}
-use Rattle.mp_member.specs.Members.{MemberState}
+use Rattle.mp_worker_refinement.specs.State.{WorkerState}
+use Rattle.mp_worker_refinement.specs.SystemState.{KnowsTheEnd}
+use Rattle.mp_threads_member.specs.Members.{MemberState}
 
 -- the worker has an empty log, and posted that
 abbrev pub HasDoneNothing : MemberState → Type 0

@@ -1,8 +1,8 @@
 -- Where a worker is, and what is known of it when it comes back.
 use Rattle.std.specs.Prelude.{◌≡◌, ℕ}
 use Rattle.mp_names.specs.Outlines.{Outline}
-use Rattle.mp_refinement.specs.State.{WorkerState}
-use Rattle.mp_member.specs.Members.{MemberState}
+use Rattle.mp_worker_refinement.specs.State.{WorkerState}
+use Rattle.mp_threads_member.specs.Members.{MemberState}
 use Rattle.mp_threads.specs.Crews.{IsFinished}
 use Rattle.mp_threads.specs.declared.back.Back.{Back}
 use Rattle.mp_threads.specs.declared.back.Back.TheVariants.{Finished, Undriven, Stopped}

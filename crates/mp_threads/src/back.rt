@@ -1,6 +1,6 @@
 //! What a thread gives back.
-use mp_member::Member;
 use mp_model::{Naming, Query};
+use mp_threads_member::Member;
 use mp_worker::Worker;
 use std::thread::Promise;
 

@@ -10,14 +10,14 @@ ghost use Rattle.mp_seat.specs.Seats.{AreNew};
 ghost use Rattle.mp_threads.specs.Crews.{AreByNumber, AreNewEnds, HasDoneNothing, IsNewSeat};
 
 use mp_board::{Board, OutlineOf};
-use mp_hub::{SeatHub, Shared};
 use mp_job::Job;
-use mp_member::Member;
 use mp_model::{Naming, Query};
 use mp_msg::Msg;
 use mp_ruled::{RuledPost, ruled_posts};
 use mp_seat::{Seat, SeatLock};
 use mp_stamps::Seen;
+use mp_threads_hub::{SeatHub, Shared};
+use mp_threads_member::Member;
 use mp_worker::Worker;
 use std::alloc::{AllocError, Global};
 use std::collections::VecDeque;
@@ -33,7 +33,7 @@ pub struct Crew<'a, Q: Query, J: Naming, R> {
 
 impl<'a, Q: Query, J: Naming, R> Model for Crew<'a, Q, J, R> {
     ghost use Rattle.std.specs.Prelude.{List, ◌<◌};
-    ghost use Rattle.mp_member.specs.Members.{MemberState};
+    ghost use Rattle.mp_threads_member.specs.Members.{MemberState};
     ghost use Rattle.mp_threads.specs.Crews.{AreByNumber};
 
     ghost Value = { List MemberState };

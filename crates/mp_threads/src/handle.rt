@@ -4,8 +4,8 @@ ghost use Rattle.mp_outline.specs.JobOutline.{outline_of};
 ghost use Rattle.mp_threads.specs.Places.{IsBack};
 
 use crate::back::{Back, Numbered};
-use mp_member::Member;
 use mp_model::{Naming, Query};
+use mp_threads_member::Member;
 use mp_worker::Worker;
 use std::marker::{Model, PhantomData};
 use std::thread::{PromisedHandle, Threads};

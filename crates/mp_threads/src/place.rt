@@ -1,16 +1,16 @@
 //! Where a worker is.
 ghost use Rattle.std.specs.Prelude.{◌≡◌, IfOk, IfSome};
 ghost use Rattle.mp_outline.specs.JobOutline.{outline_of};
-ghost use Rattle.mp_member.specs.declared.drive.Round.TheVariants.{Over};
+ghost use Rattle.mp_threads_member.specs.declared.drive.Round.TheVariants.{Over};
 ghost use Rattle.mp_threads.specs.Places.{IsBackAt, IsOver, number_of};
 
 use crate::back::Back;
 use crate::handle::Handle;
 use crate::start::start;
 use mp_gate::Gate;
-use mp_member::{Member, Round};
 use mp_model::{Naming, Query};
 use mp_outside::NoSink;
+use mp_threads_member::{Member, Round};
 use mp_worker::{Stop, Worker};
 use std::alloc::Global;
 use std::sync::Wait;

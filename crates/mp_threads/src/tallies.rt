@@ -7,7 +7,7 @@ ghost use Rattle.mp_outline.specs.JobOutline.{outline_of};
 ghost use Rattle.mp_output.specs.Rows.{GivesRows};
 ghost use Rattle.mp_tally.specs.declared.tally.Tally.{Tally as Told};
 ghost use Rattle.mp_board.specs.declared.causes.Cause.TheVariants.{Write};
-ghost use Rattle.mp_member.specs.Driving.{HasBegun};
+ghost use Rattle.mp_threads_member.specs.Driving.{HasBegun};
 ghost use Rattle.mp_tally.specs.Tallies.{IsTallyOf};
 ghost use Rattle.mp_threads.specs.Crews.{AreFinished, IsFinished};
 

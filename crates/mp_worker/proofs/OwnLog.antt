@@ -11,8 +11,8 @@ use Rattle.mp_names.proofs.Keeps.{written_keeps}
 use Rattle.mp_stamps.specs.Seen.{SeenIsDone}
 use Rattle.mp_machine.specs.Promises.{LogIsFull}
 use Rattle.mp_machine.proofs.Full.{full}
-use Rattle.mp_refinement.specs.State.{CanMake, WorkerState}
-use Rattle.mp_refinement.specs.SystemState.{KnowsTheEnd}
+use Rattle.mp_worker_refinement.specs.State.{CanMake, WorkerState}
+use Rattle.mp_worker_refinement.specs.SystemState.{KnowsTheEnd}
 
 module _ (o : Outline) (ok : OutlineIsSound o) (s : WorkerState) (l : s.number < o.workers) (legal : LogIsLegal o s.number s.log) (done : SeenIsDone o s.number s.log s.seen) where
   -- worker 0 may write the next time

@@ -13,9 +13,9 @@ use Rattle.mp_outline.specs.JobOutline.{outline_of}
 use Rattle.mp_msg.specs.declared.names.Names.{Names}
 use Rattle.mp_answer_laws.specs.Lines.{written_lines}
 use Rattle.mp_answer_laws.proofs.Written.{others_write_nothing}
-use Rattle.mp_refinement.specs.State.{CanMake, Makes, WorkerState}
-use Rattle.mp_refinement.specs.Steps.{Tells}
-use Rattle.mp_refinement.proofs.Lists.{some_is}
+use Rattle.mp_worker_refinement.specs.State.{CanMake, Makes, WorkerState}
+use Rattle.mp_worker_refinement.specs.Steps.{Tells}
+use Rattle.mp_worker_refinement.proofs.Lists.{some_is}
 
 -- a step of another kind than a write adds no lines, however many names it puts into the log
 pub no_lines_else : {Cell : Type 0} (q : QueryFacts Cell) (job : JobFacts) (w : ℕ) (worker : Worker) (kind : Kind) (x : Name) (xs : List Name) → (kind ≡ Write → ⊥) → IsNext (outline_of q job) w worker kind x → AreNamesOf (outline_of q job) w worker.log kind x xs

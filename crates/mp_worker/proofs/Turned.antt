@@ -16,10 +16,10 @@ use Rattle.mp_board.specs.declared.causes.Cause.{Cause}
 use Rattle.mp_msg.specs.declared.names.Names.{Names}
 use Rattle.mp_output.specs.declared.refused.OutRefused.{OutRefused}
 use Rattle.mp_output.specs.declared.refused.OutRefused.TheVariants.{WriteFault, NoMemory}
-use Rattle.mp_refinement.specs.Served.{IsAtHub}
-use Rattle.mp_refinement.specs.State.{CanMake, WorkerState}
-use Rattle.mp_refinement.specs.Steps.{StepsByMail}
-use Rattle.mp_steps.specs.Writing.{Writes}
+use Rattle.mp_worker_refinement.specs.Served.{IsAtHub}
+use Rattle.mp_worker_refinement.specs.State.{CanMake, WorkerState}
+use Rattle.mp_worker_refinement.specs.Steps.{StepsByMail}
+use Rattle.mp_worker_steps.specs.Writing.{Writes}
 use Rattle.mp_worker.specs.declared.turn.Stop.{Stop}
 use Rattle.mp_worker.specs.declared.turn.Stop.TheVariants as stop
 use Rattle.mp_worker.specs.declared.turn.Turn.{Turn}

@@ -4,8 +4,8 @@ use Rattle.std.specs.declared.result.Result.{Result}
 use Rattle.mp_names.specs.declared.kinds.Kind.{Kind}
 use Rattle.mp_names.specs.declared.kinds.Kind.TheVariants as kind
 use Rattle.mp_names.specs.Outlines.{Outline}
-use Rattle.mp_refinement.specs.State.{WorkerState}
-use Rattle.mp_refinement.specs.Steps.{IsHinderedByMail, MakesByMail, Sees}
+use Rattle.mp_worker_refinement.specs.State.{WorkerState}
+use Rattle.mp_worker_refinement.specs.Steps.{IsHinderedByMail, MakesByMail, Sees}
 use Rattle.mp_worker.specs.declared.turn.Turn.{Turn}
 use Rattle.mp_worker.specs.declared.turn.Turn.TheVariants.{Did, Seen, NotNow, Busy}
 use Rattle.mp_worker.specs.declared.turn.Stop.{Stop}

@@ -3,8 +3,8 @@ use Rattle.std.specs.Prelude.{◌≡◌, ℕ, List, Ok, Err, Option}
 use Rattle.std.specs.declared.result.Result.{Result}
 use Rattle.mp_outside.specs.Fault.{Rose}
 use Rattle.mp_model.specs.Facts.{JobFacts, QueryFacts}
-use Rattle.mp_refinement.specs.State.{WorkerState}
-pub use Rattle.mp_steps.specs.Writing.{WritesNoMore, WritesPart, WritesTime}
+use Rattle.mp_worker_refinement.specs.State.{WorkerState}
+pub use Rattle.mp_worker_steps.specs.Writing.{WritesNoMore, WritesPart, WritesTime}
 use Rattle.mp_worker.specs.declared.turn.Turn.{Turn}
 use Rattle.mp_worker.specs.declared.turn.Turn.TheVariants as turn
 use Rattle.mp_worker.specs.declared.turn.Stop.{Stop}

@@ -1,12 +1,12 @@
 //! How a worker posts its log.
 ghost use Rattle.std.specs.Prelude.{ℕ};
-ghost use Rattle.mp_refinement.specs.Served.{IsAtHub};
+ghost use Rattle.mp_worker_refinement.specs.Served.{IsAtHub};
 ghost use Rattle.mp_worker.specs.Exchanging.{Exchanges};
 
 use crate::{Stop, Turn, Worker};
 use mp_board::{Hub, OutlineOf};
 use mp_model::{Naming, Query};
-use mp_steps::Exchanged;
+use mp_worker_steps::Exchanged;
 
 impl<'a, Q: Query, J: Naming> Worker<'a, Q, J> {
     /// Posts the worker's log, and sees what all posted logs show then. `Seen`: the version of the board, which is not the

@@ -3,7 +3,7 @@ ghost use Rattle.std.specs.Prelude.{◌≡◌, ◌↔◌, IsTrue};
 ghost use Rattle.mp_names.specs.declared.locations.Frontier.TheVariants.{Done};
 ghost use Rattle.mp_outline.specs.JobOutline.{outline_of};
 ghost use Rattle.mp_stamps.specs.Seen.{seen_at};
-ghost use Rattle.mp_refinement.specs.SystemState.{KnowsTheEnd};
+ghost use Rattle.mp_worker_refinement.specs.SystemState.{KnowsTheEnd};
 ghost use Rattle.mp_worker.specs.Done.{AllAreDone, OthersAreDone, StageIsDone};
 
 use crate::Worker;

@@ -5,8 +5,8 @@ ghost use Rattle.mp_names.specs.declared.names.Name.TheVariants.{Written};
 ghost use Rattle.mp_names.specs.Logs.{LogIsLegal, with_settled};
 ghost use Rattle.mp_machine.specs.Promises.{LogIsFull};
 ghost use Rattle.mp_outline.specs.JobOutline.{outline_of};
-ghost use Rattle.mp_refinement.specs.State.{CanMake};
-ghost use Rattle.mp_refinement.specs.SystemState.{KnowsTheEnd};
+ghost use Rattle.mp_worker_refinement.specs.State.{CanMake};
+ghost use Rattle.mp_worker_refinement.specs.SystemState.{KnowsTheEnd};
 
 use crate::Worker;
 use mp_model::{Naming, Query};

@@ -9,7 +9,7 @@ use crate::Worker;
 use mp_job::Job;
 use mp_model::{Naming, Query};
 use mp_stamps::Seen;
-use mp_steps::Parts;
+use mp_worker_steps::Parts;
 use std::alloc::{AllocError, Global};
 
 impl<'a, Q: Query, J: Naming> Worker<'a, Q, J> {

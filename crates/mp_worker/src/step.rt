@@ -5,8 +5,8 @@ ghost use Rattle.mp_names.specs.Outlines.{Outline};
 ghost use Rattle.mp_machine.specs.Steps.{KindFits};
 ghost use Rattle.mp_outside.specs.Sink.{OnlyAppends};
 ghost use Rattle.mp_outline.specs.JobOutline.{outline_of};
-ghost use Rattle.mp_refinement.specs.Served.{IsAtHub, IsAtPost, PostFollows};
-ghost use Rattle.mp_refinement.specs.Steps.{StepsByMail};
+ghost use Rattle.mp_worker_refinement.specs.Served.{IsAtHub, IsAtPost, PostFollows};
+ghost use Rattle.mp_worker_refinement.specs.Steps.{StepsByMail};
 ghost use Rattle.mp_worker.specs.declared.turn.Turn.TheVariants as turn;
 ghost use Rattle.mp_worker.specs.Exchanging.{Exchanges};
 ghost use Rattle.mp_worker.specs.Turns.{Answers};
@@ -19,7 +19,7 @@ use mp_model::{Naming, Query};
 use mp_msg::{Msg, Names};
 use mp_names::{Kind, Shape};
 use mp_outside::Sink;
-use mp_sends::{extract, route, send_control, send_row};
+use mp_worker_sends::{extract, route, send_control, send_row};
 use std::alloc::AllocError;
 
 impl<'a, Q: Query, J: Naming> Worker<'a, Q, J> {

@@ -1,6 +1,6 @@
 //! A worker.
 use mp_model::{Naming, Query};
-use mp_steps::Parts;
+use mp_worker_steps::Parts;
 use std::marker::Model;
 
 /// One worker of the job J of the query Q. Contracts see a `WorkerState`: its number, its log, the log that it posted last,
@@ -11,7 +11,7 @@ pub struct Worker<'a, Q: Query, J: Naming> {
 }
 
 impl<'a, Q: Query, J: Naming> Model for Worker<'a, Q, J> {
-    ghost use Rattle.mp_refinement.specs.State.{WorkerState};
+    ghost use Rattle.mp_worker_refinement.specs.State.{WorkerState};
 
     ghost Value = { WorkerState };
 

@@ -1,8 +1,8 @@
 use Rattle.std.proofs.Common.{◌≡◌, ◌≤◌, ℕ, Some, length, vec_capacity}
 use Rattle.std.specs.Prelude.{slice_get}
 use Rattle.mp_outline.specs.JobOutline.{outline_of}
-use Rattle.mp_refinement.specs.Laws.{IsNewWorker}
-use Rattle.mp_refinement.specs.State.{WorkerState}
+use Rattle.mp_worker_refinement.specs.Laws.{IsNewWorker}
+use Rattle.mp_worker_refinement.specs.State.{WorkerState}
 use Rattle.mp_drive.proofs.plain.new_workers.Given as goal
 
 abbrev pub invariant-loop-number : goal.invariant-loop-number

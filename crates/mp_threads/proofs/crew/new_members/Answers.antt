@@ -2,8 +2,8 @@ use Rattle.std.proofs.Common.{[], ◌∷◌, ◌∙◌, ◌≡◌, ◌<◌, ap, 
 use Rattle.std.specs.Arc.{arc_value}
 use Rattle.mp_model.specs.Facts.{JobFacts}
 use Rattle.mp_stamps.specs.declared.seen.Seen.{Seen}
-use Rattle.mp_refinement.specs.State.{WorkerState}
-use Rattle.mp_member.specs.Members.{MemberState}
+use Rattle.mp_worker_refinement.specs.State.{WorkerState}
+use Rattle.mp_threads_member.specs.Members.{MemberState}
 use Rattle.mp_ruled.proofs.Places.{drop_first}
 use Rattle.mp_threads.specs.Crews.{HasDoneNothing}
 use Rattle.mp_threads.proofs.Begun.{new_ends_at, new_seat_at}

@@ -1,6 +1,6 @@
 use Rattle.std.proofs.Common.{◌≡◌, ◌≤◌, ℕ, All, Some, length, drop, vec_capacity}
 use Rattle.std.specs.Prelude.{slice_get}
-use Rattle.mp_member.specs.Members.{MemberState}
+use Rattle.mp_threads_member.specs.Members.{MemberState}
 use Rattle.mp_threads.specs.Crews.{HasDoneNothing}
 use Rattle.mp_threads.proofs.crew.new_members.Given as goal
 

@@ -1,6 +1,6 @@
 use Rattle.std.proofs.Common.{◌∙◌}
 use Rattle.std.proofs.lemmas.Result.{err_from_is_err_and}
-use Rattle.mp_member.proofs.Driven.{goes_further, stops_later}
+use Rattle.mp_threads_member.proofs.Driven.{goes_further, stops_later}
 use Rattle.mp_threads.proofs.run.drive_here.Goals as goal
 
 pub returns-in_err-own-clause-stops : goal.returns-in_err-own-clause-stops

@@ -1,6 +1,6 @@
 use Rattle.std.proofs.Common.{◌≡◌, length}
 use Rattle.std.specs.Prelude.{map}
-use Rattle.mp_member.specs.Driving.{GoesOn}
+use Rattle.mp_threads_member.specs.Driving.{GoesOn}
 use Rattle.mp_threads.specs.Places.{number_of}
 use Rattle.mp_threads.proofs.run.drive_here.Given as goal
 

@@ -1,6 +1,6 @@
 use Rattle.std.proofs.Common.{◌≡◌, ◌∙◌, ◌++◌, ◌∷◌, [], Err, ap, arith, length, map, sym, true, Ok}
 use Rattle.mp_outline.specs.JobOutline.{outline_of}
-use Rattle.mp_refinement.specs.State.{WorkerState}
+use Rattle.mp_worker_refinement.specs.State.{WorkerState}
 use Rattle.mp_threads.specs.Crews.{IsFinished}
 use Rattle.mp_threads.specs.Places.{number_of}
 use Rattle.mp_threads.proofs.Ended.{same_error, where_true}

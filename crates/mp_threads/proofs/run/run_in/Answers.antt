@@ -2,8 +2,8 @@ use Rattle.std.proofs.Common.{◌∙◌, ◌++◌, ◌∷◌, ℕ, IfOk, IsTrue,
 use Rattle.mp_names.specs.Logs.{LogIsLegal}
 use Rattle.mp_outside.proofs.SinkLemmas.{grown-nothing}
 use Rattle.mp_outline.specs.JobOutline.{outline_of}
-use Rattle.mp_refinement.specs.State.{WorkerState}
-use Rattle.mp_member.specs.Members.{MemberState}
+use Rattle.mp_worker_refinement.specs.State.{WorkerState}
+use Rattle.mp_threads_member.specs.Members.{MemberState}
 use Rattle.mp_threads.specs.declared.place.Place.{Place}
 use Rattle.mp_threads.specs.Crews.{HasDoneNothing, IsFinished}
 use Rattle.mp_threads.specs.Places.{IsOver, number_of}

@@ -1,7 +1,7 @@
 use Rattle.std.proofs.Common.{◌≡◌, ◌∙◌, ◌<◌, ℕ, List, ap, arith, get_or, length, length-set, subst, take}
 use Rattle.std.proofs.Math.Seq.{map-set_same, take-length}
 use Rattle.mp_outline.specs.JobOutline.{outline_of}
-use Rattle.mp_member.specs.Members.{MemberState}
+use Rattle.mp_threads_member.specs.Members.{MemberState}
 use Rattle.mp_threads.specs.declared.place.Place.{Place}
 use Rattle.mp_threads.specs.Places.{IsOver, number_of}
 use Rattle.mp_threads.proofs.Lists.{all_up_to}

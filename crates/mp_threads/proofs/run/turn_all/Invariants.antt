@@ -1,7 +1,7 @@
 use Rattle.std.proofs.Common.{◌≡◌, All, length, take}
 use Rattle.std.specs.Prelude.{map}
 use Rattle.mp_outline.specs.JobOutline.{outline_of}
-use Rattle.mp_member.specs.declared.drive.Round.TheVariants.{Over}
+use Rattle.mp_threads_member.specs.declared.drive.Round.TheVariants.{Over}
 use Rattle.mp_threads.specs.Places.{IsOver, number_of}
 use Rattle.mp_threads.proofs.run.turn_all.Given as goal
 

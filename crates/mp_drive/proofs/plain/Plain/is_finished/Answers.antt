@@ -3,7 +3,7 @@ use Rattle.std.proofs.lemmas.Iterator.{cases_from_all, YieldsList-from_slice}
 use Rattle.mp_names.specs.Outlines.{OutlineIsSound}
 use Rattle.mp_outline.specs.JobOutline.{outline_of}
 use Rattle.mp_outline.proofs.Soundness.{outline_is_sound}
-use Rattle.mp_refinement.specs.SystemState.{KnowsTheEnd}
+use Rattle.mp_worker_refinement.specs.SystemState.{KnowsTheEnd}
 use Rattle.mp_drive.specs.Driven.{AllKnowTheEnd, AreReached, Driven}
 use Rattle.mp_drive.proofs.Ended.{all_written, lines_begin, told_by_all}
 use Rattle.mp_drive.proofs.plain.Plain.is_finished.Given as given

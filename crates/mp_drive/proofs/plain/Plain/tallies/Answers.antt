@@ -1,7 +1,7 @@
 use Rattle.std.proofs.Common.{[], ◌∷◌, ◌≡◌, ◌∙◌, ℕ, List, ap, arith, get_or, length, length-append, subst, sym}
 use Rattle.mp_outline.specs.JobOutline.{outline_of}
 use Rattle.mp_outline.proofs.Soundness.{outline_is_sound}
-use Rattle.mp_refinement.specs.State.{WorkerState}
+use Rattle.mp_worker_refinement.specs.State.{WorkerState}
 use Rattle.mp_drive.specs.Driven.{AreReached, Driven}
 use Rattle.mp_drive.proofs.Counted.{one_more_tells, tallied_at_the_end, tallied_where_complete}
 use Rattle.mp_drive.proofs.plain.Plain.tallies.Goals as goal

@@ -3,7 +3,7 @@ use Rattle.std.specs.Vec.{vec_capacity}
 use Rattle.std.proofs.lemmas.Bool.{not_from_false}
 use Rattle.std.proofs.lemmas.List.{take_all}
 use Rattle.mp_host_laws.specs.Moving.{AreNumbersOf}
-use Rattle.mp_held.specs.Numbers.{numbers_of, with_one}
+use Rattle.mp_host_states.specs.Numbers.{numbers_of, with_one}
 use Rattle.mp_host.specs.Waiting.{waits_beside}
 use Rattle.mp_host.proofs.Kept.{not_refused}
 use Rattle.mp_host.proofs.Tallied.{first_below, numbers_are, numbers_by_time, room_for_one, told_in_order}

@@ -1,7 +1,7 @@
 -- The wakes so far that wait for nothing else are counted, and the room stays.
 use Rattle.std.proofs.Common.{◌≡◌, ◌≤◌, filter, not, take}
 use Rattle.std.specs.Vec.{vec_capacity}
-use Rattle.mp_held.specs.Numbers.{numbers_of}
+use Rattle.mp_host_states.specs.Numbers.{numbers_of}
 use Rattle.mp_host.specs.Waiting.{waits_beside}
 use Rattle.mp_host.proofs.host.Host.count_waiting.Given as goal
 

@@ -1,6 +1,6 @@
 use Rattle.std.proofs.Common.{◌<◌, ◌∙◌, ℕ, ap, refl, subst, sym}
 use Rattle.mp_model.specs.Facts.{JobFacts}
-use Rattle.mp_held.specs.States.{States}
+use Rattle.mp_host_states.specs.States.{States}
 use Rattle.mp_host.proofs.Kept.{hosted_still}
 use Rattle.mp_host.proofs.Moved.{put_fit}
 use Rattle.mp_host.proofs.host.Host.hold.Goals as goal

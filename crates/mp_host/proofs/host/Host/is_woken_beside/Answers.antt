@@ -1,6 +1,6 @@
 use Rattle.std.proofs.Common.{◌≡◌, ◌∙◌, ap}
 use Rattle.mp_model.specs.Facts.{JobFacts}
-use Rattle.mp_held.specs.States.{has_own_wake_beside}
+use Rattle.mp_host_states.specs.States.{has_own_wake_beside}
 use Rattle.mp_host.proofs.WakesOf.{own_beside, wakes_are_own}
 use Rattle.mp_host.proofs.host.Host.is_woken_beside.Goals as goal
 

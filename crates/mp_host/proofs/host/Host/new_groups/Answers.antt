@@ -2,9 +2,9 @@ use Rattle.std.proofs.Common.{◌≡◌, ◌<◌, ◌∙◌, ℕ, List, [], true
 use Rattle.mp_model.specs.declared.record.Rec.{Rec}
 use Rattle.mp_outline.specs.JobOutline.{name_of_record, outline_of}
 use Rattle.mp_outline.proofs.Soundness.{outline_is_sound}
-use Rattle.mp_count_laws.specs.Changes.{new_groups}
-use Rattle.mp_count_laws.proofs.Pushes.{or_false}
-use Rattle.mp_count_laws.proofs.Took.{unapplied}
+use Rattle.mp_rows_laws.specs.Changes.{new_groups}
+use Rattle.mp_rows_laws.proofs.Pushes.{or_false}
+use Rattle.mp_rows_laws.proofs.Took.{unapplied}
 use Rattle.mp_host_laws.specs.Hosted.{Hosted, StandsInOrder, waits_at}
 use Rattle.mp_host_laws.proofs.Waiting.{waits_is_pending}
 use Rattle.mp_host.specs.Receiving.{AreToCome, begins_group, groups_begun}

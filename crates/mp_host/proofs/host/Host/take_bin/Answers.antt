@@ -1,6 +1,6 @@
 use Rattle.std.proofs.Common.{◌∙◌, ap, refl, sym}
-use Rattle.mp_held.specs.States.{States}
-use Rattle.mp_held.proofs.Places.{no_place, place_is}
+use Rattle.mp_host_states.specs.States.{States}
+use Rattle.mp_host_states.proofs.Places.{no_place, place_is}
 use Rattle.mp_host_laws.specs.Hosted.{is_held_before}
 use Rattle.mp_host.proofs.Kept.{even_on_none, hosted_still}
 use Rattle.mp_host.proofs.Moved.{left_fit, out_fits, taken_out}

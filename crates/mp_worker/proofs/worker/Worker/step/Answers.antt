@@ -3,10 +3,10 @@ use Rattle.mp_names.specs.Logs.{Log}
 use Rattle.mp_names.specs.declared.kinds.Kind.{Kind}
 use Rattle.mp_names.specs.declared.kinds.Kind.TheVariants.{Write}
 use Rattle.mp_outline.specs.JobOutline.{outline_of}
-use Rattle.mp_refinement.specs.State.{WorkerState}
+use Rattle.mp_worker_refinement.specs.State.{WorkerState}
 use Rattle.mp_worker.specs.Turns.{Answers}
 use Rattle.mp_worker.specs.Writing.{WritesInTurn}
-use Rattle.mp_refinement.proofs.Alone.{alone_by_mail, post_kept, post_same}
+use Rattle.mp_worker_refinement.proofs.Alone.{alone_by_mail, post_kept, post_same}
 use Rattle.mp_worker.proofs.Turned.{answers, answers_exchange, answers_no_memory, answers_refused, refused_in_turn, same_log_after, stays_at_hub, writes_in_turn}
 use Rattle.mp_worker.proofs.worker.Worker.step.Goals as goal
 

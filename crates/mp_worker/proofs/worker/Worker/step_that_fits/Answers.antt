@@ -1,6 +1,6 @@
 use Rattle.std.proofs.Common.{refl}
 use Rattle.mp_names.specs.declared.kinds.Kind.TheVariants.{Apply, Ingest, Settle}
-use Rattle.mp_refinement.proofs.Alone.{alone_by_mail, post_kept}
+use Rattle.mp_worker_refinement.proofs.Alone.{alone_by_mail, post_kept}
 use Rattle.mp_worker.proofs.worker.Worker.step_that_fits.Goals as goal
 
 pub route-requires-clause-stage : goal.route-requires-clause-stage

@@ -1,5 +1,0 @@
-use Rattle.mp_count_laws.proofs.Samples.{auction_applied}
-use Rattle.mp_count_laws.proofs.laws.a_step_is_there.Goals as goal
-
-pub returns : goal.returns
-returns c = auction_applied

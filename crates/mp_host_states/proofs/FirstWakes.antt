@@ -1,0 +1,129 @@
+-- The first wakes of bins tell the first wake of all states, and are kept as a bin's states change.
+use Rattle.std.proofs.Common.{◌≡◌, ◌≢◌, ◌⊎◌, ◌==◌, ◌++◌, ◌+◌, ◌<◌, ◌≤◌, ◌∙◌, ℕ, zero, suc, add-one, true, false, cond, Option, None, List, [], ◌∷◌, All, ap, arith, drop, get_or, get_or-set_other, get_or-set_same, length, refl, replicate, slice_get, slice_set, subst, sym, take, ⊎_elim}
+use Rattle.std.proofs.Math.ListN.{length-set}
+use Rattle.std.proofs.lemmas.Bool.{cases_Bool, cases_order, eq-eqb, ne_eqb}
+use Rattle.std.proofs.lemmas.List.{append-nil, get_or-replicate, length-replicate, take_all, take_more}
+use Rattle.std.proofs.lemmas.List.Elements.{filter-append}
+use Rattle.mp_host_laws.specs.declared.held.Held.{Held}
+use Rattle.mp_host_laws.specs.Hosted.{earlier_of, first_wake_of, wakes_in}
+use Rattle.mp_tournament.specs.Firsts.{first_among}
+use Rattle.mp_tournament.proofs.Among.{first_push}
+use Rattle.mp_tournament.proofs.Earlier.{earlier_assoc, earlier_comm}
+use Rattle.mp_host_states.specs.FirstWakes.{AreFirsts, of_bin}
+
+swapped : (a b c : Option (ℕ × ℕ)) → earlier_of a (earlier_of b c) ≡ earlier_of b (earlier_of a c)
+swapped a b c = sym (earlier_assoc a b c) ∙ (ap (λ (d : Option (ℕ × ℕ)). earlier_of d c) (earlier_comm a b) ∙ earlier_assoc b a c)
+
+module _ {Cell : Type 0} where
+  -- the first wake of the states of the bins below a number, one bin after the other
+  abbrev first_below : ℕ → List (Held Cell) → Option (ℕ × ℕ)
+  first_below zero held = None
+  first_below (suc n) held = earlier_of (first_wake_of (of_bin n held)) (first_below n held)
+
+  none_below : (n : ℕ) (held : List (Held Cell)) → held ≡ [] → first_below n held ≡ None
+  none_below zero held e = refl
+  none_below (suc n) held e = rw e (rw e at (none_below n held e))
+
+  apart : (s : Held Cell) (b : ℕ) → b ≢ s.bin → (s.bin == b) ≡ false
+  apart s b ne = ne_eqb s.bin b (λ e. ne (sym e))
+
+  -- a state of a bin that isn't below it is none of them
+  not_below : (n : ℕ) (s : Held Cell) (ss : List (Held Cell)) → n ≤ s.bin → first_below n (s ∷ ss) ≡ first_below n ss
+  not_below zero s ss l = refl
+  not_below (suc n) s ss l =
+      let other : (s.bin == n) ≡ false = apart s n (λ e. absurd (omega arith)) in
+      rw other (ap (earlier_of (first_wake_of (of_bin n ss))) (not_below n s ss (omega arith)))
+
+  one_below : (n : ℕ) (s : Held Cell) (ss : List (Held Cell)) → s.bin < n → first_below n (s ∷ ss) ≡ earlier_of (slice_get (wakes_in s) 0) (first_below n ss)
+  one_below zero s ss l = absurd (omega arith)
+  one_below (suc n) s ss l =
+      ⊎_elim
+      (λ (e : s.bin ≡ n).
+      let same : (s.bin == n) ≡ true = eq-eqb s.bin n e in
+      rw (same, not_below n s ss (omega arith)) (earlier_assoc (slice_get (wakes_in s) 0) (first_wake_of (of_bin n ss)) (first_below n ss)))
+      (λ (f : (s.bin < n) ⊎ (n < s.bin)).
+      ⊎_elim
+      (λ (less : s.bin < n).
+      let other : (s.bin == n) ≡ false = apart s n (λ e. absurd (omega arith)) in
+      rw other (ap (earlier_of (first_wake_of (of_bin n ss))) (one_below n s ss less) ∙ swapped (first_wake_of (of_bin n ss)) (slice_get (wakes_in s) 0) (first_below n ss)))
+      (λ (more : n < s.bin). absurd (omega arith))
+      f)
+      (cases_order s.bin n)
+
+  all_below : (n : ℕ) (held : List (Held Cell)) → All (λ s. s.bin < n) held → first_below n held ≡ first_wake_of held
+  all_below n [] below = none_below n [] refl
+  all_below n (s ∷ ss) below = one_below n s ss (below 0 s (omega arith)) ∙ ap (earlier_of (slice_get (wakes_in s) 0)) (all_below n ss (λ k d l. below (suc k) d (omega arith)))
+
+  among_those : (firsts : List (Option (ℕ × ℕ))) (held : List (Held Cell)) (n : ℕ) → n ≤ length firsts → ((b : ℕ) → b < n → get_or firsts b None ≡ first_wake_of (of_bin b held))
+      → first_among (take n firsts) ≡ first_below n held
+  among_those firsts held zero few each = refl
+  among_those firsts held (suc n) few each =
+      let more : take (suc n) firsts ≡ take n firsts ++ get_or firsts n None ∷ [] = rw add-one at (take_more firsts n None (omega arith)) in
+      let rest = among_those firsts held n (omega arith) (λ b l. each b (omega arith)) in
+      ap first_among more
+      ∙ (first_push (take n firsts) (get_or firsts n None)
+      ∙ (earlier_comm (first_among (take n firsts)) (get_or firsts n None)
+      ∙ (ap (λ (w : Option (ℕ × ℕ)). earlier_of w (first_among (take n firsts))) (each n (omega arith))
+      ∙ ap (earlier_of (first_wake_of (of_bin n held))) rest)))
+
+  -- so the first among those of the bins is the first of all
+  pub firsts_tell : (bins : ℕ) (firsts : List (Option (ℕ × ℕ))) (held : List (Held Cell)) → AreFirsts bins firsts held → All (λ s. s.bin < bins) held → first_among firsts ≡ first_wake_of held
+  firsts_tell bins firsts held are below =
+      let count = are.count in
+      sym (ap first_among (take_all bins firsts (omega arith))) ∙ (among_those firsts held bins (omega arith) are.each ∙ all_below bins held below)
+
+  -- where only a bin's states changed only its entry has to
+  pub first_set : (bins : ℕ) (firsts : List (Option (ℕ × ℕ))) (old new : List (Held Cell)) (bin : ℕ) → bin < bins → AreFirsts bins firsts old
+      → ((b : ℕ) → b ≢ bin → of_bin b new ≡ of_bin b old) → AreFirsts bins (slice_set firsts bin (first_wake_of (of_bin bin new))) new
+  first_set bins firsts old new bin inside are others = record { count = length-set firsts bin first ∙ are.count; each = each }
+    where
+      first : Option (ℕ × ℕ)
+      first = first_wake_of (of_bin bin new)
+
+      each : (b : ℕ) → b < bins → get_or (slice_set firsts bin (first_wake_of (of_bin bin new))) b None ≡ first_wake_of (of_bin b new)
+      each b l =
+          let count = are.count in
+          let other : b ≢ bin → get_or (slice_set firsts bin (first_wake_of (of_bin bin new))) b None ≡ first_wake_of (of_bin b new) = λ ne. get_or-set_other firsts bin b (first_wake_of (of_bin bin new)) None ne ∙ (are.each b l ∙ ap first_wake_of (sym (others b ne))) in
+          ⊎_elim
+          (λ (e : bin ≡ b). subst (λ (n : ℕ). get_or (slice_set firsts bin (first_wake_of (of_bin bin new))) n None ≡ first_wake_of (of_bin n new)) e (get_or-set_same firsts bin (first_wake_of (of_bin bin new)) None (omega arith)))
+          (λ (f : (bin < b) ⊎ (b < bin)). other (⊎_elim (λ (m : bin < b). λ e. absurd (omega arith)) (λ (m : b < bin). λ e. absurd (omega arith)) f))
+          (cases_order bin b)
+
+  -- the states of the other bins, where one is changed, out, or behind the others
+  pub others_changed : (held : List (Held Cell)) (at : ℕ) (s d : Held Cell) → s.bin ≡ (get_or held at d).bin → (b : ℕ) → b ≢ s.bin → of_bin b (slice_set held at s) ≡ of_bin b held
+  others_changed [] at s d same b ne = refl
+  others_changed (x ∷ xs) zero s d same b ne =
+      let one : (s.bin == b) ≡ false = apart s b ne in
+      let was : (x.bin == b) ≡ false = apart x b (λ e. ne (e ∙ sym same)) in
+      rw (one, was) refl
+  others_changed (x ∷ xs) (suc at) s d same b ne = ap (λ (ys : List (Held Cell)). cond (x.bin == b) (x ∷ ys) ys) (others_changed xs at s d same b ne)
+
+  left_out : (held : List (Held Cell)) (at : ℕ) (d : Held Cell) → at < length held → (b : ℕ) → b ≢ (get_or held at d).bin → of_bin b (take at held ++ drop (suc at) held) ≡ of_bin b held
+  left_out [] at d inside b ne = absurd (omega arith)
+  left_out (x ∷ xs) zero d inside b ne = let was : (x.bin == b) ≡ false = apart x b ne in rw was refl
+  left_out (x ∷ xs) (suc at) d inside b ne = ap (λ (ys : List (Held Cell)). cond (x.bin == b) (x ∷ ys) ys) (left_out xs at d (omega arith) b ne)
+
+  pub others_left : (held : List (Held Cell)) (at : ℕ) (one : Held Cell) → at < length held → one ≡ get_or held at one → (b : ℕ) → b ≢ one.bin → of_bin b (take at held ++ drop (at + 1) held) ≡ of_bin b held
+  others_left held at one inside is b ne = rw add-one (left_out held at one inside b (subst (λ (s : Held Cell). b ≢ s.bin) is ne))
+
+  pub others_with : (held : List (Held Cell)) (one : Held Cell) (b : ℕ) → b ≢ one.bin → of_bin b (held ++ one ∷ []) ≡ of_bin b held
+  others_with held one b ne =
+      let other : (one.bin == b) ≡ false = apart one b ne in
+      filter-append (λ (s : Held Cell). s.bin == b) held (one ∷ []) ∙ rw other (append-nil (of_bin b held))
+
+  -- states without wakes have no first one
+  none_first : (held : List (Held Cell)) (b : ℕ) → All (λ s. s.state.wakes ≡ []) held → first_wake_of (of_bin b held) ≡ None
+  none_first [] b none = refl
+  none_first (s ∷ ss) b none =
+      let rest = none_first ss b (λ k d l. none (suc k) d (omega arith)) in
+      let here : s.state.wakes ≡ [] = none 0 s (omega arith) in
+      ⊎_elim
+      (λ (e : (s.bin == b) ≡ true). rw (e, here) rest)
+      (λ (e : (s.bin == b) ≡ false). rw e rest)
+      (cases_Bool (s.bin == b))
+
+  pub no_firsts : (bins : ℕ) (held : List (Held Cell)) → All (λ s. s.state.wakes ≡ []) held → AreFirsts bins (replicate bins None) held
+  no_firsts bins held none = record {
+    count = length-replicate bins None;
+    each = λ b l. get_or-replicate bins b None None l ∙ sym (none_first held b none);
+  }

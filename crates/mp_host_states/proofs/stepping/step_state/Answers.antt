@@ -1,0 +1,39 @@
+use Rattle.mp_host_states.proofs.Finding.{cell_is}
+use Rattle.mp_host_states.proofs.Stepped.{step_cells, step_fits, step_keeps, wakes_applied}
+use Rattle.mp_msg.proofs.Sorted.{by_key-ascends}
+use Rattle.mp_host_states.proofs.stepping.step_state.Goals as goal
+
+pub step_in-requires-clause-fits : goal.step_in-requires-clause-fits
+step_in-requires-clause-fits g c = λ κs b.
+    let q = g.Q.Query.facts (g.Q.Query.rules c.args.query.now) in
+    step_fits q c.args.stage c.state.inside.cells c.args.group.now (rw (← c.state.view_is) at c.requires.fits)
+
+pub take_wake-requires : goal.take_wake-requires
+take_wake-requires g c = rw c.make_room.ensures.same (rw (← c.state.view_is) at c.requires.woken)
+
+pub invariant_of-state-2 : goal.invariant_of-state-2
+invariant_of-state-2 g c = record { cells = by_key-ascends c.step_in.new.cells.entries; wakes = c.add_all.ensures.ascending }
+
+pub returns-clause-wakes : goal.returns-clause-wakes
+returns-clause-wakes g c =
+    let taken = rw c.make_room.ensures.same at c.take_wake.ensures.exact in
+    let added = rw c.key.ensures at c.add_all.ensures.exact in
+    rw (← c.state.view_is) (wakes_applied c.state.inside.wakes.wakes c.args.group.now.time c.args.group.now.key c.args.posts.now c.take_wake.new.wakes.wakes c.add_all.new.self.wakes taken added)
+
+pub returns-clause-cells : goal.returns-clause-cells
+returns-clause-cells g c =
+    let q = g.Q.Query.facts (g.Q.Query.rules c.args.query.now) in
+    rw (← c.state.view_is) (step_cells q c.args.stage c.state.inside.cells c.args.group.now c.step_in.new.cells c.in_ok-outputs.ensures.cells)
+
+pub returns-clause-kept : goal.returns-clause-kept
+returns-clause-kept g c =
+    let q = g.Q.Query.facts (g.Q.Query.rules c.args.query.now) in
+    rw (← c.state.view_is) (step_keeps q c.args.stage c.state.inside.cells c.args.group.now c.step_in.new.cells c.in_ok-outputs.ensures.kept)
+
+pub returns-clause-outputs : goal.returns-clause-outputs
+returns-clause-outputs g c =
+    let q = g.Q.Query.facts (g.Q.Query.rules c.args.query.now) in
+    rw (← c.state.view_is, cell_is (q.fresh c.args.stage) c.state.inside.cells c.args.group.now.key) c.in_ok-outputs.ensures.outputs
+
+pub returns-clause-in_order : goal.returns-clause-in_order
+returns-clause-in_order g c = record { cells = by_key-ascends c.step_in.new.cells.entries; wakes = c.add_all.ensures.ascending }

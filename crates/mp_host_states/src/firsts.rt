@@ -1,0 +1,43 @@
+//! The first wakes of bins, each kept as the states of its bin change.
+ghost use Rattle.std.specs.Prelude.{◌≡◌, ◌≢◌, ◌<◌, ℕ, List, length};
+ghost use Rattle.mp_host_laws.specs.declared.held.Held.{Held as HeldOf};
+ghost use Rattle.mp_host_laws.specs.Hosted.{first_wake_of};
+ghost use Rattle.mp_host_states.specs.FirstWakes.{AreFirsts, of_bin};
+ghost use Rattle.mp_host_states.specs.Spans.{AreSpans, IsSpanOf, bins_of};
+
+use crate::spans::{Span, Spans};
+use mp_host_laws::Held;
+use mp_model::Time;
+use mp_tournament::{Firsts, earlier_of};
+
+/// Brings the first wake of a bin in line with the states in hand, of which the others are as they were.
+pub fn renew<C: Drop>(firsts: &mut Firsts, held: &[Held<C>], spans: &Spans, bin: u32)
+    requires spans { AreSpans spans.now (bins_of held.now) }
+    requires bin { bin < length firsts.old }
+    ensures { (bins : ℕ) (was : List (HeldOf C)) → AreFirsts bins firsts.old was
+        → ((b : ℕ) → b ≢ bin → of_bin b held.now ≡ of_bin b was) → AreFirsts bins firsts.new held.now }
+{
+    firsts.set(bin as usize, first_wake(held, spans.of(bin), bin));
+}
+
+// The first wake, by time and then by key, of the states of a bin whose span is this.
+fn first_wake<C: Drop>(held: &[Held<C>], span: Span, bin: u32) -> Option<(Time, u64)>
+    requires { IsSpanOf span bin (bins_of held.now) }
+    ensures { result ≡ first_wake_of (of_bin bin held.now) }
+{
+    let part = span.among(held.len());
+    first_of_bin(&held[part.from..part.to], bin)
+}
+
+// The same over all of some states.
+fn first_of_bin<C: Drop>(held: &[Held<C>], bin: u32) -> Option<(Time, u64)>
+    ensures { result ≡ first_wake_of (of_bin bin held.now) }
+{
+    let mut first = None;
+    for one in held {
+        if one.bin == bin {
+            first = earlier_of(first, one.state.wakes.least());
+        }
+    }
+    first
+}

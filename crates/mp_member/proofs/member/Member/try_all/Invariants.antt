@@ -1,6 +1,0 @@
-use Rattle.mp_member.specs.Driving.{GoesOn}
-use Rattle.mp_member.proofs.member.Member.try_all.Given as goal
-
-abbrev pub invariant-loop-number : goal.invariant-loop-number
-invariant-loop-number g l =
-    GoesOn (g.Q.Query.facts g.J.Naming.job.rules) g.J.Naming.job g.S.Sink.written g.S.Sink.faults g.S.Sink.frame l.fn.self.worker l.self.worker l.fn.sink l.sink

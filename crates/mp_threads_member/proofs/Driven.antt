@@ -1,0 +1,108 @@
+-- What steps of a worker, one after the other, leave in a sink.
+use Rattle.std.proofs.Common.{◌≡◌, ◌≢◌, ℕ, List, Ok, Err, IfErr, OnOk, Option, refl, sym, ap, ◌∙◌, subst, arith}
+use Rattle.std.specs.declared.result.Result.{Result}
+use Rattle.mp_names.specs.declared.kinds.Kind.{Kind}
+use Rattle.mp_names.specs.declared.kinds.Kind.TheVariants.{Write}
+use Rattle.mp_names.specs.declared.names.Name.TheVariants.{Written}
+use Rattle.mp_names.specs.Logs.{LogIsLegal, with_settled}
+use Rattle.mp_machine.specs.Promises.{LogIsFull}
+use Rattle.mp_outside.specs.Sink.{Beside, OnlyAppends, grown}
+use Rattle.mp_outside.proofs.SinkLemmas.{rose_later}
+use Rattle.mp_model.specs.Answers.{one_thread_answer}
+use Rattle.mp_model.specs.Facts.{JobFacts, QueryFacts}
+use Rattle.mp_outline.specs.JobOutline.{outline_of}
+use Rattle.mp_answer_laws.proofs.Written.{full_logs_answer}
+use Rattle.mp_worker_refinement.specs.State.{CanMake, WorkerState}
+use Rattle.mp_worker.specs.declared.turn.Stop.{Stop}
+use Rattle.mp_worker.specs.declared.turn.Stop.TheVariants as stop
+use Rattle.mp_worker.specs.declared.turn.Turn.{Turn}
+use Rattle.mp_worker.specs.Turns.{Answers}
+use Rattle.mp_worker.specs.Writing.{WritesInTurn}
+use Rattle.mp_threads_member.specs.Driving.{GoesOn, HasWritten, StopsBy}
+use Rattle.mp_threads_member.proofs.Stays.{number_stays}
+use Rattle.mp_threads_member.proofs.Written.{fault_counted, lines_follow, no_fault_counted, nothing_written, part_begins}
+
+module _ {Cell S : Type 0} (q : QueryFacts Cell) (job : JobFacts) (written : S → Option (List ℕ)) (faults : S → ℕ) (frame : S → Beside) where
+  -- No step, and more steps
+
+  pub goes_none : (s : WorkerState) (sink : S) → GoesOn q job written faults frame s s sink sink
+  goes_none s sink = record {
+    number = refl;
+    lines = λ before had. had;
+    nothing = λ other. refl;
+    no_fault = refl;
+    appends = record { same_frame = refl; faults_grow = omega arith };
+  }
+
+  further : (x y z : S) → OnlyAppends frame faults x y → OnlyAppends frame faults y z → OnlyAppends frame faults x z
+  further x y z first then_on =
+      let early = first.faults_grow in
+      let late = then_on.faults_grow in
+      record { same_frame = then_on.same_frame ∙ first.same_frame; faults_grow = omega arith }
+
+  module _ (a b c : WorkerState) (x y z : S) (first : GoesOn q job written faults frame a b x y) where
+    still_other : a.number ≢ 0 → b.number ≢ 0
+    still_other other e = other (sym first.number ∙ e)
+
+    pub goes_further : GoesOn q job written faults frame b c y z → GoesOn q job written faults frame a c x z
+    goes_further then_on = record {
+      number = then_on.number ∙ first.number;
+      lines = λ before had. then_on.lines before (first.lines before had);
+      nothing = λ other. then_on.nothing (still_other other) ∙ first.nothing other;
+      no_fault = then_on.no_fault ∙ first.no_fault;
+      appends = further x y z first.appends then_on.appends;
+    }
+
+    pub stops_later : (why : Stop) → StopsBy q job written faults frame why b c y z → StopsBy q job written faults frame why a c x z
+    stops_later why then_on = record {
+      number = then_on.number ∙ first.number;
+      part = λ zeroth before had. then_on.part (first.number ∙ zeroth) before (first.lines before had);
+      nothing = λ other. then_on.nothing (still_other other) ∙ first.nothing other;
+      failed = λ e. rose_later (faults x) (faults y) (faults z) first.appends.faults_grow (then_on.failed e);
+      no_fault = λ isnt. then_on.no_fault isnt ∙ first.no_fault;
+      appends = further x y z first.appends then_on.appends;
+    }
+
+  -- where worker 0 knows the end, the whole answer is written
+  pub answer_written : (a b : WorkerState) (x y : S) → GoesOn q job written faults frame a b x y → a.number ≡ 0 → LogIsFull (outline_of q job) b.number b.log
+      → (before : Option (List ℕ)) → HasWritten q job.events before a.log (written x) → written y ≡ grown before (one_thread_answer q job.events)
+  answer_written a b x y on zeroth full before had =
+      on.lines before had
+      ∙ ap (grown before) (full_logs_answer q job b.log (subst (λ (w : ℕ). LogIsFull (outline_of q job) w b.log) (on.number ∙ zeroth) full))
+
+  -- One step
+
+  module _ (had_room was_full was_empty : ℕ → ℕ → Type 0) (kind : Kind) (s new : WorkerState) (old now : S) (others : kind ≢ Write → now ≡ old) (appends : OnlyAppends frame faults old now) where
+    abbrev Says : Result Turn Stop → Type 0
+    Says r = Answers had_room was_full was_empty (outline_of q job) kind s new r
+
+    abbrev Leaves : Result Turn Stop → Type 0
+    Leaves r = kind ≡ Write → WritesInTurn q job written faults s old now r
+
+    pub step_goes_on : (r : Result Turn Stop) → Says r → Leaves r → OnOk r (GoesOn q job written faults frame s new old now)
+    step_goes_on (Ok turn) says leaves = record {
+      number = number_stays had_room was_full was_empty (outline_of q job) kind s new (Ok turn) says;
+      lines = λ before had. lines_follow q job written faults had_room was_full was_empty kind s new old now others before had (Ok turn) says leaves;
+      nothing = λ other. nothing_written q job written faults had_room was_full was_empty kind s new old now others other (Ok turn) says leaves;
+      no_fault = no_fault_counted q job written faults had_room was_full was_empty kind s new old now others (Ok turn) (λ e. cc) says leaves;
+      appends = appends;
+    }
+    step_goes_on (Err why) says leaves = tt
+
+    module _ (legal : LogIsLegal (outline_of q job) s.number s.log) (writing : (t : ℕ) → CanMake (outline_of q job) Write s (Written t) → LogIsLegal (outline_of q job) 0 (with_settled s.log (Written t))) where
+      pub step_stops : (r : Result Turn Stop) → Says r → Leaves r → IfErr r (λ why. StopsBy q job written faults frame why s new old now)
+      step_stops (Ok turn) says leaves = tt
+      step_stops (Err why) says leaves = record {
+        number = number_stays had_room was_full was_empty (outline_of q job) kind s new (Err why) says;
+        part = λ zeroth before had.
+            part_begins q job written faults had_room was_full was_empty kind s new old now others before had (subst (λ (w : ℕ). LogIsLegal (outline_of q job) w s.log) zeroth legal) writing (Err why) says leaves;
+        nothing = λ other. nothing_written q job written faults had_room was_full was_empty kind s new old now others other (Err why) says leaves;
+        failed = λ e.
+            fault_counted q job written faults had_room was_full was_empty kind s new old now others
+            (subst (λ (k : Stop). Says (Err k)) e says) (subst (λ (k : Stop). Leaves (Err k)) e leaves);
+        no_fault = λ isnt. no_fault_counted q job written faults had_room was_full was_empty kind s new old now others (Err why) (λ e. isnt (stop_is why stop.Write e)) says leaves;
+        appends = appends;
+      }
+        where
+          stop_is : (a b : Stop) → ◌≡◌ {A = Result Turn Stop} (Err a) (Err b) → a ≡ b
+          stop_is a b e = cc

@@ -1,0 +1,44 @@
+use Rattle.mp_outline.specs.JobOutline.{outline_of}
+use Rattle.mp_ruled.specs.Posts.{ReceiverWasEmpty, SenderHadRoom, SenderWasFull}
+use Rattle.mp_threads_member.specs.Members.{MemberState}
+use Rattle.mp_threads_member.proofs.Driven.{step_goes_on, step_stops}
+use Rattle.mp_threads_member.proofs.Stays.{member_stays, number_stays}
+use Rattle.mp_threads_member.proofs.member.Member.step.Goals as goal
+
+pub invariant_of-self : goal.invariant_of-self
+invariant_of-self g c =
+    let o = outline_of (g.Q.Query.facts g.J.Naming.job.rules) g.J.Naming.job in
+    let i = c.self.inside in
+    let e = c.step.ensures in
+    let old : MemberState = record { worker = i.worker; post = i.post; hub = i.hub } in
+    let new : MemberState = record { worker = c.step.new.self; post = c.step.new.post; hub = c.step.new.hub } in
+    member_stays o old new c.self.invariant (number_stays (SenderHadRoom i.post) (SenderWasFull i.post) (ReceiverWasEmpty i.post) o c.args.kind i.worker c.step.new.self c.step.result e.answers) e.mail e.at_hub
+
+pub returns-clause-goes_on : goal.returns-clause-goes_on
+returns-clause-goes_on g c =
+    let job = g.J.Naming.job in
+    let i = c.self.inside in
+    let e = c.step.ensures in
+    rw (← c.self.view_is)
+    (step_goes_on (g.Q.Query.facts job.rules) job g.S.Sink.written g.S.Sink.faults g.S.Sink.frame (SenderHadRoom i.post) (SenderWasFull i.post) (ReceiverWasEmpty i.post) c.args.kind i.worker c.step.new.self c.args.sink.now c.step.new.sink e.others_write_nothing e.appends_only c.step.result e.answers e.writes)
+
+pub returns-clause-stops : goal.returns-clause-stops
+returns-clause-stops g c =
+    let job = g.J.Naming.job in
+    let i = c.self.inside in
+    let e = c.step.ensures in
+    let known = c.log_is_known.ensures in
+    rw (← c.self.view_is)
+    (step_stops (g.Q.Query.facts job.rules) job g.S.Sink.written g.S.Sink.faults g.S.Sink.frame (SenderHadRoom i.post) (SenderWasFull i.post) (ReceiverWasEmpty i.post) c.args.kind i.worker c.step.new.self c.args.sink.now c.step.new.sink e.others_write_nothing e.appends_only known.legal known.writing c.step.result e.answers e.writes)
+
+pub returns-clause-answers : goal.returns-clause-answers
+returns-clause-answers g c = rw (← c.self.view_is) c.step.ensures.answers
+
+pub returns-clause-mail : goal.returns-clause-mail
+returns-clause-mail g c = rw (← c.self.view_is) c.step.ensures.mail
+
+pub returns-clause-exchanges : goal.returns-clause-exchanges
+returns-clause-exchanges g c = rw (← c.self.view_is) c.step.ensures.exchanges
+
+pub returns-clause-writes : goal.returns-clause-writes
+returns-clause-writes g c = rw (← c.self.view_is) c.step.ensures.writes

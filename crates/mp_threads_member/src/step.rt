@@ -1,0 +1,55 @@
+//! One step of a worker on its own thread.
+ghost use Rattle.std.specs.Prelude.{◌≡◌, ◌≢◌, IfErr, Ok, OnOk};
+ghost use Rattle.mp_names.specs.declared.kinds.Kind.TheVariants.{Exchange, Write};
+ghost use Rattle.mp_machine.specs.Steps.{KindFits};
+ghost use Rattle.mp_outline.specs.JobOutline.{outline_of};
+ghost use Rattle.mp_worker.specs.declared.turn.Turn.TheVariants.{NotNow};
+ghost use Rattle.mp_worker.specs.Writing.{WritesInTurn};
+ghost use Rattle.mp_threads_member.specs.Members.{AnswersByMail, ExchangesBySeat, MailFollows};
+ghost use Rattle.mp_threads_member.specs.Driving.{GoesOn, StopsBy};
+
+use crate::Member;
+use mp_gate::Gate;
+use mp_model::{Naming, Query};
+use mp_names::Kind;
+use mp_outside::Sink;
+use mp_worker::{Stop, Turn};
+use std::sync::Wait;
+
+impl<'a, Q: Query, J: Naming, R: Wait + Drop> Member<'a, Q, J, R> {
+    /// Passes the gate, and then makes one step of the worker, as `Worker::step` does with these ends, this seat and
+    /// this sink: one step of the machine, of this worker. The answers are those of `Worker::step`. `Busy`: another
+    /// thread may hold the board.
+    pub fn step<G: Gate, S: Sink>(
+        &mut self,
+        kind: Kind,
+        gate: &G,
+        sink: &mut S,
+    ) -> Result<Turn, Stop>
+        ensures answers { let o = outline_of (Q.facts J.job.rules) J.job in
+            AnswersByMail o kind self.old self.new result }
+        ensures fits { (KindFits (outline_of (Q.facts J.job.rules) J.job) kind → ⊥) → result ≡ Ok NotNow }
+        ensures mail { MailFollows (outline_of (Q.facts J.job.rules) J.job) self.old self.new }
+
+        // The board.
+        ensures exchanges { let o = outline_of (Q.facts J.job.rules) J.job in
+            kind ≡ Exchange → ExchangesBySeat o self.old self.new result }
+        ensures others_post_nothing { (kind ≢ Exchange) → self.new.hub ≡ self.old.hub }
+
+        // The sink.
+        ensures writes { kind ≡ Write
+            → WritesInTurn (Q.facts J.job.rules) J.job S.written S.faults self.old.worker sink.old sink.new result }
+        ensures others_write_nothing { (kind ≢ Write) → sink.new ≡ sink.old }
+        ensures goes_on { let q = Q.facts J.job.rules in
+            OnOk result (GoesOn q J.job S.written S.faults S.frame
+            self.old.worker self.new.worker sink.old sink.new) }
+        ensures stops { let q = Q.facts J.job.rules in
+            IfErr result (λ stop. StopsBy q J.job S.written S.faults S.frame stop
+            self.old.worker self.new.worker sink.old sink.new) }
+    {
+        // What the worker's log is before the step.
+        self.worker.log_is_known();
+        gate.pass(self.worker.number(), kind);
+        self.worker.step(kind, &mut self.post, &mut self.hub, sink)
+    }
+}

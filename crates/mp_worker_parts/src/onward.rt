@@ -1,0 +1,120 @@
+//! Where the outputs of a group go: to the router of the next stage, and from the last one to the answer rows to be sent.
+ghost use Rattle.std.specs.Prelude.{◌≡◌, ◌≤◌, ◌<◌, ◌+◌, ℕ, [], All, Contains, IsOk, IsSome, None, OnOk, Some, length, map, slice_get};
+ghost use Rattle.mp_names.specs.Logs.{Log};
+ghost use Rattle.mp_names.specs.Limits.{last_time};
+ghost use Rattle.mp_model.specs.Folds.{outputs_at};
+ghost use Rattle.mp_model.specs.Stages.{answer_rows};
+ghost use Rattle.mp_outline.specs.JobOutline.{name_of_record, name_of_row};
+ghost use Rattle.mp_msg.specs.Contents.{IsRecordOf};
+ghost use Rattle.mp_route.specs.Routed.{Routed};
+ghost use Rattle.mp_route.specs.Unsent.{HoldsAllBut, HoldsUnsent};
+ghost use Rattle.mp_rows_laws.specs.Changes.{location_after};
+ghost use Rattle.mp_worker_parts.specs.Onward.{content, records_at};
+ghost use Rattle.mp_worker_invariant.specs.Parts.{HoldsRowsBut};
+
+use mp_model::{Naming, Output, Query, Rec, Time, Value};
+use mp_names::{Loc, Tag};
+use mp_output::Unsent;
+use mp_route::Router;
+use std::alloc::AllocError;
+
+/// The location at which the outputs of a stage are counted until they are sent.
+pub fn location_after(stage: u32, stages: u32) -> Loc
+    requires { stage < stages }
+    ensures { result ≡ location_after stage stages }
+{
+    if stage + 1 == stages {
+        Loc::OutRoute
+    } else {
+        Loc::Route(stage + 1)
+    }
+}
+
+/// Makes room for this many outputs that go to the stage `at`: in its router, or where there is no such stage in the answer
+/// rows. `AllocError`: no memory, and nothing but rooms changes.
+pub fn make_room_onward<Q: Query, J: Naming>(
+    at: usize,
+    count: u64,
+    routers: &mut [Router<Q, J>],
+    unsent: &mut Unsent<Q, J>,
+) -> Result<(), AllocError>
+    ensures held { map content routers.new ≡ map content routers.old }
+    ensures rows { unsent.new.rows ≡ unsent.old.rows }
+    ensures router { OnOk result ((r : Routed) → slice_get routers.new at ≡ Some r → count ≤ r.room) }
+    ensures unsent { OnOk result (slice_get routers.new at ≡ None → count ≤ unsent.new.room) }
+{
+    if at < routers.len() {
+        routers[at].make_room(count)
+    } else {
+        unsent.make_room(count)
+    }
+}
+
+/// Gives the outputs of a group, which has this time and key, to the router of a stage, each as a record of its own key and
+/// with its place in its tag. The router has room for them, so `AllocError` never comes.
+pub fn hold_records<Q: Query, J: Naming>(
+    query: &Q,
+    stage: u32,
+    time: Time,
+    group: u64,
+    outputs: Vec<Value>,
+    router: &mut Router<Q, J>,
+) -> Result<(), AllocError>
+    requires rules { Q.rules query.now ≡ J.job.rules }
+    requires time { time ≤ last_time }
+    requires keys { let q = Q.facts J.job.rules in
+        All (λ v. IsSome (q.key stage time v)) outputs.items }
+    requires stage { router.old.stage ≡ stage }
+    requires records { let q = Q.facts J.job.rules in
+        All (IsRecordOf q J.job stage) (records_at q stage time group outputs.items) }
+    requires room { length outputs.items ≤ router.old.room }
+    ensures done { IsOk result }
+    ensures stage { router.new.stage ≡ router.old.stage }
+    ensures held { let q = Q.facts J.job.rules in
+        (w : ℕ) (log : Log)
+        → HoldsAllBut q J.job w log (map (name_of_record stage) (records_at q stage time group outputs.items)) router.old
+        → HoldsUnsent q J.job w log router.new }
+{
+    let mut place = 0;
+    for value in outputs {
+        let Some(key) = query.key(stage, time, &value) else {
+            unreachable!()
+        };
+        router.hold(Rec {
+            time,
+            key,
+            tag: Tag(group, place),
+            value,
+        })?;
+        place += 1;
+    }
+    Ok(())
+}
+
+/// Gives the outputs of a group of the last stage, which has this time and key, to the answer rows to be sent, each with its
+/// place in its tag. There is room for them, so `AllocError` never comes.
+pub fn hold_rows<Q: Query, J: Naming>(
+    time: Time,
+    group: u64,
+    outputs: Vec<Value>,
+    unsent: &mut Unsent<Q, J>,
+) -> Result<(), AllocError>
+    requires rows { All (Contains (answer_rows (Q.facts J.job.rules) J.job.events)) (outputs_at time group outputs.items) }
+    requires room { length outputs.items ≤ unsent.old.room }
+    ensures done { IsOk result }
+    ensures held { let q = Q.facts J.job.rules in
+        (w : ℕ) (log : Log)
+        → HoldsRowsBut q J.job w log (map name_of_row (outputs_at time group outputs.items)) unsent.old.rows
+        → HoldsRowsBut q J.job w log [] unsent.new.rows }
+{
+    let mut place = 0;
+    for value in outputs {
+        unsent.hold(Output {
+            time,
+            tag: Tag(group, place),
+            value,
+        })?;
+        place += 1;
+    }
+    Ok(())
+}

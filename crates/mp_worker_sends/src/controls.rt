@@ -1,0 +1,54 @@
+//! How worker 0 sends control records.
+ghost use Rattle.mp_names.specs.declared.kinds.Kind.TheVariants.{SendControl};
+ghost use Rattle.mp_outline.specs.JobOutline.{outline_of};
+ghost use Rattle.mp_worker_refinement.specs.Served.{IsAtPost, PostFollows};
+ghost use Rattle.mp_worker_refinement.specs.Steps.{StepsByMail};
+
+use crate::push::send;
+use mp_mailbox::Post;
+use mp_model::{Naming, Query};
+use mp_msg::{Msg, Names};
+use mp_names::{ControlCursor, Loc, Name};
+use mp_rows::NewNames;
+use mp_worker_parts::{one_less, one_more, place_after};
+use mp_worker_steps::Parts;
+use std::alloc::AllocError;
+
+/// Worker 0 sends the first control record that isn't sent, by index and then by receiver, itself among them: its name,
+/// or `None` exactly where all are sent, the mailbox was full, or this is another worker. `AllocError`: no memory, and
+/// nothing changes.
+#[tactic(auto, using(crate::proofs::Kept::messages_stay))]
+pub fn send_control<'a, Q: Query, J: Naming, P: Post<Msg<Q, J>>>(
+    parts: &mut Parts<'a, Q, J>,
+    post: &mut P,
+) -> Result<Option<Names>, AllocError>
+    requires at_post { let o = outline_of (Q.facts J.job.rules) J.job in
+        IsAtPost P.workers P.depth P.serves P.denotes o parts.old.worker.number parts.old.worker.log post.old }
+    ensures steps { let o = outline_of (Q.facts J.job.rules) J.job in
+        StepsByMail (P.had_room post.old) (P.was_full post.old) (P.was_empty post.old) o SendControl parts.old.worker parts.new.worker result }
+    ensures mail { let o = outline_of (Q.facts J.job.rules) J.job in
+        PostFollows P.workers P.depth P.serves P.denotes P.waits o parts.old.worker.number parts.old.worker.log parts.new.worker.log post.old post.new }
+{
+    let ControlCursor { index, receiver } = parts.next;
+    if parts.log.worker() != 0 {
+        return Ok(None);
+    }
+    let Some(control) = parts.job.controls().get(index as usize) else {
+        return Ok(None);
+    };
+    parts.log.make_room(2)?;
+    let changes = [
+        one_less(Loc::Ctl, control.time),
+        one_more(Loc::CtlMail, control.time),
+    ];
+    let message = Msg::control(index, receiver, *control);
+    let names = NewNames::one(Name::Ctrl {
+        index,
+        to: receiver,
+    });
+    let Ok(told) = send(&mut parts.log, post, receiver, message, names, &changes) else {
+        return Ok(None);
+    };
+    parts.next = place_after(parts.job.shape().workers, parts.next);
+    Ok(Some(told))
+}

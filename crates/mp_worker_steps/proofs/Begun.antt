@@ -1,0 +1,36 @@
+-- A new worker: its parts hold nothing, as its empty log says.
+use Rattle.std.proofs.Common.{◌≡◌, ℕ, ◌<◌, List, [], arith, length}
+use Rattle.std.specs.Prelude.{replicate}
+use Rattle.mp_names.specs.Logs.{Log, empty_log}
+use Rattle.mp_names.specs.Outlines.{OutlineIsSound}
+use Rattle.mp_stamps.specs.declared.seen.Seen.{Seen}
+use Rattle.mp_bins.specs.Notes.{IsShape, Notes}
+use Rattle.mp_model.specs.Facts.{JobFacts, QueryFacts}
+use Rattle.mp_board.specs.Boards.{ShowsFrontiers}
+use Rattle.mp_outline.specs.JobOutline.{outline_of}
+use Rattle.mp_rows.specs.WorkerLog.{WorkerLog}
+use Rattle.mp_route.specs.Routed.{Routed}
+use Rattle.mp_host_laws.specs.Hosted.{Hosted}
+use Rattle.mp_handoff.specs.MoversState.{MoversState}
+use Rattle.mp_output.specs.Unwritten.{Unwritten}
+use Rattle.mp_worker_invariant.specs.Parts.{AreMoversAt, ArePartsOf, AtEach, IsHostAt, IsRouterAt, cursor}
+use Rattle.mp_worker_invariant.proofs.Asked.{parts_begin}
+use Rattle.mp_worker_refinement.proofs.Begins.{opening_is_told}
+use Rattle.mp_worker_steps.specs.Kept.{parts_with}
+
+module _ {Cell : Type 0} (q : QueryFacts Cell) (job : JobFacts) (sound : OutlineIsSound (outline_of q job)) where
+  -- there is a worker, a bin and a stage
+  pub some_of_each : IsShape job.shape
+  some_of_each = let bin = sound.bins_fit 0 in (sound.some_worker, omega arith, sound.some_stage)
+
+  module _ (w : ℕ) (seen : Seen) (inside : w < job.shape.workers) (opening : ShowsFrontiers (outline_of q job) (replicate job.shape.workers empty_log) seen) where
+    pub parts_at_first :
+        (log : WorkerLog) (posted : Log) (notes : Notes) (routers : List Routed) (hosts : List (Hosted Cell)) (movers : List MoversState) (unsent unwritten : Unwritten)
+        → log.worker ≡ w → log.log ≡ empty_log → posted ≡ empty_log → notes.shape ≡ job.shape → notes.noted ≡ [] → length routers ≡ job.shape.stages
+        → AtEach routers (IsRouterAt q job w empty_log) → length hosts ≡ job.shape.stages → AtEach hosts (IsHostAt q job w empty_log)
+        → length movers ≡ job.shape.stages → AtEach movers (AreMoversAt q job w empty_log) → unsent.rows ≡ [] → unwritten.rows ≡ []
+        → ArePartsOf q job (parts_with log posted seen notes (cursor 0 0) routers hosts movers unsent unwritten)
+    parts_at_first log posted notes routers hosts movers unsent unwritten number empty nothing shape none all_routers at_routers all_hosts at_hosts all_movers at_movers no_unsent no_unwritten =
+        let done = opening_is_told (outline_of q job) w seen sound inside opening in
+        rw (number, empty, nothing, no_unsent, no_unwritten)
+        (parts_begin q job w seen notes routers hosts movers inside done shape none all_routers at_routers all_hosts at_hosts all_movers at_movers)

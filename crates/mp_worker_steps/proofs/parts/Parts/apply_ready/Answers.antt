@@ -1,0 +1,105 @@
+use Rattle.std.proofs.Common.{◌≡◌, ◌∙◌, ◌+◌, ap, refl, sym, Some, arith}
+use Rattle.std.proofs.lemmas.Bool.{false≢true}
+use Rattle.std.proofs.lemmas.Option.{slice_get-get_or}
+use Rattle.mp_names.specs.declared.kinds.Kind.TheVariants.{Apply}
+use Rattle.mp_names.specs.declared.names.Name.TheVariants.{Group}
+use Rattle.mp_rows.specs.WorkerLog.{WorkerLog}
+use Rattle.mp_host_laws.specs.Hosted.{Hosted}
+use Rattle.mp_worker_invariant.proofs.Items.{again_there}
+use Rattle.mp_worker_invariant.proofs.Standing.{host_at, informed, knows, router_at}
+use Rattle.mp_worker_steps.specs.Contents.{worker_of}
+use Rattle.mp_worker_steps.proofs.Keeping.{kept_by, makes}
+use Rattle.mp_worker_steps.proofs.Stepping.{group_fits}
+use Rattle.mp_worker_steps.proofs.parts.Parts.apply_ready.Goals as goal
+use Rattle.mp_worker_steps.proofs.parts.Parts.apply_ready.Goals.{then-stage-stages+in_ok-hold_records, else-stage-stages+in_ok-hold_rows}
+
+pub apply_group-requires-clause-informed : goal.apply_group-requires-clause-informed
+apply_group-requires-clause-informed g c κs within =
+    let kept = c.self.invariant in
+    let at = host_at kept.parts c.args.stage c.requires.stage c.index_mut-host.result.now c.index_mut-host.ensures.value in
+    (c.self.inside.log.log, informed kept.sound kept.parts c.args.stage _ at, knows kept.sound kept.parts c.args.stage c.requires.stage _ at)
+
+pub apply_group-requires-clause-ready : goal.apply_group-requires-clause-ready
+apply_group-requires-clause-ready g c κs within =
+    let h = c.index_mut-host.result.now in
+    let all = c.self.invariant.parts.all_hosts in
+    let below = c.requires.stage in
+    let there = slice_get-get_or c.self.inside.hosts.items c.args.stage h (omega arith) ∙ ap (λ (x : Hosted g.row.Q-Cell.Denot). Some x) (sym c.index_mut-host.ensures.value) in
+    (rw (← c.self.view_is) at c.requires.ready) h there
+
+pub invariant_of-self : goal.invariant_of-self
+invariant_of-self g c = rw (again_there c.self.inside.hosts.items c.args.stage c.index_mut-host.result.now c.apply_group.new.host c.index_mut-host.ensures.value c.in_err-applied.ensures.unchanged) c.self.invariant
+
+pub push-requires : goal.push-requires
+push-requires g c =
+    let told = c.in_ok-applied.ensures.told _ _ c.self.invariant c.index_mut-host.ensures.value refl refl in
+    let to = rw (c.shape-stages.ensures.shape, c.self.invariant.same) at c.location_after-onward.ensures in
+    record { changes = rw (c.as_slice.ensures.value, c.in_ok-push_changes.ensures.changes) (told.changes c.location_after-onward.result to) }
+
+pub push_changes-requires : goal.push_changes-requires
+push_changes-requires g c =
+    let fits = group_fits c.self.invariant c.self.view_is (c.in_ok-applied.ensures.told _ _ c.self.invariant c.index_mut-host.ensures.value refl refl) c.requires.room in
+    record { empty = fits.empty; room = fits.list }
+
+pub invariant_of-self-in_err-push : goal.invariant_of-self-in_err-push
+invariant_of-self-in_err-push g c =
+    let fits = group_fits c.self.invariant c.self.view_is (c.in_ok-applied.ensures.told _ _ c.self.invariant c.index_mut-host.ensures.value refl refl) c.requires.room in
+    let few = fits.changes c.location_after-onward.result c.as_slice.result.now (c.as_slice.ensures.value ∙ c.in_ok-push_changes.ensures.changes) in
+    absurd (false≢true (c.in_err-push.ensures.ready fits.names few))
+
+pub hold_records-requires-clause-time : goal.hold_records-requires-clause-time
+hold_records-requires-clause-time g c κs within = (c.in_ok-applied.ensures.told _ _ c.self.invariant c.index_mut-host.ensures.value refl refl).in_time
+
+pub hold_records-requires-clause-keys : goal.hold_records-requires-clause-keys
+hold_records-requires-clause-keys g c κs within =
+    (c.in_ok-applied.ensures.told _ _ c.self.invariant c.index_mut-host.ensures.value refl refl).keyed (rw (c.shape-stages.ensures.shape, c.self.invariant.same) at c.if-stage-stages.true)
+
+pub hold_records-requires-clause-stage : goal.hold_records-requires-clause-stage
+hold_records-requires-clause-stage g c κs within =
+    let next = rw (c.shape-stages.ensures.shape, c.self.invariant.same) at c.if-stage-stages.true in
+    (router_at c.self.invariant.parts (c.args.stage + 1) next c.index_mut-router.result.now c.index_mut-router.ensures.value).0
+
+pub hold_records-requires-clause-records : goal.hold_records-requires-clause-records
+hold_records-requires-clause-records g c κs within =
+    (c.in_ok-applied.ensures.told _ _ c.self.invariant c.index_mut-host.ensures.value refl refl).records (rw (c.shape-stages.ensures.shape, c.self.invariant.same) at c.if-stage-stages.true)
+
+pub hold_records-requires-clause-room : goal.hold_records-requires-clause-room
+hold_records-requires-clause-room g c κs within =
+    let told = c.in_ok-applied.ensures.told _ _ c.self.invariant c.index_mut-host.ensures.value refl refl in
+    let next = rw (c.shape-stages.ensures.shape, c.self.invariant.same) at c.if-stage-stages.true in
+    (group_fits c.self.invariant c.self.view_is told c.requires.room).router next c.index_mut-router.result.now c.index_mut-router.ensures.value
+
+pub invariant_of-self-in-Continue-branch-4 : goal.invariant_of-self-in-Continue-branch-4
+invariant_of-self-in-Continue-branch-4 g c =
+    let told = c.in_ok-applied.ensures.told _ _ c.self.invariant c.index_mut-host.ensures.value refl refl in
+    let next = rw (c.shape-stages.ensures.shape, c.self.invariant.same) at c.if-stage-stages.true in
+    kept_by c.self.invariant c.push.new.self (ap (λ (l : WorkerLog). l.worker) c.in_ok-push.ensures.pushed) (ap (λ (l : WorkerLog). l.log) c.in_ok-push.ensures.pushed)
+    (told.next next c.index_mut-router.result.now c.hold_records.new.router c.index_mut-router.ensures.value c.in_ok-hold_records.ensures.stage c.in_ok-hold_records.ensures.held)
+
+pub hold_rows-requires-clause-rows : goal.hold_rows-requires-clause-rows
+hold_rows-requires-clause-rows g c κs within =
+    (c.in_ok-applied.ensures.told _ _ c.self.invariant c.index_mut-host.ensures.value refl refl).rows (rw (c.shape-stages.ensures.shape, c.self.invariant.same) at c.if-stage-stages.false)
+
+pub hold_rows-requires-clause-room : goal.hold_rows-requires-clause-room
+hold_rows-requires-clause-room g c κs within =
+    let told = c.in_ok-applied.ensures.told _ _ c.self.invariant c.index_mut-host.ensures.value refl refl in
+    (group_fits c.self.invariant c.self.view_is told c.requires.room).unsent (rw (c.shape-stages.ensures.shape, c.self.invariant.same) at c.if-stage-stages.false)
+
+pub invariant_of-self-in-Continue-branch-5 : goal.invariant_of-self-in-Continue-branch-5
+invariant_of-self-in-Continue-branch-5 g c =
+    let ends = rw (c.shape-stages.ensures.shape, c.self.invariant.same) at c.if-stage-stages.false in
+    kept_by c.self.invariant c.push.new.self (ap (λ (l : WorkerLog). l.worker) c.in_ok-push.ensures.pushed) (ap (λ (l : WorkerLog). l.log) c.in_ok-push.ensures.pushed)
+    ((c.in_ok-applied.ensures.told _ _ c.self.invariant c.index_mut-host.ensures.value refl refl).last ends c.hold_rows.new.unsent.rows c.in_ok-hold_rows.ensures.held)
+
+pub returns : goal.returns
+returns g c =
+    let told = c.in_ok-applied.ensures.told _ _ c.self.invariant c.index_mut-host.ensures.value refl refl in
+    let i = c.self.inside in
+    let applied = c.in_ok-applied.applied in
+    let pushed = ap (λ (l : WorkerLog). record { number = l.worker; log = c.push.new.self.log; posted = i.posted.value.log; seen = i.seen }) c.in_ok-push.ensures.pushed in
+    let self_is : c.if-stage-stages.self.worker ≡ record { number = i.log.worker; log = c.push.new.self.log; posted = i.posted.value.log; seen = i.seen } =
+    elim c.if-stage-stages.branch [ then-stage-stages+in_ok-hold_records w ↦ ap worker_of w.self-is ∙ pushed | else-stage-stages+in_ok-hold_rows w ↦ ap worker_of w.self-is ∙ pushed ] in
+    rw (← c.self.view_is, self_is) (makes c.self.invariant (Apply c.args.stage) (Group c.args.stage applied.time applied.key) c.requires.stage told.can refl c.push.new.self.log (ap (λ (l : WorkerLog). l.log) c.in_ok-push.ensures.pushed))
+
+pub invariant_of-self-in_err-push_changes : goal.invariant_of-self-in_err-push_changes
+invariant_of-self-in_err-push_changes g c = absurd (false≢true c.in_err-push_changes.ensures.done)

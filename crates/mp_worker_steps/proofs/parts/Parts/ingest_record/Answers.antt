@@ -1,0 +1,44 @@
+use Rattle.std.proofs.Common.{◌∙◌, ap, arith, Some, refl, subst, sym}
+use Rattle.std.proofs.lemmas.Option.{slice_get-get_or}
+use Rattle.mp_names.specs.declared.kinds.Kind.TheVariants.{Ingest}
+use Rattle.mp_msg.specs.Contents.{IsRecordOf}
+use Rattle.mp_route.specs.Routed.{Routed}
+use Rattle.mp_outline.specs.JobOutline.{name_of_record}
+use Rattle.mp_worker_invariant.proofs.Standing.{router_at}
+use Rattle.mp_worker_parts.proofs.Ingested.{can_ingest, ingested_counts, record_ingested, some_router}
+use Rattle.mp_worker_steps.proofs.Keeping.{kept_as, makes}
+use Rattle.mp_worker_steps.proofs.Rooms.{not_refused}
+use Rattle.mp_worker_steps.proofs.parts.Parts.ingest_record.Goals as goal
+
+pub push-requires : goal.push-requires
+push-requires g c = record { changes = rw (c.one_less.ensures, c.one_more.ensures) (ingested_counts c.self.invariant.sound c.self.invariant.parts c.args.rec (rw (← c.self.view_is) at c.requires.next)) }
+
+pub unreachable-requires : goal.unreachable-requires
+unreachable-requires g c =
+    let room = rw (← c.self.view_is) at c.requires.room in
+    not_refused c.push.result (c.push.ensures.ready room.names room.changes) c.in_default.not-Ok
+
+pub index_mut-requires : goal.index_mut-requires
+index_mut-requires g c = omega (arith, some_router c.self.invariant.sound c.self.invariant.parts, c.self.inside.routers.ok.0)
+
+pub hold-requires-after_bounds : goal.hold-requires-after_bounds
+hold-requires-after_bounds g c κs within =
+    let at = router_at c.self.invariant.parts 0 c.self.invariant.sound.some_stage c.index_mut.result.now c.index_mut.ensures.value in
+    subst (λ j. IsRecordOf (g.Q.Query.facts g.J.Naming.job.rules) g.J.Naming.job j c.args.rec) (sym at.0) (rw (← c.self.view_is) at c.requires.next).1
+
+pub unreachable-requires-in_default-hold : goal.unreachable-requires-in_default-hold
+unreachable-requires-in_default-hold g c =
+    let some = some_router c.self.invariant.sound c.self.invariant.parts in
+    let there = slice_get-get_or c.self.inside.routers.items 0 c.index_mut.result.now some ∙ ap (λ (x : Routed). Some x) (sym c.index_mut.ensures.value) in
+    not_refused c.hold.result (c.hold.ensures.never_refused_with_room ((rw (← c.self.view_is) at c.requires.room).router c.index_mut.result.now there)) c.in_default-hold.not-Ok
+
+pub invariant_of-self : goal.invariant_of-self
+invariant_of-self g c =
+    let kept = c.self.invariant in
+    let next = rw (← c.self.view_is) at c.requires.next in
+    rw c.in-Ok.ensures.pushed (kept_as kept (record_ingested kept.sound kept.parts c.args.rec next c.index_mut.result.now c.hold.new.self c.index_mut.ensures.value c.hold.ensures.stage c.in-Ok-hold.ensures.unsent))
+
+pub returns : goal.returns
+returns g c =
+    let can = can_ingest c.self.invariant.sound c.self.invariant.parts c.args.rec (rw (← c.self.view_is) at c.requires.next) in
+    rw (← c.self.view_is, c.in-Ok.ensures.pushed) (makes c.self.invariant Ingest (name_of_record 0 c.args.rec) tt can refl _ refl)

@@ -1,0 +1,38 @@
+use Rattle.std.proofs.Common.{◌∙◌, ap, length}
+use Rattle.mp_model.specs.Facts.{JobFacts}
+use Rattle.mp_worker_steps.specs.Contents.{number_of_times}
+use Rattle.mp_worker_invariant.proofs.Items.{written_back}
+use Rattle.mp_worker_steps.proofs.Keeping.{on_ok}
+use Rattle.mp_worker_steps.proofs.Rooms.{front_roomy, hosts_roomy, movers_roomy}
+use Rattle.mp_worker_steps.specs.Rooms.{roomless, without_room}
+use Rattle.mp_worker_steps.proofs.parts.Parts.make_room_to_take.Goals as goal
+
+pub invariant_of-self-in_err-make_room_to_take : goal.invariant_of-self-in_err-make_room_to_take
+invariant_of-self-in_err-make_room_to_take g c =
+    let made = c.make_room_to_take in
+    front_roomy c.self.invariant made.new.log made.ensures.same_log.0 made.new.owners made.new.rows.rows made.ensures.same_log.1 made.ensures.same_owners made.ensures.same_rows
+
+pub invariant_of-self-in_err-make_room_in_hosts : goal.invariant_of-self-in_err-make_room_in_hosts
+invariant_of-self-in_err-make_room_in_hosts g c =
+    let made = c.make_room_to_take in
+    let front = front_roomy c.self.invariant made.new.log made.ensures.same_log.0 made.new.owners made.new.rows.rows made.ensures.same_log.1 made.ensures.same_owners made.ensures.same_rows in
+    hosts_roomy front c.deref_mut.result.now c.make_room_in_hosts.new.hosts c.self.inside.hosts.len c.deref_mut.ensures.value c.deref_mut.ensures.len c.make_room_in_hosts.ensures.same
+
+pub invariant_of-self-2 : goal.invariant_of-self-2
+invariant_of-self-2 g c =
+    let made = c.make_room_to_take in
+    let front = front_roomy c.self.invariant made.new.log made.ensures.same_log.0 made.new.owners made.new.rows.rows made.ensures.same_log.1 made.ensures.same_owners made.ensures.same_rows in
+    let hosts = hosts_roomy front c.deref_mut.result.now c.make_room_in_hosts.new.hosts c.self.inside.hosts.len c.deref_mut.ensures.value c.deref_mut.ensures.len c.make_room_in_hosts.ensures.same in
+    movers_roomy hosts c.deref_mut-2.result.now c.make_room_in_movers.new.movers c.self.inside.movers.len c.deref_mut-2.ensures.value c.deref_mut-2.ensures.len c.make_room_in_movers.ensures.same
+
+pub returns-clause-room : goal.returns-clause-room
+returns-clause-room g c =
+    let i = c.self.inside in
+    let ok = c.in_ok-make_room_to_take.ensures in
+    let lists = c.in_ok-make_room.ensures in
+    let times = ap length c.times-times.ensures ∙ ap (λ (f : JobFacts). number_of_times (g.Q.Query.facts f.rules) f) c.self.invariant.same in
+    let hosts = written_back without_room i.hosts.items c.deref_mut.result.now c.make_room_in_hosts.new.hosts i.hosts.len c.deref_mut.ensures.len c.make_room_in_hosts.ensures.same in
+    let movers = written_back roomless i.movers.items c.deref_mut-2.result.now c.make_room_in_movers.new.movers i.movers.len c.deref_mut-2.ensures.len c.make_room_in_movers.ensures.same in
+    rw (hosts, movers)
+    (on_ok c.make_room_in_movers.result c.make_room_in_movers.ensures.room
+    (λ roomy. record { names = ok.log.0; changes = rw (← times) ok.log.1; notes = ok.owners; rows = ok.rows; hosts = c.in_ok-make_room_in_hosts.ensures.room; movers = roomy; empty = lists.empty; lists = (rw (← times) lists.room.0, rw (← times) lists.room.1) }))

@@ -1,0 +1,20 @@
+use Rattle.mp_names.specs.declared.kinds.Kind.TheVariants.{Ingest}
+use Rattle.mp_worker_parts.proofs.Ingested.{has_record, next_record, none_to_ingest}
+use Rattle.mp_worker_steps.proofs.Keeping.{can_do}
+use Rattle.mp_worker_steps.proofs.parts.Parts.next_record.Goals as goal
+
+pub returns-in_default-clause-none : goal.returns-in_default-clause-none
+returns-in_default-clause-none g c =
+    let share = rw (c.self.invariant.same, c.worker.ensures) at c.share.ensures in
+    let past = rw c.ingested-next.ensures at c.in_default.ensures.lookup.3 in
+    rw (← c.self.view_is) (λ x can. none_to_ingest c.self.invariant.sound c.self.invariant.parts _ share past x (can_do c.self.invariant Ingest x can))
+
+pub rec_at-requires-after_bounds : goal.rec_at-requires-after_bounds
+rec_at-requires-after_bounds g c κs within =
+    has_record (g.Q.Query.facts c.self.inside.job.now.rules) c.self.inside.job.now c.worker.result _ _ _ c.share.ensures c.in-Some.ensures.lookup.3.0 (c.in-Some.ensures.lookup.3.1 _)
+
+pub returns-clause-next : goal.returns-clause-next
+returns-clause-next g c =
+    let share = rw (c.self.invariant.same, c.worker.ensures) at c.share.ensures in
+    let found = rw c.ingested-next.ensures at c.in-Some.ensures.lookup.3 in
+    rw (← c.self.view_is) (next_record c.self.invariant.sound c.self.invariant.parts _ share _ _ found.0 (found.1 _) (rw c.self.invariant.same at c.in_ok-rec_at.ensures))

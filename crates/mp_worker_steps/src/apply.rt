@@ -1,0 +1,166 @@
+//! How a worker applies groups.
+ghost use Rattle.std.specs.Prelude.{◌≡◌, ◌≤◌, ◌<◌, ◌+◌, ◌^◌, ◌++◌, ◌∷◌, ℕ, [], IfNone, IfOk, IfSome, IsOk, OnErr, OnOk, get_or, length, map};
+ghost use Rattle.std.specs.Vec.{vec_capacity};
+ghost use Rattle.mp_names.specs.declared.locations.Loc.TheVariants.{Host as HostLoc};
+ghost use Rattle.mp_names.specs.declared.kinds.Kind.TheVariants.{Apply};
+ghost use Rattle.mp_names.specs.declared.names.Name.{Name};
+ghost use Rattle.mp_names.specs.Logs.{Log};
+ghost use Rattle.mp_model.specs.Facts.{JobFacts};
+ghost use Rattle.mp_rows_laws.specs.Changes.{one_less, one_more, some_more};
+ghost use Rattle.mp_outline.specs.JobOutline.{outline_of};
+ghost use Rattle.mp_host_laws.specs.HostOf.{HostMatchesLogAndSeen, OwnersAreCurrent};
+ghost use Rattle.mp_host.specs.Ready.{IsReadyHere};
+ghost use Rattle.mp_worker_invariant.specs.Parts.{Parts as PartsFacts};
+ghost use Rattle.mp_worker_parts.specs.Applying.{IsApplying};
+ghost use Rattle.mp_worker_refinement.specs.State.{CanMake};
+ghost use Rattle.mp_worker_refinement.specs.Steps.{StepsAlone};
+ghost use Rattle.mp_worker_steps.specs.Applying.{HasRoomToApply, IsEnoughFor, SomeGroupIsReady};
+ghost use Rattle.mp_worker_steps.specs.Kept.{IsKept};
+
+use crate::parts::Parts;
+use mp_bins::Owners;
+use mp_host::{Applied, Host};
+use mp_model::{Naming, Query};
+use mp_msg::Names;
+use mp_names::{Loc, Name};
+use mp_rows::{Change, LogList};
+use mp_stamps::Seen;
+use mp_worker_parts::{
+    hold_records, hold_rows, location_after, make_room_onward, one_less, one_more, push_more,
+};
+use std::alloc::{AllocError, Global};
+
+impl<'a, Q: Query, J: Naming> Parts<'a, Q, J> {
+    /// The least group of a stage that waits is applied, once all that belongs to it has come; what it gives goes to the
+    /// router of the next stage, or from the last stage to the answer rows to be sent: its name, or `None` exactly where
+    /// no group may be applied. `AllocError`: no memory, and nothing changes.
+    pub fn apply(&mut self, stage: u32) -> Result<Option<Names>, AllocError>
+        requires stage { stage < J.job.shape.stages }
+        ensures { let o = outline_of (Q.facts J.job.rules) J.job in
+            StepsAlone o (Apply stage) self.old.worker self.new.worker result }
+    {
+        let Some(most) = self.most_of_ready(stage) else {
+            return Ok(None);
+        };
+        self.make_room_to_apply(stage as usize + 1, most)?;
+        self.apply_ready(stage)
+    }
+
+    // No fewer than the outputs and the wakes of the group of a stage that may be applied, `None` exactly where there is none.
+    fn most_of_ready(&self, stage: u32) -> Option<u64>
+        requires stage { stage < J.job.shape.stages }
+        ensures none { let o = outline_of (Q.facts J.job.rules) J.job in
+            IfNone result ((x : Name) → CanMake o (Apply stage) self.now.worker x → ⊥) }
+        ensures ready { IfSome result (λ _. SomeGroupIsReady J.job stage self.now) }
+        ensures enough { IfSome result (λ most. most + 2 < 2 ^ 64
+            → IsEnoughFor (Q.facts J.job.rules) J.job stage most self.now) }
+    {
+        let host = &self.hosts[stage as usize];
+        host.most_if_ready(self.alloc, &self.seen, &self.owners)
+    }
+
+    // Makes room for a group that gives and wakes no more than `most` in all, and whose outputs go to a stage. `AllocError`: no
+    // memory, and nothing changes but rooms and the list of changes.
+    fn make_room_to_apply(&mut self, onward: usize, most: u64) -> Result<(), AllocError>
+        ensures same { self.new.worker ≡ self.old.worker }
+        ensures held { (self.new.hosts ≡ self.old.hosts) × (self.new.notes ≡ self.old.notes) }
+        ensures room { OnOk result (HasRoomToApply onward most self.new) }
+        ensures whole { OnOk result (most + 2 < 2 ^ 64) }
+    {
+        let Some(count) = most.checked_add(2) else {
+            return Err(AllocError);
+        };
+        self.log.make_room(count)?;
+        self.lists.make_room_for_changes(count)?;
+        make_room_onward(onward, most, &mut self.routers, &mut self.unsent)?;
+        Ok(())
+    }
+
+    // Applies the group of a stage that may be applied. There is room for it.
+    fn apply_ready(&mut self, stage: u32) -> Result<Option<Names>, AllocError>
+        requires stage { stage < J.job.shape.stages }
+        requires ready { SomeGroupIsReady J.job stage self.old }
+        requires room { (most : ℕ)
+            × HasRoomToApply (stage + 1) most self.old
+            × IsEnoughFor (Q.facts J.job.rules) J.job stage most self.old }
+        ensures { let o = outline_of (Q.facts J.job.rules) J.job in
+            StepsAlone o (Apply stage) self.old.worker self.new.worker result }
+    {
+        let stages = self.job.shape().stages;
+        let host = &mut self.hosts[stage as usize];
+        let applied = apply_group(self.alloc, stage, host, &self.seen, &self.owners)?;
+        let name = Name::Group {
+            stage,
+            time: applied.time,
+            key: applied.key,
+        };
+        let onward = location_after(stage, stages);
+        let changes = &mut self.lists.changes;
+        push_changes(changes, stage, onward, &applied)?;
+        self.log.push(LogList::Applied, name, changes.as_slice())?;
+        if stage + 1 < stages {
+            let router = &mut self.routers[stage as usize + 1];
+            let query = self.job.query();
+            hold_records(
+                query,
+                stage + 1,
+                applied.time,
+                applied.key,
+                applied.outputs,
+                router,
+            )?;
+        } else {
+            hold_rows(applied.time, applied.key, applied.outputs, &mut self.unsent)?;
+        }
+        Ok(Some(Names {
+            first: name,
+            count: 1,
+        }))
+    }
+}
+
+// Applies the group of a host that may be applied. What is known of it is told of each worker whose host of that stage it is.
+fn apply_group<'a, Q: Query, J: Naming>(
+    alloc: Global,
+    stage: u32,
+    host: &mut Host<'a, Q, J>,
+    seen: &Seen,
+    owners: &Owners,
+) -> Result<Applied, AllocError>
+    requires stage { stage < J.job.shape.stages }
+    requires shape { owners.now.shape ≡ J.job.shape }
+    requires informed { let q = Q.facts J.job.rules in
+        (log : Log) × HostMatchesLogAndSeen q J.job log seen.now host.old × OwnersAreCurrent q J.job owners.now seen.now host.old.stage }
+    requires ready { ((t k : ℕ) → IsReadyHere J.job seen.now owners.now host.old t k → ⊥) → ⊥ }
+    ensures told { let q = Q.facts J.job.rules in IfOk result (λ a. (its : JobFacts) (p : PartsFacts Q.Cell)
+        → IsKept q J.job its p → host.old ≡ get_or p.hosts stage host.old → seen.now ≡ p.seen → owners.now ≡ p.notes
+        → IsApplying q J.job p stage a.time a.key a.outputs.items a.woke.items host.new) }
+    ensures unchanged { OnErr result (host.new ≡ host.old) }
+{
+    let Some(applied) = host.apply(alloc, seen, owners)? else {
+        unreachable!()
+    };
+    Ok(applied)
+}
+
+// Lists the changes that a group brings to the counts: it waits no longer, what it gives is to be sent, and the groups that
+// it wakes wait. The list is empty and has room for them.
+fn push_changes(
+    changes: &mut Vec<Change>,
+    stage: u32,
+    onward: Loc,
+    applied: &Applied,
+) -> Result<(), AllocError>
+    requires empty { changes.old.items ≡ [] }
+    requires room { length applied.now.woke.items + 2 ≤ vec_capacity changes.old }
+    ensures done { IsOk result }
+    ensures changes { changes.new.items
+        ≡ one_less (HostLoc stage) applied.now.time ∷ (some_more onward applied.now.time (length applied.now.outputs.items) ++ map (one_more (HostLoc stage)) applied.now.woke.items) }
+{
+    changes.push(one_less(Loc::Host(stage), applied.time))?;
+    push_more(changes, onward, applied.time, applied.outputs.len())?;
+    for time in applied.woke.as_slice() {
+        changes.push(one_more(Loc::Host(stage), *time))?;
+    }
+    Ok(())
+}

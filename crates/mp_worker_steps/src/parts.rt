@@ -1,0 +1,76 @@
+//! The parts of a worker.
+ghost use Rattle.std.specs.Prelude.{◌≡◌, ◌<◌};
+
+use mp_bins::Owners;
+use mp_handoff::Movers;
+use mp_host::Host;
+use mp_job::Job;
+use mp_model::{Naming, Query};
+use mp_names::ControlCursor;
+use mp_output::{Rows, Unsent};
+use mp_route::Router;
+use mp_rows::{Log, OutlineOf};
+use mp_stamps::Seen;
+use mp_worker_parts::ChangeLists;
+use std::alloc::Global;
+use std::marker::Model;
+use std::snapshot::Snapshot;
+
+/// The parts of a worker of the job J of the query Q, with its log and what it saw: what a step may change. Contracts see
+/// `Contents`: the worker as its own contracts have it, and what the parts hold and have room for. By its invariant they
+/// hold what the log says, so a step's contract says what becomes of the log. The query's last stage gives rows alone.
+/// Fields are public for the steps of `mp_worker_sends`: whoever changes one has to prove the invariant again.
+#[derive(Drop)]
+pub struct Parts<'a, Q: Query, J: Naming> {
+    /// Where its memory comes from.
+    pub alloc: Global,
+    /// The job J.
+    pub job: &'a Job<Q>,
+    /// The worker's log.
+    pub log: Log<OutlineOf<Q, J>>,
+    // The log that it posted last; no more than proofs see.
+    pub(crate) posted: Snapshot<Log<OutlineOf<Q, J>>>,
+    /// What it saw at its last exchange.
+    pub seen: Seen,
+    /// The control records that it took.
+    pub owners: Owners,
+    /// On worker 0 the first control record that isn't sent.
+    pub next: ControlCursor,
+    /// The records that it has to send, by stage.
+    pub routers: Vec<Router<Q, J>>,
+    /// What it hosts, by stage.
+    pub hosts: Vec<Host<'a, Q, J>>,
+    /// What it has to hand off, by stage.
+    pub movers: Vec<Movers<Q, J>>,
+    /// The answer rows of its own groups.
+    pub unsent: Unsent<Q, J>,
+    // The answer rows that it took, on worker 0.
+    pub(crate) rows: Rows<Q, J>,
+    // For the next packet that it takes, and the next group that it applies.
+    pub(crate) lists: ChangeLists,
+    ghost posted_once: { log.posted ≡ posted.value.log },
+}
+
+impl<'a, Q: Query, J: Naming> Model for Parts<'a, Q, J> {
+    ghost use Rattle.mp_worker_steps.specs.Contents.{Contents};
+    ghost use Rattle.mp_worker_steps.specs.Kept.{IsKept, parts_with};
+
+    ghost Value = { Contents Q.Cell };
+
+    ghost view = { λ p. record {
+      worker = record { number = p.log.worker; log = p.log.log; posted = p.posted.value.log; seen = p.seen };
+      names = p.log.room_for_names;
+      changes = p.log.room_for_changes;
+      notes = p.owners;
+      routers = p.routers.items;
+      hosts = p.hosts.items;
+      movers = p.movers.items;
+      unsent = p.unsent;
+      unwritten = p.rows;
+      lists = p.lists;
+    } };
+
+    ghost invariant = { λ p.
+        IsKept (Q.facts J.job.rules) J.job p.job.now
+        (parts_with p.log p.posted.value.log p.seen p.owners p.next p.routers.items p.hosts.items p.movers.items p.unsent p.rows) };
+}

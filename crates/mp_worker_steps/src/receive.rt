@@ -1,0 +1,40 @@
+//! How a worker takes messages.
+ghost use Rattle.std.specs.Prelude.{◌<◌};
+ghost use Rattle.mp_names.specs.declared.kinds.Kind.TheVariants.{Receive};
+ghost use Rattle.mp_outline.specs.JobOutline.{outline_of};
+ghost use Rattle.mp_worker_refinement.specs.Served.{IsAtPost, PostFollows};
+ghost use Rattle.mp_worker_refinement.specs.Steps.{StepsByMail};
+
+use crate::parts::Parts;
+use mp_mailbox::Post;
+use mp_model::{Naming, Query};
+use mp_msg::{Msg, Names};
+use std::alloc::AllocError;
+
+impl<'a, Q: Query, J: Naming> Parts<'a, Q, J> {
+    /// The message that waits longest in the mailbox from a worker is taken: a control record is noted, records go to the
+    /// host of their stage, and so does the state of a bin that moves; an answer row goes to those to be written. Its names, or
+    /// `None` exactly where the mailbox was empty. `AllocError`: no memory, and nothing changes.
+    pub fn receive<P: Post<Msg<Q, J>>>(
+        &mut self,
+        from: u32,
+        post: &mut P,
+    ) -> Result<Option<Names>, AllocError>
+        requires from { from < J.job.shape.workers }
+        requires at_post { let o = outline_of (Q.facts J.job.rules) J.job in
+            IsAtPost P.workers P.depth P.serves P.denotes o self.old.worker.number self.old.worker.log post.old }
+        ensures steps { let o = outline_of (Q.facts J.job.rules) J.job in
+            StepsByMail (P.had_room post.old) (P.was_full post.old) (P.was_empty post.old) o (Receive from) self.old.worker self.new.worker result }
+        ensures mail { let o = outline_of (Q.facts J.job.rules) J.job in
+            PostFollows P.workers P.depth P.serves P.denotes P.waits o self.old.worker.number self.old.worker.log self.new.worker.log post.old post.new }
+    {
+        let number = self.number();
+        self.make_room_to_take()?;
+        let Some(message) = post.pop(from, number) else {
+            return Ok(None);
+        };
+        let names = message.names();
+        self.take(message);
+        Ok(Some(names))
+    }
+}

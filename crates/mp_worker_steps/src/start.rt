@@ -1,0 +1,119 @@
+//! The parts of a worker that begins.
+ghost use Rattle.std.specs.Prelude.{◌≡◌, ◌<◌, ℕ, [], IfOk, length, replicate};
+ghost use Rattle.mp_names.specs.Logs.{empty_log};
+ghost use Rattle.mp_board.specs.Boards.{ShowsFrontiers};
+ghost use Rattle.mp_outline.specs.JobOutline.{outline_of};
+ghost use Rattle.mp_output.specs.Rows.{GivesRows};
+ghost use Rattle.mp_worker_invariant.specs.Parts.{AreMoversAt, AtEach, IsHostAt, IsRouterAt};
+ghost use Rattle.mp_worker_steps.specs.Contents.{new_worker};
+
+use crate::Parts;
+use mp_bins::Owners;
+use mp_handoff::Movers;
+use mp_host::Host;
+use mp_job::Job;
+use mp_model::{Naming, Query};
+use mp_names::ControlCursor;
+use mp_output::{Rows, Unsent};
+use mp_route::Router;
+use mp_rows::Log;
+use mp_stamps::Seen;
+use mp_worker_parts::ChangeLists;
+use std::alloc::{AllocError, Global};
+use std::snapshot::Snapshot;
+
+impl<'a, Q: Query, J: Naming> Parts<'a, Q, J> {
+    /// The parts of a worker that has done nothing. It has seen what the board shows on which every worker posted its empty
+    /// log. `AllocError`: no memory.
+    pub fn new(
+        alloc: Global,
+        job: &'a Job<Q>,
+        number: u32,
+        seen: Seen,
+    ) -> Result<Parts<'a, Q, J>, AllocError>
+        requires job { job.now ≡ J.job }
+        requires number { number < J.job.shape.workers }
+        requires rows { GivesRows (Q.facts J.job.rules) }
+        requires opening { ShowsFrontiers (outline_of (Q.facts J.job.rules) J.job) (replicate J.job.shape.workers empty_log) seen }
+        ensures { IfOk result (λ parts. parts.worker ≡ new_worker number seen) }
+    {
+        let shape = job.shape();
+        let log = Log::open(alloc, number);
+        let posted = Snapshot::of(&log);
+        let owners = Owners::new(alloc, shape)?;
+        let routers = new_routers(alloc, shape.stages)?;
+        let hosts = new_hosts(alloc, job, number)?;
+        let movers = new_movers(alloc, shape.stages, number)?;
+        let parts = Parts {
+            alloc,
+            job,
+            log,
+            posted,
+            seen,
+            owners,
+            next: ControlCursor {
+                index: 0,
+                receiver: 0,
+            },
+            routers,
+            hosts,
+            movers,
+            unsent: Unsent::new(alloc),
+            rows: Rows::new(alloc),
+            lists: ChangeLists::new(alloc),
+        };
+        Ok(parts)
+    }
+}
+
+// The routers of all stages, which hold nothing.
+fn new_routers<Q: Query, J: Naming>(
+    alloc: Global,
+    stages: u32,
+) -> Result<Vec<Router<Q, J>>, AllocError>
+    requires { stages ≡ J.job.shape.stages }
+    ensures all { IfOk result (λ v. length v.items ≡ stages) }
+    ensures each { IfOk result (λ v. (w : ℕ) → AtEach v.items (IsRouterAt (Q.facts J.job.rules) J.job w empty_log)) }
+{
+    let mut routers = Vec::new(alloc);
+    for stage in 0..stages {
+        routers.push(Router::new(alloc, stage))?;
+    }
+    Ok(routers)
+}
+
+// The hosts of all stages on a worker, which have received nothing.
+fn new_hosts<'a, Q: Query, J: Naming>(
+    alloc: Global,
+    job: &'a Job<Q>,
+    worker: u32,
+) -> Result<Vec<Host<'a, Q, J>>, AllocError>
+    requires job { job.now ≡ J.job }
+    requires worker { worker < J.job.shape.workers }
+    ensures all { IfOk result (λ v. length v.items ≡ J.job.shape.stages) }
+    ensures each { IfOk result (λ v. AtEach v.items (IsHostAt (Q.facts J.job.rules) J.job worker empty_log)) }
+{
+    let mut hosts = Vec::new(alloc);
+    for stage in 0..job.shape().stages {
+        hosts.push(Host::new(alloc, stage, worker, job)?)?;
+    }
+    Ok(hosts)
+}
+
+// The movers of all stages on a worker, which have noted and sent nothing.
+fn new_movers<Q: Query, J: Naming>(
+    alloc: Global,
+    stages: u32,
+    worker: u32,
+) -> Result<Vec<Movers<Q, J>>, AllocError>
+    requires stages { stages ≡ J.job.shape.stages }
+    requires worker { worker < J.job.shape.workers }
+    ensures all { IfOk result (λ v. length v.items ≡ J.job.shape.stages) }
+    ensures each { IfOk result (λ v. AtEach v.items (AreMoversAt (Q.facts J.job.rules) J.job worker empty_log)) }
+{
+    let mut movers = Vec::new(alloc);
+    for stage in 0..stages {
+        movers.push(Movers::new(alloc, stage, worker))?;
+    }
+    Ok(movers)
+}

@@ -1,0 +1,43 @@
+//! How worker 0 writes the answer.
+ghost use Rattle.mp_names.specs.declared.kinds.Kind.TheVariants.{Write};
+ghost use Rattle.mp_outside.specs.Sink.{OnlyAppends};
+ghost use Rattle.mp_outline.specs.JobOutline.{outline_of};
+ghost use Rattle.mp_worker_refinement.specs.Steps.{StepsAlone};
+ghost use Rattle.mp_worker_steps.specs.Writing.{Writes};
+
+use crate::parts::Parts;
+use mp_model::{Naming, Query};
+use mp_msg::Names;
+use mp_names::Name;
+use mp_output::{OutRefused, Wrote};
+use mp_outside::Sink;
+use mp_rows::LogList;
+
+impl<'a, Q: Query, J: Naming> Parts<'a, Q, J> {
+    /// Worker 0 writes the answer's lines of the least time of which it took rows, once no more rows of that time can
+    /// come: its name, or `None` exactly where there is no such time, or this is another worker. `WriteFault`: only where
+    /// the sink's count of faults rose in this call or stands at its last value, 2^64 - 1. `NoMemory`: an allocation failed.
+    /// With either the worker is as it was, and a part of the lines from their front may be written.
+    pub fn write<S: Sink>(&mut self, sink: &mut S) -> Result<Option<Names>, OutRefused>
+        ensures steps { let o = outline_of (Q.facts J.job.rules) J.job in
+            StepsAlone o Write self.old.worker self.new.worker result }
+        ensures writes { Writes (Q.facts J.job.rules) J.job S.written S.faults self.old.worker sink.old sink.new result }
+        ensures appends_only { OnlyAppends S.frame S.faults sink.old sink.new }
+    {
+        if self.log.worker() != 0 {
+            return Ok(None);
+        }
+        self.log.make_room(1)?;
+        match self.rows.write_due(&self.seen, sink)? {
+            Wrote::Time(time) => {
+                let name = Name::Written { time };
+                self.log.push(LogList::Settled, name, &[])?;
+                Ok(Some(Names {
+                    first: name,
+                    count: 1,
+                }))
+            }
+            Wrote::Nothing => Ok(None),
+        }
+    }
+}
