@@ -1,5 +1,8 @@
 """The fixed cases: the costliest legal inputs that are known."""
-from hostile_readers import COUNT, MOST_CONTROLS
+from hostile_readers import MOST_CONTROLS
+
+# How many events the large ones have.
+COUNT = 250_000
 
 
 def bids(count, when, auction):

@@ -29,7 +29,7 @@ BASES = [
     b"",
 ]
 CONFIGS = [b"", b"", b"M|10|0|0|1\nM|20|0|0|0\n", b"all|5|0|1\nfluid|6|30|0|2\n", b"batch|25|10|2|0|1\r\n\nM|0|0|3|0\n", b"M|50|0|0|1"]
-LIMITS = [0, 1, 15, 16, 17, 64, 255, 256, 257, 1024, 1025, COUNT, MOST_CONTROLS, PRICE, TIME, NUMBER, 1 << 32, 1 << 63, 1 << 64, 1 << 128]
+LIMITS = [0, 1, 16, 63, 64, 65, 255, 256, 1024, 1025, 4096, 4097, COUNT, MOST_CONTROLS, PRICE, TIME, NUMBER, 1 << 32, 1 << 63, 1 << 64, 1 << 128]
 WORDS = [b"", b"--", b"-", b"--query", b"--out", b"--seed", b"=", b"q0", b"q9", b"Q1", b".", b"/", b"e", b"c", b"o", b"r", b"none", b"\xff\xfe", b"1e3", b"+1", b"-1", b"0x10"]
 
 
@@ -145,7 +145,7 @@ class Case:
     def __init__(self, seed, index):
         draw = random.Random(f"{seed} {index}")
         self.query = draw.choice(list(STAGES))
-        self.workers, self.bins = draw.choice(((1, 1), (1, 16), (2, 1), (3, 4), (3, 4), (16, 256)))
+        self.workers, self.bins = draw.choice(((1, 1), (1, 16), (2, 1), (3, 4), (3, 4), (16, 256), (64, 16)))
         self.command = draw.choices(("check", "replay", "run", "make", "demo"), (70, 14, 10, 3, 3))[0]
         shape = f"--workers {self.workers} --bins {self.bins}"
         if self.command == "make":

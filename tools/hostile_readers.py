@@ -1,6 +1,6 @@
 """What the event file and the configuration hold, read as docs/FORMATS.md says, and not as the program does."""
-TIME, NUMBER, PRICE, COUNT = 1 << 47, 1 << 48, 10**12, 250_000
-MOST_CONTROLS, MOST_SHIFT, MOST_SIZE = 65_536, 255, 256
+TIME, NUMBER, PRICE, COUNT = 1 << 47, 1 << 48, 10**12, 1_000_000
+MOST_CONTROLS, MOST_SHIFT, MOST_SIZE = 65_536, 255, 4096
 NAME = object()
 # What each kind of line holds behind its kind: numbers with their greatest value, and names.
 EVENTS = {

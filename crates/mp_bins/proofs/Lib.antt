@@ -8,3 +8,4 @@ pub mod Nexts
 pub mod Noting
 pub mod Hashing
 pub mod Sorted
+pub mod FirstTable

@@ -97,17 +97,17 @@ module _ (notes : Notes) where
   changed_there : (j b t : ℕ) → is_move_of notes (Packet j b t) ≡ true → before j b t ≡ before j b (suc t) → ⊥
   changed_there j b t h = eqb-false (before j b t) (before j b (suc t)) (not-true (before j b t == before j b (suc t)) h)
 
-  pub is_noted_move : (m : Move) → Contains (moves_of notes) m → IsMoveOf controls notes.shape m
+  pub is_noted_move : (m : Move) → Contains (moves_of notes) m → IsMoveOf controls notes.layout m
   is_noted_move m h =
       let r = named (move_of notes) m names h.0 h.1 h.2 in
       let p = packets r.0 r.1 in
       let there = subst (λ (x : Name). is_move_of notes x ≡ true) p.3 (In_filter (is_move_of notes) r.0 (ascending (map packet_of controls)) r.1).1 in
-      subst (IsMoveOf controls notes.shape) (ap (move_of notes) (sym p.3) ∙ r.2) (record { from = refl; to = refl; changed = changed_there p.0 p.1 p.2 there })
+      subst (IsMoveOf controls notes.layout) (ap (move_of notes) (sym p.3) ∙ r.2) (record { from = refl; to = refl; changed = changed_there p.0 p.1 p.2 there })
 
-  pub noted_move_is : (m : Move) → IsMoveOf controls notes.shape m → Contains (moves_of notes) m
+  pub noted_move_is : (m : Move) → IsMoveOf controls notes.layout m → Contains (moves_of notes) m
   noted_move_is m h =
       let ne : before m.stage m.bin m.time ≡ before m.stage m.bin (suc m.time) → ⊥ = λ e. h.changed (h.from ∙ e ∙ sym h.to) in
-      let c = change_found controls (first_owner notes.shape m.bin) m.stage m.bin m.time ne in
+      let c = change_found controls (first_owner notes.layout m.stage m.bin) m.stage m.bin m.time ne in
       let x0 = control_In controls c.0 c.1 in
       let x1 = subst (λ (n : ℕ). In (Packet n (control_of controls c.0).bin (control_of controls c.0).time) (map packet_of controls)) c.2 x0 in
       let x2 = subst (λ (n : ℕ). In (Packet m.stage n (control_of controls c.0).time) (map packet_of controls)) c.3 x1 in
@@ -122,14 +122,14 @@ module _ (notes : Notes) where
 -- Where every record is noted
 
 module _ (controls : List Control) (notes : Notes) (are : AreNotesOf controls notes) (all : AreAllNoted controls notes) where
-  told_at : (j b u : ℕ) → owner_before notes j b u ≡ owner_below controls (first_owner notes.shape b) j b u
+  told_at : (j b u : ℕ) → owner_before notes j b u ≡ owner_below controls (first_owner notes.layout j b) j b u
   told_at j b u = told controls notes u are (λ i l m. all i l) j b u (omega arith)
 
-  to_list : (m : Move) → IsMoveOf (controls_in notes.noted) notes.shape m → IsMoveOf controls notes.shape m
+  to_list : (m : Move) → IsMoveOf (controls_in notes.noted) notes.layout m → IsMoveOf controls notes.layout m
   to_list m h = record { from = h.from ∙ told_at m.stage m.bin m.time; to = h.to ∙ told_at m.stage m.bin (suc m.time); changed = h.changed }
 
-  from_list : (m : Move) → IsMoveOf controls notes.shape m → IsMoveOf (controls_in notes.noted) notes.shape m
+  from_list : (m : Move) → IsMoveOf controls notes.layout m → IsMoveOf (controls_in notes.noted) notes.layout m
   from_list m h = record { from = h.from ∙ sym (told_at m.stage m.bin m.time); to = h.to ∙ sym (told_at m.stage m.bin (suc m.time)); changed = h.changed }
 
-  pub moves_told : AreMovesOf controls notes.shape (moves_of notes)
+  pub moves_told : AreMovesOf controls notes.layout (moves_of notes)
   moves_told = record { each = λ m. (λ h. to_list m (is_noted_move notes m h), λ h. noted_move_is notes m (from_list m h)); in_order = moves_in_order notes }

@@ -9,7 +9,7 @@ use Rattle.mp_bins.specs.Notes.{Notes, move_of, owner_before}
 use Rattle.mp_bins.specs.Leaving.{IsAfter, IsLeaving, IsNextLeaving, NoneLeaves}
 use Rattle.mp_bins.specs.Changes.{AreChangesOf, IsFirstFrom, IsFrom, NoneIsFrom}
 
-module _ (notes : Notes) (changes : List Move) (are : AreChangesOf notes.shape notes.noted changes) (stage worker : ℕ) (after : Option TimedBin) where
+module _ (notes : Notes) (changes : List Move) (are : AreChangesOf notes.layout notes.noted changes) (stage worker : ℕ) (after : Option TimedBin) where
   abbrev owner : ℕ → ℕ → ℕ
   owner bin time = owner_before notes stage bin time
 

@@ -5,14 +5,13 @@ use Rattle.std.specs.List.Sorted.{IsPartitionPoint}
 use Rattle.std.specs.Option.{option_map_or, IfSome, IfNone}
 use Rattle.std.proofs.lemmas.Bool.{both_ways, cases_eq, cases_lt, false_from_ne_true, ltb-false, ltb-true}
 use Rattle.std.proofs.lemmas.List.{get_or_default, length-map}
-use Rattle.mp_names.specs.declared.controls.Shape.{Shape}
 use Rattle.mp_names.specs.declared.controls.Control.{Control}
 use Rattle.mp_names.specs.declared.controls.Move.{Move}
 use Rattle.mp_names.specs.Names.{is_before}
 use Rattle.mp_names.specs.Controls.{control_of, is_below, last_below, later_of, owner_below}
 use Rattle.mp_bins.specs.declared.kept.StageBin.{StageBin}
 use Rattle.mp_bins.specs.declared.owners.Note.{Note}
-use Rattle.mp_bins.specs.Notes.{AreInOrder, controls_in, first_owner, no_note, note_at, rank_of_note, with_note}
+use Rattle.mp_bins.specs.Notes.{AreInOrder, Layout, controls_in, first_owner, no_note, note_at, rank_of_note, with_note}
 use Rattle.mp_bins.specs.Laws.{IsMoveOf}
 use Rattle.mp_bins.specs.Changes.{AreChangesOf, AreRanked, IsMoveThen, IsMoveThere, IsNextTime, IsOfBin, IsReplaced}
 use Rattle.mp_bins.proofs.Placing.{All-with}
@@ -147,7 +146,7 @@ one_then cs of (Some t) m n h g = one_there cs of t m n h g
 
 -- What a new note leaves as it was
 
-module _ (shape : Shape) (ns : List Note) (order : AreInOrder ns) (note : Note) (at : ℕ) (inside : at ≤ length ns) (split : IsPartitionPoint (λ n. is_before (rank_of_note note) (rank_of_note n) ≡ false) (λ n. is_before (rank_of_note note) (rank_of_note n) ≡ true) ns at) (next : Option ℕ) (is_next : IsNextTime ns at note.control next) where
+module _ (layout : Layout) (ns : List Note) (order : AreInOrder ns) (note : Note) (at : ℕ) (inside : at ≤ length ns) (split : IsPartitionPoint (λ n. is_before (rank_of_note note) (rank_of_note n) ≡ false) (λ n. is_before (rank_of_note note) (rank_of_note n) ≡ true) ns at) (next : Option ℕ) (is_next : IsNextTime ns at note.control next) where
   abbrev c : Control
   c = note.control
 
@@ -155,13 +154,13 @@ module _ (shape : Shape) (ns : List Note) (order : AreInOrder ns) (note : Note) 
   new = with_note ns note
 
   abbrev old_owner : ℕ → ℕ → ℕ → ℕ
-  old_owner j b u = owner_below (controls_in ns) (first_owner shape b) j b u
+  old_owner j b u = owner_below (controls_in ns) (first_owner layout j b) j b u
 
   abbrev new_owner : ℕ → ℕ → ℕ → ℕ
-  new_owner j b u = owner_below (controls_in new) (first_owner shape b) j b u
+  new_owner j b u = owner_below (controls_in new) (first_owner layout j b) j b u
 
   same_before : (j b v : ℕ) → (IsOf j b note → c.time < v → ⊥) → new_owner j b v ≡ old_owner j b v
-  same_before j b v h = ap (λ (o : Option Control). option_map_or (λ c. c.worker) o (first_owner shape b)) (not_counted j b v ns note (false_from_ne_true (is_below j b v c) (λ e. let r = below_is j b v note e in h r.0 r.1)))
+  same_before j b v h = ap (λ (o : Option Control). option_map_or (λ c. c.worker) o (first_owner layout j b)) (not_counted j b v ns note (false_from_ne_true (is_below j b v c) (λ e. let r = below_is j b v note e in h r.0 r.1)))
 
   -- a note that stands before it is of no later time
   first_upto : (k : ℕ) (d : Note) → k < at → IsOf c.stage c.bin (get_or ns k d) → (get_or ns k d).control.time ≤ c.time
@@ -180,7 +179,7 @@ module _ (shape : Shape) (ns : List Note) (order : AreInOrder ns) (note : Note) 
 
     same_behind : (v : ℕ) → behind < v → new_owner c.stage c.bin v ≡ old_owner c.stage c.bin v
     same_behind v l =
-        ap (λ (o : Option Control). option_map_or (λ c. c.worker) o (first_owner shape c.bin))
+        ap (λ (o : Option Control). option_map_or (λ c. c.worker) o (first_owner layout c.stage c.bin))
         (counts_still c.stage c.bin v ns note at (record { there = there.0; below = below_from c.stage c.bin v (note_at ns at) (there.1, there.2) l; after = goes; later = later }))
 
     none_between : (u : ℕ) → c.time < u → u < behind → All (NotAt c.stage c.bin u) ns
@@ -216,8 +215,8 @@ module _ (shape : Shape) (ns : List Note) (order : AreInOrder ns) (note : Note) 
 
   still : (u : ℕ) → (u ≡ c.time → ⊥) → All (NotAt c.stage c.bin u) ns → Kept c.stage c.bin u
   still u ne none = inr (
-    steady ns (first_owner shape c.bin) c.stage c.bin u none,
-    steady new (first_owner shape c.bin) c.stage c.bin u (All-with (NotAt c.stage c.bin u) ns note (λ e f g. ne (sym g)) none),
+    steady ns (first_owner layout c.stage c.bin) c.stage c.bin u none,
+    steady new (first_owner layout c.stage c.bin) c.stage c.bin u (All-with (NotAt c.stage c.bin u) ns note (λ e f g. ne (sym g)) none),
   )
 
   of_bin : IsOfBin ns at c ⊎ (IsOfBin ns at c → ⊥)
@@ -271,7 +270,7 @@ module _ (shape : Shape) (ns : List Note) (order : AreInOrder ns) (note : Note) 
   -- Moves
 
   abbrev of : StageBin
-  of = record { stage = c.stage; bin = c.bin; first = first_owner shape c.bin }
+  of = record { stage = c.stage; bin = c.bin; first = first_owner layout c.stage c.bin }
 
   abbrev AtPlace : Move → ℕ → Type 0
   AtPlace m t = (m.stage ≡ c.stage) × (m.bin ≡ c.bin) × (m.time ≡ t)
@@ -295,7 +294,7 @@ module _ (shape : Shape) (ns : List Note) (order : AreInOrder ns) (note : Note) 
   next_or_not None m = inr (λ h. h)
   next_or_not (Some t) m = place_or_not m t
 
-  move_kept : (m : Move) → (AtPlace m c.time → ⊥) → (AtNext next m → ⊥) → (IsMoveOf (controls_in ns) shape m ↔ IsMoveOf (controls_in new) shape m)
+  move_kept : (m : Move) → (AtPlace m c.time → ⊥) → (AtNext next m → ⊥) → (IsMoveOf (controls_in ns) layout m ↔ IsMoveOf (controls_in new) layout m)
   move_kept m here then =
       ⊎_elim
       (λ (k : (new_owner m.stage m.bin m.time ≡ old_owner m.stage m.bin m.time) × (new_owner m.stage m.bin (suc m.time) ≡ old_owner m.stage m.bin (suc m.time))). (
@@ -308,10 +307,10 @@ module _ (shape : Shape) (ns : List Note) (order : AreInOrder ns) (note : Note) 
       ))
       (kept m.stage m.bin m.time (λ e f g. here (e, f, g)) (λ t o e f g. then (subst (λ (p : Option ℕ). AtNext p m) (sym o) (e, f, g))))
 
-  there_is : (cs : List Control) (t : ℕ) (m : Move) → IsMoveThere cs of t m → IsMoveOf cs shape m
+  there_is : (cs : List Control) (t : ℕ) (m : Move) → IsMoveThere cs of t m → IsMoveOf cs layout m
   there_is cs t m h = record { from = rw (h.of_stage, h.of_bin, h.of_time) h.from; to = rw (h.of_stage, h.of_bin, h.of_time) h.to; changed = h.changed }
 
-  is_there : (cs : List Control) (t : ℕ) (m : Move) → IsMoveOf cs shape m → AtPlace m t → IsMoveThere cs of t m
+  is_there : (cs : List Control) (t : ℕ) (m : Move) → IsMoveOf cs layout m → AtPlace m t → IsMoveThere cs of t m
   is_there cs t m h p = record {
     of_stage = p.0;
     of_bin = p.1;
@@ -321,11 +320,11 @@ module _ (shape : Shape) (ns : List Note) (order : AreInOrder ns) (note : Note) 
     changed = h.changed;
   }
 
-  then_is : (cs : List Control) (o : Option ℕ) (m : Move) → IsMoveThen cs of o m → IsMoveOf cs shape m × AtNext o m
+  then_is : (cs : List Control) (o : Option ℕ) (m : Move) → IsMoveThen cs of o m → IsMoveOf cs layout m × AtNext o m
   then_is cs None m h = absurd h
   then_is cs (Some t) m h = (there_is cs t m h, (h.of_stage, h.of_bin, h.of_time))
 
-  is_then : (cs : List Control) (o : Option ℕ) (m : Move) → IsMoveOf cs shape m → AtNext o m → IsMoveThen cs of o m
+  is_then : (cs : List Control) (o : Option ℕ) (m : Move) → IsMoveOf cs layout m → AtNext o m → IsMoveThen cs of o m
   is_then cs None m h p = p
   is_then cs (Some t) m h p = is_there cs t m h p
 
@@ -342,29 +341,29 @@ module _ (shape : Shape) (ns : List Note) (order : AreInOrder ns) (note : Note) 
     pub new_here_is : IsPick (IsMoveThere (controls_in new) of c.time) new_here
     pub new_then_is : IsPick (IsMoveThen (controls_in new) of next) new_then
 
-  module _ (before : List Move) (changes : AreChangesOf shape ns before) (here then new_here new_then : Option Move) (are : AreTouched here then new_here new_then) where
+  module _ (before : List Move) (changes : AreChangesOf layout ns before) (here then new_here new_then : Option Move) (are : AreTouched here then new_here new_then) where
     at_here : (m : Move) → here ≡ Some m → IsMoveThere (controls_in ns) of c.time m
     at_here = picked (IsMoveThere (controls_in ns) of c.time) here are.here_is
 
     at_new_here : (m : Move) → new_here ≡ Some m → IsMoveThere (controls_in new) of c.time m
     at_new_here = picked (IsMoveThere (controls_in new) of c.time) new_here are.new_here_is
 
-    at_then : (m : Move) → then ≡ Some m → IsMoveOf (controls_in ns) shape m × AtNext next m
+    at_then : (m : Move) → then ≡ Some m → IsMoveOf (controls_in ns) layout m × AtNext next m
     at_then m e = then_is (controls_in ns) next m (picked (IsMoveThen (controls_in ns) of next) then are.then_is m e)
 
-    at_new_then : (m : Move) → new_then ≡ Some m → IsMoveOf (controls_in new) shape m × AtNext next m
+    at_new_then : (m : Move) → new_then ≡ Some m → IsMoveOf (controls_in new) layout m × AtNext next m
     at_new_then m e = then_is (controls_in new) next m (picked (IsMoveThen (controls_in new) of next) new_then are.new_then_is m e)
 
-    is_here : (m : Move) → IsMoveOf (controls_in ns) shape m → AtPlace m c.time → here ≡ Some m
+    is_here : (m : Move) → IsMoveOf (controls_in ns) layout m → AtPlace m c.time → here ≡ Some m
     is_here m h p = picks (IsMoveThere (controls_in ns) of c.time) here are.here_is (one_there (controls_in ns) of c.time) m (is_there (controls_in ns) c.time m h p)
 
-    is_new_here : (m : Move) → IsMoveOf (controls_in new) shape m → AtPlace m c.time → new_here ≡ Some m
+    is_new_here : (m : Move) → IsMoveOf (controls_in new) layout m → AtPlace m c.time → new_here ≡ Some m
     is_new_here m h p = picks (IsMoveThere (controls_in new) of c.time) new_here are.new_here_is (one_there (controls_in new) of c.time) m (is_there (controls_in new) c.time m h p)
 
-    is_at_then : (m : Move) → IsMoveOf (controls_in ns) shape m → AtNext next m → then ≡ Some m
+    is_at_then : (m : Move) → IsMoveOf (controls_in ns) layout m → AtNext next m → then ≡ Some m
     is_at_then m h p = picks (IsMoveThen (controls_in ns) of next) then are.then_is (one_then (controls_in ns) of next) m (is_then (controls_in ns) next m h p)
 
-    is_at_new_then : (m : Move) → IsMoveOf (controls_in new) shape m → AtNext next m → new_then ≡ Some m
+    is_at_new_then : (m : Move) → IsMoveOf (controls_in new) layout m → AtNext next m → new_then ≡ Some m
     is_at_new_then m h p = picks (IsMoveThen (controls_in new) of next) new_then are.new_then_is (one_then (controls_in new) of next) m (is_then (controls_in new) next m h p)
 
     pub here_there : IfSome here (Contains before)
@@ -392,7 +391,7 @@ module _ (shape : Shape) (ns : List Note) (order : AreInOrder ns) (note : Note) 
           ((first m).0 q))
 
       module _ (after : List Move) (second : IsReplaced mid then new_then after) where
-        to_new : (m : Move) → Contains after m → IsMoveOf (controls_in new) shape m
+        to_new : (m : Move) → Contains after m → IsMoveOf (controls_in new) layout m
         to_new m q =
             ⊎_elim
             (λ (r : Contains mid m × (then ≢ Some m)).
@@ -405,13 +404,13 @@ module _ (shape : Shape) (ns : List Note) (order : AreInOrder ns) (note : Note) 
             (λ (f : new_then ≡ Some m). (at_new_then m f).0)
             ((second m).0 q)
 
-        elsewhere : (m : Move) → IsMoveOf (controls_in new) shape m → (AtPlace m c.time → ⊥) → (AtNext next m → ⊥) → Contains after m
+        elsewhere : (m : Move) → IsMoveOf (controls_in new) layout m → (AtPlace m c.time → ⊥) → (AtNext next m → ⊥) → Contains after m
         elsewhere m h not_here not_then =
             let old = (move_kept m not_here not_then).1 h in
             let q = (first m).1 (inl ((changes.each m).1 old, λ f. let p = at_here m f in not_here (p.of_stage, p.of_bin, p.of_time))) in
             (second m).1 (inl (q, λ f. not_then (at_then m f).1))
 
-        from_new : (m : Move) → IsMoveOf (controls_in new) shape m → Contains after m
+        from_new : (m : Move) → IsMoveOf (controls_in new) layout m → Contains after m
         from_new m h =
             ⊎_elim
             (λ (p : AtPlace m c.time). (second m).1 (inl ((first m).1 (inr (is_new_here m h p)), λ f. not_both next m is_next (at_then m f).1 p)))
@@ -422,7 +421,7 @@ module _ (shape : Shape) (ns : List Note) (order : AreInOrder ns) (note : Note) 
             (next_or_not next m))
             (place_or_not m c.time)
 
-        pub in_line : AreRanked after → AreChangesOf shape new after
+        pub in_line : AreRanked after → AreChangesOf layout new after
         in_line ranked = record { each = λ m. (to_new m, from_new m); ranked = ranked }
 
 -- the same move, by lists and first owners that are the same

@@ -52,7 +52,7 @@ place_inside ns note = prefix_len-le-length (λ n. not (is_before (rank_of_note 
 
 -- an outline of these records alone
 abbrev outline_with : List Control → ℕ → Outline
-outline_with cs first = record { workers = 0; bins = 0; stages = 0; controls = cs; first_owner = λ j b. first; bin_of = λ k. 0; records = λ j. []; posts = λ x. []; rows = []; bundle = 0 }
+outline_with cs first = record { workers = 0; bins = 0; stages = 0; controls = cs; first_owner = λ j b. first; bin_of = λ k. 0; records = λ j. []; posts = λ x. []; rows = []; opening = λ j. []; bundle = 0; paced = false; until = None }
 
 pub owner_is : (cs : List Control) (first j b t i : ℕ) → IsLastBelow cs j b t i → owner_below cs first j b t ≡ (control_of cs i).worker
 unfolding owner_before

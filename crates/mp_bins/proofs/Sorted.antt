@@ -127,7 +127,7 @@ less_from a b apart not_back = pick (move_cmp a b) refl apart
 
 -- The moves that are kept
 
-module _ (notes : Notes) (changes sorted : List Move) (are : AreChangesOf notes.shape notes.noted changes) (moved : IsPermutation changes sorted) (up : IsSorted move_cmp sorted) where
+module _ (notes : Notes) (changes sorted : List Move) (are : AreChangesOf notes.layout notes.noted changes) (moved : IsPermutation changes sorted) (up : IsSorted move_cmp sorted) where
   all_differ : IsDistinct (eq_by_cmp move_cmp) changes
   all_differ = IsDistinct-from_apart (eq_by_cmp move_cmp) changes (λ i j d l m.
       false_from_ne_true (eq_by_cmp move_cmp (get_or changes i d) (get_or changes j d)) (λ e.

@@ -75,17 +75,17 @@ module _ (controls : List Control) (notes : Notes) (t : ℕ) (are : AreNotesOf c
               let r = index_upto (note_at notes.noted q) (note_at notes.noted i) (h.0 ∙ sym g.0) (h.1 ∙ sym g.1) (sym time) (later_upto notes.noted are.in_order q i no_note m n) in
               omega arith
 
-  told_from : (d : Option Control) → Said (controls_in notes.noted) j b u d → owner_before notes j b u ≡ owner_below controls (first_owner notes.shape b) j b u
+  told_from : (d : Option Control) → Said (controls_in notes.noted) j b u d → owner_before notes j b u ≡ owner_below controls (first_owner notes.layout j b) j b u
   told_from None h =
-      owner_is_first (controls_in notes.noted) (first_owner notes.shape b) j b u h
-      ∙ sym (owner_is_first controls (first_owner notes.shape b) j b u (λ k l. false_from_ne_true (is_below j b u (control_of controls k)) (λ e. let r = denotes k l e in both_ways (is_below j b u (control_of (controls_in notes.noted) r.0)) (h r.0 (as_listed r.0 r.1)) (below_too k r.0 r.3 e))))
+      owner_is_first (controls_in notes.noted) (first_owner notes.layout j b) j b u h
+      ∙ sym (owner_is_first controls (first_owner notes.layout j b) j b u (λ k l. false_from_ne_true (is_below j b u (control_of controls k)) (λ e. let r = denotes k l e in both_ways (is_below j b u (control_of (controls_in notes.noted) r.0)) (h r.0 (as_listed r.0 r.1)) (below_too k r.0 r.3 e))))
   told_from (Some c) h =
       let i = h.0 in
-      owner_is (controls_in notes.noted) (first_owner notes.shape b) j b u i h.1
+      owner_is (controls_in notes.noted) (first_owner notes.layout j b) j b u i h.1
       ∙ ap (λ (d : Control). d.worker) (control_at_note notes.noted i ∙ sym (is_note i (is_listed i h.1.listed)).1)
-      ∙ sym (owner_is controls (first_owner notes.shape b) j b u (note_at notes.noted i).index (same_last i h.1))
+      ∙ sym (owner_is controls (first_owner notes.layout j b) j b u (note_at notes.noted i).index (same_last i h.1))
 
-  pub told : owner_before notes j b u ≡ owner_below controls (first_owner notes.shape b) j b u
+  pub told : owner_before notes j b u ≡ owner_below controls (first_owner notes.layout j b) j b u
   told = told_from (last_below (controls_in notes.noted) j b u) (said (controls_in notes.noted) j b u)
 
 -- notes of a list stay notes of it

@@ -1,9 +1,9 @@
 -- The bin of a key.
 use Rattle.std.specs.Prelude.{◌≡◌, ℕ, ◌*◌, ◌/◌, ◌%◌, ◌^◌, ◌≤◌, ◌-◌}
 
--- a power of two from 1 to 256
+-- a power of two from 1 to 4096
 abbrev pub IsBinCount : ℕ → Type 0
-IsBinCount bins = (k : ℕ) × (k ≤ 8) × (bins ≡ 2 ^ k)
+IsBinCount bins = (k : ℕ) × (k ≤ 12) × (bins ≡ 2 ^ k)
 
 -- the key times 2^64 divided by the golden ratio, of 64 bits
 abbrev pub hash_of : ℕ → ℕ

@@ -1,6 +1,5 @@
 -- The moves of what was noted, as they are kept: by stage, the owner before, time and bin.
 use Rattle.std.specs.Prelude.{◌≡◌, ◌≢◌, ◌↔◌, ◌⊎◌, ℕ, suc, ◌<◌, List, [], ◌∷◌, length, AllPairs, Contains, Option, None, Some}
-use Rattle.mp_names.specs.declared.controls.Shape.{Shape}
 use Rattle.mp_names.specs.declared.controls.Control.{Control}
 use Rattle.mp_names.specs.declared.controls.Move.{Move}
 use Rattle.mp_names.specs.declared.pointstamps.TimedBin.{TimedBin}
@@ -8,7 +7,7 @@ use Rattle.mp_names.specs.Names.{is_before}
 use Rattle.mp_names.specs.Controls.{owner_below}
 use Rattle.mp_bins.specs.declared.kept.StageBin.{StageBin}
 use Rattle.mp_bins.specs.declared.owners.Note.{Note}
-use Rattle.mp_bins.specs.Notes.{controls_in, note_at}
+use Rattle.mp_bins.specs.Notes.{Layout, controls_in, note_at}
 use Rattle.mp_bins.specs.Laws.{IsMoveOf}
 use Rattle.mp_bins.specs.Leaving.{IsAfter, bin_at}
 use Rattle.std.specs.Prelude.{true}
@@ -22,8 +21,8 @@ abbrev pub AreRanked : List Move → Type 0
 AreRanked changes = AllPairs (λ a b. is_before (rank_of_move a) (rank_of_move b) ≡ true) changes
 
 -- they are the moves of what was noted, each once
-pub record AreChangesOf (shape : Shape) (notes : List Note) (changes : List Move) : Type 0 where
-  pub each : (move : Move) → (Contains changes move ↔ IsMoveOf (controls_in notes) shape move)
+pub record AreChangesOf (layout : Layout) (notes : List Note) (changes : List Move) : Type 0 where
+  pub each : (move : Move) → (Contains changes move ↔ IsMoveOf (controls_in notes) layout move)
   pub ranked : AreRanked changes
 
 -- by these control records it is the move of the bin at the time

@@ -1,13 +1,12 @@
 -- What holds of all notes.
 use Rattle.std.specs.Prelude.{◌≡◌, ◌≢◌, ◌↔◌, ℕ, suc, ◌<◌, ◌≤◌, true, ◌||◌, ◌==◌, List, [], ◌∷◌, length, AllPairs, Contains}
 use Rattle.std.specs.List.{All}
-use Rattle.mp_names.specs.declared.controls.Shape.{Shape}
 use Rattle.mp_names.specs.declared.controls.Control.{Control}
 use Rattle.mp_names.specs.declared.controls.Move.{Move}
 use Rattle.mp_names.specs.Names.{IsBefore}
 use Rattle.mp_names.specs.Controls.{control_of, owner_below}
 use Rattle.mp_bins.specs.declared.owners.Note.{Note}
-use Rattle.mp_bins.specs.Notes.{Notes, AreInOrder, first_owner, is_noted, moves_of, owner_before, with_note}
+use Rattle.mp_bins.specs.Notes.{Layout, Notes, AreInOrder, first_owner, is_noted, moves_of, owner_before, with_note}
 
 -- notes of two indices come to the same in either order
 abbrev pub OrderDoesNotMatter : Type 0
@@ -29,7 +28,7 @@ AreNotedBelow controls notes t = (i : ℕ) → i < length controls → (control_
 -- where every record of a time below t is noted, the owners up to t are those that the list says
 abbrev pub OwnersAreToldByNotes : Type 0
 OwnersAreToldByNotes =
-    (controls : List Control) (notes : Notes) (t : ℕ) → AreNotesOf controls notes → AreNotedBelow controls notes t → (stage bin u : ℕ) → u ≤ t → owner_before notes stage bin u ≡ owner_below controls (first_owner notes.shape bin) stage bin u
+    (controls : List Control) (notes : Notes) (t : ℕ) → AreNotesOf controls notes → AreNotedBelow controls notes t → (stage bin u : ℕ) → u ≤ t → owner_before notes stage bin u ≡ owner_below controls (first_owner notes.layout stage bin) stage bin u
 
 -- no notes are notes of any list
 abbrev pub NoNotesAreOfAll : Type 0
@@ -49,9 +48,9 @@ abbrev pub AreAllNoted : List Control → Notes → Type 0
 AreAllNoted controls notes = (i : ℕ) → i < length controls → is_noted notes.noted i ≡ true
 
 -- by the list another worker owns the bin from this time on than just before it, and the move tells both
-pub record IsMoveOf (controls : List Control) (shape : Shape) (move : Move) : Type 0 where
-  pub from : move.from ≡ owner_below controls (first_owner shape move.bin) move.stage move.bin move.time
-  pub to : move.to ≡ owner_below controls (first_owner shape move.bin) move.stage move.bin (suc move.time)
+pub record IsMoveOf (controls : List Control) (layout : Layout) (move : Move) : Type 0 where
+  pub from : move.from ≡ owner_below controls (first_owner layout move.stage move.bin) move.stage move.bin move.time
+  pub to : move.to ≡ owner_below controls (first_owner layout move.stage move.bin) move.stage move.bin (suc move.time)
   pub changed : move.from ≢ move.to
 
 -- by time, then by stage, then by bin, the first move comes first
@@ -59,10 +58,10 @@ abbrev pub ComesFirst : Move → Move → Type 0
 ComesFirst a b = IsBefore (a.time ∷ a.stage ∷ a.bin ∷ []) (b.time ∷ b.stage ∷ b.bin ∷ [])
 
 -- they are the moves of the list, each once and no others, by time, stage and bin
-pub record AreMovesOf (controls : List Control) (shape : Shape) (moves : List Move) : Type 0 where
-  pub each : (move : Move) → (Contains moves move ↔ IsMoveOf controls shape move)
+pub record AreMovesOf (controls : List Control) (layout : Layout) (moves : List Move) : Type 0 where
+  pub each : (move : Move) → (Contains moves move ↔ IsMoveOf controls layout move)
   pub in_order : AllPairs ComesFirst moves
 
 -- where every record is noted, the moves are those of the list
 abbrev pub MovesAreToldByNotes : Type 0
-MovesAreToldByNotes = (controls : List Control) (notes : Notes) → AreNotesOf controls notes → AreAllNoted controls notes → AreMovesOf controls notes.shape (moves_of notes)
+MovesAreToldByNotes = (controls : List Control) (notes : Notes) → AreNotesOf controls notes → AreAllNoted controls notes → AreMovesOf controls notes.layout (moves_of notes)

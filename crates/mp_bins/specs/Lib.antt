@@ -1,5 +1,6 @@
 pub mod Bins
-pub mod Notes
-pub mod Leaving
-pub mod Laws
 pub mod Changes
+pub mod FirstTable
+pub mod Laws
+pub mod Leaving
+pub mod Notes

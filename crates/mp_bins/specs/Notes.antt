@@ -1,8 +1,9 @@
 -- The control records that were noted, and what they say of owners and moves.
-use Rattle.std.specs.Prelude.{◌≡◌, ℕ, suc, ◌%◌, ◌<◌, Bool, true, false, cond, not, ◌||◌, ◌==◌, List, [], ◌∷◌, map, slice_index_or}
+use Rattle.std.specs.Prelude.{◌≡◌, ℕ, suc, ◌%◌, ◌<◌, Bool, true, false, cond, not, ◌&&◌, ◌||◌, ◌==◌, List, [], ◌∷◌, map, slice_index_or}
 use Rattle.std.specs.List.{All, prefix_len}
 use Rattle.std.specs.List.Sorted.{IsPartitionPoint}
 use Rattle.mp_names.specs.declared.names.Name.{Name}
+use Rattle.mp_names.specs.declared.controls.First.{First}
 use Rattle.mp_names.specs.declared.controls.Shape.{Shape}
 use Rattle.mp_names.specs.declared.controls.Control.{Control}
 use Rattle.mp_names.specs.declared.controls.Move.{Move}
@@ -10,9 +11,14 @@ use Rattle.mp_names.specs.Names.{is_before}
 use Rattle.mp_names.specs.Controls.{no_control, owner_below, is_change, move_in, moves_in}
 use Rattle.mp_bins.specs.declared.owners.Note.{Note}
 
--- the shape of a job, what was noted, ascending by rank, and how many more notes there is room for
-pub record Notes : Type 0 where
+-- the shape of a job, and the first owners that a configuration says
+pub record Layout : Type 0 where
   pub shape : Shape
+  pub firsts : List First
+
+-- the layout of a job, what was noted, ascending by rank, and how many more notes there is room for
+pub record Notes : Type 0 where
+  pub layout : Layout
   pub noted : List Note
   pub room : ℕ
 
@@ -68,13 +74,22 @@ IsWithin shape control = (control.worker < shape.workers) × (control.bin < shap
 abbrev pub AreWithin : Shape → List Note → Type 0
 AreWithin shape notes = All (λ n. IsWithin shape n.control) notes
 
--- the first owner of a bin, the same in each stage
-abbrev pub first_owner : Shape → ℕ → ℕ
-first_owner shape bin = bin % shape.workers
+-- a first owner is that of a worker, a bin and a stage of the job
+abbrev pub FirstFits : Shape → First → Type 0
+FirstFits shape first = (first.worker < shape.workers) × (first.bin < shape.bins) × (first.stage < shape.stages)
+
+-- the first owner of a bin of a stage among these, else this worker
+abbrev pub first_among : List First → ℕ → ℕ → ℕ → ℕ
+first_among [] stage bin usual = usual
+first_among (f ∷ fs) stage bin usual = cond (f.stage == stage && f.bin == bin) f.worker (first_among fs stage bin usual)
+
+-- the first owner of a bin of a stage: the worker that the configuration says, else the bin's number modulo the number of workers
+abbrev pub first_owner : Layout → ℕ → ℕ → ℕ
+first_owner layout stage bin = first_among layout.firsts stage bin (bin % layout.shape.workers)
 
 -- the owner of a bin just before a time, by what was noted
 abbrev pub owner_before : Notes → ℕ → ℕ → ℕ → ℕ
-owner_before notes stage bin time = owner_below (controls_in notes.noted) (first_owner notes.shape bin) stage bin time
+owner_before notes stage bin time = owner_below (controls_in notes.noted) (first_owner notes.layout stage bin) stage bin time
 
 -- the owner of a bin at a time, by what was noted
 abbrev pub owner_at : Notes → ℕ → ℕ → ℕ → ℕ
@@ -82,12 +97,12 @@ owner_at notes stage bin time = owner_before notes stage bin (suc time)
 
 -- the owner of the packet's bin changes at its time
 abbrev pub is_move_of : Notes → Name → Bool
-is_move_of notes packet = is_change (controls_in notes.noted) (λ stage bin. first_owner notes.shape bin) packet
+is_move_of notes packet = is_change (controls_in notes.noted) (λ stage bin. first_owner notes.layout stage bin) packet
 
 -- the move of a packet
 abbrev pub move_of : Notes → Name → Move
-move_of notes packet = move_in (controls_in notes.noted) (λ stage bin. first_owner notes.shape bin) packet
+move_of notes packet = move_in (controls_in notes.noted) (λ stage bin. first_owner notes.layout stage bin) packet
 
 -- the moves among what was noted, by time, stage and bin
 abbrev pub moves_of : Notes → List Move
-moves_of notes = moves_in (controls_in notes.noted) (λ stage bin. first_owner notes.shape bin)
+moves_of notes = moves_in (controls_in notes.noted) (λ stage bin. first_owner notes.layout stage bin)

@@ -4,10 +4,11 @@ ghost use Rattle.mp_bins.specs.Notes.{AreInOrder, controls_in, is_noted, with_no
 ghost use Rattle.mp_bins.specs.Changes.{AreChangesOf, IsMoveThere, IsMoveThen};
 
 use crate::finding::{next_time, owner_below};
+use crate::firsts::FirstOwners;
 use crate::kept::{ByBin, ByOwner, StageBin};
-use crate::owners::{Note, first_owner};
+use crate::owners::Note;
 use crate::ranked::replace;
-use mp_names::{Control, Move, Shape, Time};
+use mp_names::{Control, Move, Time};
 use mp_ordered::OrderedBlocks;
 
 /// Puts a note of a new index in its place, and brings the moves in line with it. There is room for one more note and two
@@ -15,17 +16,16 @@ use mp_ordered::OrderedBlocks;
 pub fn put_down(
     notes: &mut OrderedBlocks<Note, ByBin>,
     changes: &mut OrderedBlocks<Move, ByOwner>,
-    shape: Shape,
+    owners: &FirstOwners,
     note: Note,
 )
-    requires workers { 0 < shape.workers }
     requires order { AreInOrder notes.old.items }
     requires not_yet { is_noted notes.old.items note.index ≡ false }
-    requires changes { AreChangesOf shape notes.old.items changes.old.items }
+    requires changes { AreChangesOf owners.now notes.old.items changes.old.items }
     requires room { 0 < notes.old.room }
     requires room_for_changes { 1 < changes.old.room }
     ensures notes { notes.new.items ≡ with_note notes.old.items note }
-    ensures changes { AreChangesOf shape notes.new.items changes.new.items }
+    ensures changes { AreChangesOf owners.now notes.new.items changes.new.items }
     ensures room { notes.old.room ≤ notes.new.room + 1 }
     ensures room_for_changes { changes.old.room ≤ changes.new.room + 2 }
 {
@@ -35,7 +35,7 @@ pub fn put_down(
         bin,
         ..
     } = note.control;
-    let first = first_owner(shape, bin);
+    let first = owners.of(stage, bin);
     let of = StageBin { stage, bin, first };
     let next = next_time(notes, note);
     let here = move_at(notes, of, time);

@@ -12,12 +12,12 @@ use mp_names::Time;
 use mp_ordered::{OrderedBlocks, Spot};
 use std::cell::Cell;
 
-/// The owner by the notes of times below a limit. The note that says it is looked for where `near` points, if it is there.
+/// The owner by the notes of times below a limit. The note that says it is looked for where `hint` points, if it is there.
 pub fn owner_below(
     notes: &OrderedBlocks<Note, ByBin>,
     of: StageBin,
     limit: u128,
-    near: Option<&Cell<Spot>>,
+    hint: Option<&Cell<Spot>>,
 ) -> u32
     requires { AreInOrder notes.now.items }
     ensures { result ≡ owner_below (controls_in notes.now.items) of.first of.stage of.bin limit }
@@ -26,7 +26,7 @@ pub fn owner_below(
         return of.first;
     }
     let cut = BelowLimit { of, limit };
-    let Some(note) = last_below(notes, &cut, near) else {
+    let Some(note) = last_below(notes, &cut, hint) else {
         return of.first;
     };
     if is_of(note.control, of) {
@@ -39,15 +39,15 @@ pub fn owner_below(
 fn last_below<'n>(
     notes: &'n OrderedBlocks<Note, ByBin>,
     cut: &BelowLimit,
-    near: Option<&Cell<Spot>>,
+    hint: Option<&Cell<Spot>>,
 ) -> Option<&'n Note>
     requires { AreInOrder notes.now.items }
     ensures some { IfSome result (λ x. slice_get notes.now.items (prefix_len (λ n. is_before (rank_of_note n) (cut.now.of.stage ∷ cut.now.of.bin ∷ cut.now.limit ∷ [])) notes.now.items - 1) ≡ Some x.now) }
     ensures some_in_front { IfSome result (λ x. 0 < prefix_len (λ n. is_before (rank_of_note n) (cut.now.of.stage ∷ cut.now.of.bin ∷ cut.now.limit ∷ [])) notes.now.items) }
     ensures none { IfNone result (prefix_len (λ n. is_before (rank_of_note n) (cut.now.of.stage ∷ cut.now.of.bin ∷ cut.now.limit ∷ [])) notes.now.items ≡ 0) }
 {
-    match near {
-        Some(near) => notes.last_in_front_near(cut, near),
+    match hint {
+        Some(hint) => notes.last_in_front_hinted(cut, hint),
         None => notes.last_in_front(cut),
     }
 }

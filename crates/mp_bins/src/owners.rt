@@ -1,13 +1,14 @@
 //! The control records that were noted, and the owners that they give.
-ghost use Rattle.std.specs.Prelude.{◌≡◌, ◌<◌, ◌≤◌, ◌+◌, ◌*◌, ◌-◌, [], length, false, None, Some, cond, IfOk, OnOk, OnErr, IsOk, IfSome, IfNone};
-ghost use Rattle.mp_bins.specs.Notes.{IsShape, IsWithin, first_owner, is_move_of, is_noted, move_of, moves_of, owner_at, owner_before, with_note};
+ghost use Rattle.std.specs.Prelude.{◌≡◌, ◌<◌, ◌≤◌, ◌+◌, ◌*◌, ◌-◌, [], length, false, None, Some, cond, All, IfOk, OnOk, OnErr, IsOk, IfSome, IfNone};
+ghost use Rattle.mp_bins.specs.Notes.{FirstFits, IsShape, IsWithin, first_owner, is_move_of, is_noted, move_of, moves_of, owner_at, owner_before, with_note};
 ghost use Rattle.mp_bins.specs.Leaving.{IsNextLeaving, NoneLeaves};
 
 use crate::changes::put_down;
 use crate::finding::owner_below;
+use crate::firsts::{FirstOwners, bin_index};
 use crate::kept::{ByBin, ByOwner, StageBin};
 use crate::ranked::first_from;
-use mp_names::{Control, Move, Shape, Time, TimedBin};
+use mp_names::{Control, First, Move, Shape, Time, TimedBin};
 use mp_ordered::{OrderedBlocks, Spot};
 use std::alloc::{AllocError, Global};
 use std::cell::Cell;
@@ -26,7 +27,7 @@ pub struct Note {
 /// noted in any order: they count in the order of their indices.
 #[derive(Drop)]
 pub struct Owners {
-    shape: Shape,
+    first: FirstOwners,
     // In the order of their ranks: by stage, bin, time and index.
     notes: OrderedBlocks<Note, ByBin>,
     // The moves among them, by stage, owner before, time and bin.
@@ -45,13 +46,13 @@ impl Model for Owners {
 
     ghost Value = { Notes };
 
-    ghost view = { λ o. record { shape = o.shape; noted = o.notes.items; room = o.room } };
+    ghost view = { λ o. record { layout = o.first; noted = o.notes.items; room = o.room } };
 
     ghost invariant = { λ o.
-        IsShape o.shape
-        × AreWithin o.shape o.notes.items
+        IsShape o.first.shape
+        × AreWithin o.first.shape o.notes.items
         × AreInOrder o.notes.items
-        × AreChangesOf o.shape o.notes.items o.changes.items
+        × AreChangesOf o.first o.notes.items o.changes.items
         × (o.room ≤ o.notes.room)
         × (o.room + o.room ≤ o.changes.room) };
 }
@@ -61,11 +62,21 @@ impl Owners {
     /// in each stage (this project's profile). Each part of the shape is at least 1. `AllocError`: no memory.
     pub fn new(alloc: Global, shape: Shape) -> Result<Owners, AllocError>
         requires { IsShape shape }
-        ensures shape { IfOk result (λ o. o.shape ≡ shape) }
+        ensures layout { IfOk result (λ o. o.layout ≡ record { shape = shape; firsts = [] }) }
+        ensures none_noted { IfOk result (λ o. o.noted ≡ []) }
+    {
+        Owners::with_firsts(alloc, shape, &[])
+    }
+
+    /// The same, but for bins whose first owners these are.
+    pub fn with_firsts(alloc: Global, shape: Shape, firsts: &[First]) -> Result<Owners, AllocError>
+        requires shape { IsShape shape }
+        requires firsts { All (FirstFits shape) firsts.now }
+        ensures layout { IfOk result (λ o. o.layout ≡ record { shape = shape; firsts = firsts.now }) }
         ensures none_noted { IfOk result (λ o. o.noted ≡ []) }
     {
         Ok(Owners {
-            shape,
+            first: FirstOwners::new(alloc, shape, firsts)?,
             notes: OrderedBlocks::new(alloc),
             changes: OrderedBlocks::new(alloc),
             room: 0,
@@ -77,7 +88,7 @@ impl Owners {
     /// there is that room, and nothing changes.
     pub fn make_room(&mut self, count: u64) -> Result<(), AllocError>
         ensures room { OnOk result (count ≤ self.new.room) }
-        ensures shape { self.new.shape ≡ self.old.shape }
+        ensures layout { self.new.layout ≡ self.old.layout }
         ensures noted { self.new.noted ≡ self.old.noted }
         ensures no_less { self.old.room ≤ self.new.room }
         ensures unchanged { OnErr result (self.new ≡ self.old) }
@@ -100,9 +111,9 @@ impl Owners {
     /// memory, never where there is room, and nothing changes.
     pub fn note(&mut self, index: u32, control: Control) -> Result<(), AllocError>
         requires not_yet { is_noted self.old.noted index ≡ false }
-        requires within { IsWithin self.old.shape control }
+        requires within { IsWithin self.old.layout.shape control }
         ensures noted { OnOk result (self.new.noted ≡ with_note self.old.noted (record { index = index; control = control })) }
-        ensures shape { self.new.shape ≡ self.old.shape }
+        ensures layout { self.new.layout ≡ self.old.layout }
         ensures room { OnOk result (self.old.room - 1 ≤ self.new.room) }
         ensures unchanged { OnErr result (self.new ≡ self.old) }
         ensures never_refused_with_room { 0 < self.old.room → IsOk result }
@@ -112,7 +123,7 @@ impl Owners {
         put_down(
             &mut self.notes,
             &mut self.changes,
-            self.shape,
+            &self.first,
             Note { index, control },
         );
         Ok(())
@@ -122,10 +133,10 @@ impl Owners {
     /// the greatest time up to then, of several at one time that of the greatest index; without one, the
     /// first owner. As in Megaphone's control stream; which of several counts is this project's profile.
     pub fn owner(&self, stage: u32, bin: u32, time: Time) -> u32
-        requires stage { stage < self.now.shape.stages }
-        requires bin { bin < self.now.shape.bins }
+        requires stage { stage < self.now.layout.shape.stages }
+        requires bin { bin < self.now.layout.shape.bins }
         ensures owner { result ≡ owner_at self.now stage bin time }
-        ensures worker { result < self.now.shape.workers }
+        ensures worker { result < self.now.layout.shape.workers }
     {
         self.worker_below(stage, bin, u128::from(time) + 1)
     }
@@ -133,10 +144,10 @@ impl Owners {
     /// The same just before a time: a record of that time doesn't count yet. Just before time 0 it is the
     /// first owner.
     pub fn before(&self, stage: u32, bin: u32, time: Time) -> u32
-        requires stage { stage < self.now.shape.stages }
-        requires bin { bin < self.now.shape.bins }
+        requires stage { stage < self.now.layout.shape.stages }
+        requires bin { bin < self.now.layout.shape.bins }
         ensures owner { result ≡ owner_before self.now stage bin time }
-        ensures worker { result < self.now.shape.workers }
+        ensures worker { result < self.now.layout.shape.workers }
     {
         self.worker_below(stage, bin, u128::from(time))
     }
@@ -154,7 +165,7 @@ impl Owners {
     /// The next move, by time and then by bin, by which a bin of a stage leaves a worker, of those after a
     /// place (a time and a bin); of all where there is none. `None` where none is left. By what was noted.
     pub fn next_leaving(&self, stage: u32, worker: u32, after: Option<TimedBin>) -> Option<Move>
-        requires { stage < self.now.shape.stages }
+        requires { stage < self.now.layout.shape.stages }
         ensures next { IfSome result (IsNextLeaving self.now stage worker after) }
         ensures none_left { IfNone result (NoneLeaves self.now stage worker after) }
     {
@@ -164,30 +175,22 @@ impl Owners {
     // By the records of times below `limit`.
     fn worker_below(&self, stage: u32, bin: u32, limit: u128) -> u32
         ensures owner { result ≡ owner_before self.now stage bin limit }
-        ensures worker { result < self.now.shape.workers }
+        ensures worker { result < self.now.layout.shape.workers }
     {
-        let hint = self.hints.get(bin_index(self.shape, stage, bin));
+        let hint = self.hints.get(bin_index(self.first.shape(), stage, bin));
         owner_below(&self.notes, self.stage_bin(stage, bin), limit, hint)
     }
 
     fn stage_bin(&self, stage: u32, bin: u32) -> StageBin
-        ensures { result ≡ record { stage = stage; bin = bin; first = first_owner self.now.shape bin } }
+        ensures is { result ≡ record { stage = stage; bin = bin; first = first_owner self.now.layout stage bin } }
+        ensures worker { result.first < self.now.layout.shape.workers }
     {
         StageBin {
             stage,
             bin,
-            first: first_owner(self.shape, bin),
+            first: self.first.of(stage, bin),
         }
     }
-}
-
-/// The owner of a bin of each stage before any control record is noted: worker `bin` modulo the number of workers (this
-/// project's profile). There is at least one worker.
-pub fn first_owner(shape: Shape, bin: u32) -> u32
-    requires { 0 < shape.workers }
-    ensures { result ≡ first_owner shape bin }
-{
-    bin % shape.workers
 }
 
 // A hint for each bin of each stage. `AllocError`: no memory.
@@ -196,11 +199,4 @@ fn no_hints(alloc: Global, shape: Shape) -> Result<Vec<Cell<Spot>>, AllocError>
 {
     let count = bin_index(shape, shape.stages, 0);
     Vec::from_elem(alloc, Cell::new(Spot { block: 0, place: 0 }), count)
-}
-
-// The place of a bin of a stage among all of them.
-fn bin_index(shape: Shape, stage: u32, bin: u32) -> usize
-    ensures { result ≡ stage * shape.bins + bin }
-{
-    stage as usize * shape.bins as usize + bin as usize
 }

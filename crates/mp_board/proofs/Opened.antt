@@ -7,7 +7,7 @@ use Rattle.mp_names.specs.declared.locations.Loc.{Loc}
 use Rattle.mp_names.specs.declared.pointstamps.Change.{Change}
 use Rattle.mp_names.specs.Frontiers.{contribution, count_at, IsFrontierOf, log_at, sum_below}
 use Rattle.mp_names.specs.Laws.{log_size}
-use Rattle.mp_names.specs.Limits.{most_stages_seen, most_workers}
+use Rattle.mp_names.specs.Limits.{most_stages, most_workers}
 use Rattle.mp_names.specs.Locations.{IsLocation}
 use Rattle.mp_names.specs.Logs.{Log, LogIsLegal, LogsAreLegal, empty_log}
 use Rattle.mp_names.specs.Outlines.{Outline, OutlineIsSound}
@@ -67,7 +67,7 @@ module _ (o : Outline) (ok : OutlineIsSound o) (counts : CountTable) (stages : c
   small : (w : ℕ) → log_size (log_at (replicate o.workers empty_log) w) ≤ most_names
   small w = subst (λ (x : Log). log_size x ≤ most_names) (sym (empty_logs o.workers w)) (omega arith)
 
-  pub empty_sound : (logs : List Log) (seen : Seen) → logs ≡ replicate o.workers empty_log → o.stages ≤ most_stages_seen → o.workers ≤ most_workers → seen.version ≡ 0 → seen.stages ≡ o.stages → ((at : Loc) → IsLocation o.stages at → IsFrontierOf (count_in counts) at (seen_at seen at)) → BoardIsSound o logs counts seen
+  pub empty_sound : (logs : List Log) (seen : Seen) → logs ≡ replicate o.workers empty_log → o.stages ≤ most_stages → o.workers ≤ most_workers → seen.version ≡ 0 → seen.stages ≡ o.stages → ((at : Loc) → IsLocation o.stages at → IsFrontierOf (count_in counts) at (seen_at seen at)) → BoardIsSound o logs counts seen
   empty_sound logs seen is few_stages few_workers version seen_stages frontiers =
       subst (λ (ls : List Log). BoardIsSound o ls counts seen) (sym is)
       (record {

@@ -1,5 +1,5 @@
 -- The times of a job are those of all names of its outline.
-use Rattle.std.proofs.Common.{◌≡◌, ◌⊎◌, ℕ, zero, suc, ◌-◌, ◌<◌, true, refl, length, inl, inr, sym, subst, ⊎_elim, Contains}
+use Rattle.std.proofs.Common.{◌≡◌, ◌⊎◌, ℕ, zero, suc, ◌-◌, ◌<◌, true, [], refl, length, inl, inr, sym, subst, ⊎_elim, Contains}
 use Rattle.std.proofs.lemmas.Bool.{eqb-true, false≢true}
 use Rattle.std.proofs.lemmas.List.{get_or_default}
 use Rattle.mp_names.specs.declared.controls.Control.{Control}
@@ -7,7 +7,7 @@ use Rattle.mp_names.specs.declared.names.Name.{Name}
 use Rattle.mp_names.specs.declared.names.Name.TheVariants.{Ctrl, Rec as RecName, Packet, Row, Group}
 use Rattle.mp_names.specs.declared.names.Tag.{Tag}
 use Rattle.mp_names.specs.Controls.{control_of, no_control}
-use Rattle.mp_names.specs.Laws.{IsCaused}
+use Rattle.mp_names.specs.Laws.{IsMade}
 use Rattle.mp_names.specs.Names.{In, is_group}
 use Rattle.mp_names.specs.Outlines.{IsOwed, OutlineIsSound, groups_of, is_posted, time_of}
 use Rattle.mp_names.proofs.Listed.{group_cause, groups_are}
@@ -18,14 +18,16 @@ use Rattle.mp_model.specs.Facts.{JobFacts, QueryFacts}
 use Rattle.mp_model.specs.QueryLaws.{LaterStagesPostNothing}
 use Rattle.mp_model.specs.Stages.{input_records}
 use Rattle.mp_job.specs.Laws.{HasTime}
+use Rattle.mp_job.specs.Legal.{JobIsLegal}
 use Rattle.mp_job.specs.Times.{times_of}
 use Rattle.mp_job.proofs.Gathering.{times_have}
-use Rattle.mp_outline.specs.JobOutline.{outline_of, record_names}
+use Rattle.mp_outline.specs.JobOutline.{opening_names, outline_of, record_names}
 use Rattle.mp_outline.proofs.Found.{found_there}
 use Rattle.mp_outline.proofs.Stages.{post_named, record_named}
+use Rattle.mp_outline.proofs.Whole.{nothing_opens}
 use Rattle.mp_board.specs.Soundness.{HoldsAllTimes}
 
-module _ {Cell : Type 0} (q : QueryFacts Cell) (nothing : LaterStagesPostNothing q) (job : JobFacts) (ok : OutlineIsSound (outline_of q job)) where
+module _ {Cell : Type 0} (q : QueryFacts Cell) (nothing : LaterStagesPostNothing q) (job : JobFacts) (ok : OutlineIsSound (outline_of q job)) (legal : JobIsLegal q job) where
   abbrev Has : ℕ → Type 0
   Has t = HasTime q job.events job.controls t
 
@@ -50,9 +52,9 @@ module _ {Cell : Type 0} (q : QueryFacts Cell) (nothing : LaterStagesPostNothing
 
   -- a group's time is that of its records, or one that they post
   group_from : (j t k : ℕ) → ((s l : ℕ) (g : Tag) → In (RecName j s l g) (record_names q job j) → Has s) → In (Group j t k) (groups_of (outline_of q job) j) → Has t
-  group_from j t k records i = from j (group_cause (outline_of q job) ok j t k i) records
+  group_from j t k records i = ⊎_elim (λ (e : In (Group j t k) (opening_names q job j)). absurd (nothing_opens q job legal j (Group j t k) e)) (λ (m : IsMade (outline_of q job) j t k). from j m records) (group_cause (outline_of q job) ok j t k i)
     where
-      from : (n : ℕ) → IsCaused (outline_of q job) n t k → ((s l : ℕ) (g : Tag) → In (RecName n s l g) (record_names q job n) → Has s) → Has t
+      from : (n : ℕ) → IsMade (outline_of q job) n t k → ((s l : ℕ) (g : Tag) → In (RecName n s l g) (record_names q job n) → Has s) → Has t
       from zero c recs =
           ⊎_elim
           (λ (e : c.0 ≡ t). subst Has e (recs c.0 k c.1 c.2))

@@ -4,7 +4,7 @@ use Rattle.mp_names.specs.declared.locations.Loc.{Loc}
 use Rattle.mp_names.specs.declared.names.Name.{Name}
 use Rattle.mp_names.specs.Frontiers.{count_at, log_at}
 use Rattle.mp_names.specs.Laws.{log_size, names_in}
-use Rattle.mp_names.specs.Limits.{most_stages_seen, most_workers}
+use Rattle.mp_names.specs.Limits.{most_stages, most_workers}
 use Rattle.mp_names.specs.Logs.{Log, LogsAreLegal}
 use Rattle.mp_names.specs.Names.{In}
 use Rattle.mp_names.specs.Outlines.{IsOwed, Outline, OutlineIsSound, groups_of, time_of}
@@ -21,7 +21,7 @@ HoldsAllTimes o times = (x : Name) → IsOwed o x ⊎ ((j : ℕ) × In x (groups
 -- The outline is sound, each worker has a legal log, the counts are those of the logs, and what was seen is what they show
 pub record BoardIsSound (o : Outline) (logs : List Log) (counts : CountTable) (seen : Seen) : Type 0 where
   pub outline : OutlineIsSound o
-  pub few_stages : o.stages ≤ most_stages_seen
+  pub few_stages : o.stages ≤ most_stages
   pub few_workers : o.workers ≤ most_workers
   pub each_worker : length logs ≡ o.workers
   pub legal_logs : LogsAreLegal o (log_at logs)

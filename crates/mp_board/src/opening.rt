@@ -4,6 +4,7 @@ ghost use Rattle.mp_names.specs.Logs.{empty_log};
 ghost use Rattle.mp_job.specs.Times.{times_of};
 ghost use Rattle.mp_outline.specs.JobOutline.{outline_of};
 ghost use Rattle.mp_board.specs.Opening.{AreOpened};
+ghost use Rattle.mp_model.specs.Tables.{table_of};
 
 use crate::totals::add_all;
 use mp_rows::{Change, Job, Log, Outlined, Query, opening_entries};
@@ -16,9 +17,9 @@ const MOST_ENTRIES: u64 = 1 << 40;
 
 /// The counts of the empty logs of all workers of a job, over the times of the job. `AllocError`: no memory.
 pub(crate) fn opening_counts<Q: Query>(alloc: Global, job: &Job<Q>) -> Result<Counts, AllocError>
-    ensures opened { let o = outline_of (Q.facts job.now.rules) job.now in IfOk result (AreOpened o o.workers) }
+    ensures opened { let o = outline_of (table_of Q.facts job.now) job.now in IfOk result (AreOpened o o.workers) }
     ensures stages { IfOk result (λ counts. counts.stages ≡ job.now.shape.stages) }
-    ensures times { IfOk result (λ counts. counts.times ≡ times_of (Q.facts job.now.rules) job.now.events job.now.controls) }
+    ensures times { IfOk result (λ counts. counts.times ≡ times_of (table_of Q.facts job.now) job.now.events job.now.controls) }
 {
     let shape = job.shape();
     let mut counts = Counts::over(alloc, shape.stages, job.times())?;

@@ -1,0 +1,2 @@
+mod OwnTable
+mod Bins

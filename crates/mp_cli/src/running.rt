@@ -1,6 +1,7 @@
 //! The run of a job, and the answer's way into its file.
 ghost use Rattle.std.specs.Prelude.{◌≡◌, ◌<◌, ◌≤◌, IfErr, IfOk, OnErr, OnOk};
 ghost use Rattle.mp_model.specs.Answers.{one_thread_answer};
+ghost use Rattle.mp_model.specs.Tables.{table_of};
 ghost use Rattle.mp_outline.specs.JobOutline.{outline_of};
 ghost use Rattle.mp_output.specs.Rows.{GivesRows};
 ghost use Rattle.mp_outside.specs.Fault.{Rose};
@@ -53,14 +54,14 @@ pub fn answer_to<
     gate: &G,
 ) -> Result<Ran, Refusal<'a>>
     requires options { AreWithinLimits options.now }
-    requires rows { GivesRows (Q.facts job.now.rules) }
-    ensures made { let o = outline_of (Q.facts job.now.rules) job.now in
+    requires rows { GivesRows (table_of Q.facts job.now) }
+    ensures made { let o = outline_of (table_of Q.facts job.now) job.now in
         IfOk result (λ run. TellsSteps o options.now.depth options.now.schedule run.steps) }
     ensures tallies { IfOk result (λ run.
-        AreTalliesOf (Q.facts job.now.rules) job.now run.tallies.items) }
-    ensures whole { let answer = one_thread_answer (Q.facts job.now.rules) job.now.events in
+        AreTalliesOf (table_of Q.facts job.now) job.now run.tallies.items) }
+    ensures whole { let answer = one_thread_answer (table_of Q.facts job.now) job.now.events in
         OnOk result (D.files depot.new ≡ with_file (D.files depot.old) options.now.out.now answer) }
-    ensures part { let answer = one_thread_answer (Q.facts job.now.rules) job.now.events in
+    ensures part { let answer = one_thread_answer (table_of Q.facts job.now) job.now.events in
         OnErr result (HoldsPart (D.files depot.old) (D.files depot.new) options.now.out.now answer) }
     ensures refused { IfErr result (λ r. StopsAnswer (outcome_of r)) }
 
@@ -83,15 +84,15 @@ fn run_into<'a, Q: Query + Send, G: Gate + Sync, S: Sink, R: Threads + Wait + Sy
     sink: &mut S,
 ) -> Result<Ran, Refusal<'a>>
     requires depth { 0 < options.now.depth }
-    requires rows { GivesRows (Q.facts job.now.rules) }
-    ensures made { let o = outline_of (Q.facts job.now.rules) job.now in
+    requires rows { GivesRows (table_of Q.facts job.now) }
+    ensures made { let o = outline_of (table_of Q.facts job.now) job.now in
         IfOk result (λ run. TellsSteps o options.now.depth options.now.schedule run.steps) }
     ensures tallies { IfOk result (λ run.
-        AreTalliesOf (Q.facts job.now.rules) job.now run.tallies.items) }
-    ensures answer { let answer = one_thread_answer (Q.facts job.now.rules) job.now.events in
+        AreTalliesOf (table_of Q.facts job.now) job.now run.tallies.items) }
+    ensures answer { let answer = one_thread_answer (table_of Q.facts job.now) job.now.events in
         OnOk result (S.written sink.new ≡ grown (S.written sink.old) answer) }
     ensures part { OnErr result
-        (HasBegun (Q.facts job.now.rules) job.now.events (S.written sink.old) (S.written sink.new)) }
+        (HasBegun (table_of Q.facts job.now) job.now.events (S.written sink.old) (S.written sink.new)) }
     ensures refused { IfErr result (λ r. StopsAnswer (outcome_of r)) }
 
     ensures failed { IfErr result (λ r. EndsAs r 7 → Rose (S.faults sink.old) (S.faults sink.new)) }

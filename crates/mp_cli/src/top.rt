@@ -19,10 +19,10 @@ use std::thread::Threads;
 /// program's name. A refusal says one line on `said`; `check` and `demo` say theirs there.
 ///
 /// The command is `run` or `replay` with `--query` (`q1` to `q8`), `--events`, `--config` and `--out`, and
-/// perhaps `--report`, `--workers` (1, up to 16), `--bins` (16, a power of two up to 256) and `--depth` (64, up
+/// perhaps `--report`, `--workers` (1, up to 64), `--bins` (16, a power of two up to 4096) and `--depth` (64, up
 /// to 1024); `replay` also takes `--seed` (0, up to 2^48). The report is begun where the whole answer is
 /// written. `check` reads what these read; `make` writes events that are made from `--seed`, so many as
-/// `--count` says (up to 250,000), to `--out`; `demo` makes events, runs them in memory and says a summary of
+/// `--count` says (up to 1,000,000), to `--out`; `demo` makes events, runs them in memory and says a summary of
 /// the answer. The statuses are this project's profile: 0 all is done; 2 the words are no command; 3 the event
 /// file has a bad line; 4 the configuration has a bad line; 5 a file isn't there; 6 a find or a read failed; 7
 /// a begin or an append failed, or a write to `said` of what is its answer; 8 an allocation failed; 9 a file

@@ -1,14 +1,16 @@
 -- The last stage of q1, q2, q3 and q5 gives rows alone.
-use Rattle.std.specs.Prelude.{ℕ, ◌==◌, ◌%◌, map, Bool, true, false, Option, Some, None, List, [], ◌∷◌, All, IfSome, if◌then◌else◌}
+use Rattle.std.specs.Prelude.{ℕ, ◌==◌, ◌%◌, map, Bool, true, false, Option, Some, None, List, [], ◌∷◌, All, IfSome, get_or, if◌then◌else◌}
 use Rattle.std.specs.Option.{is_some, option_map, option_to_list}
 use Rattle.std.proofs.lemmas.List.Elements.{All-append, All-cons, All-map, All-nil}
 use Rattle.mp_model.proofs.Lists.{All-filter_map}
 use Rattle.mp_model.specs.declared.record.Rec.{Rec}
 use Rattle.mp_model.specs.declared.value.Value.{Value}
 use Rattle.mp_model.specs.declared.value.Value.TheVariants.{Person, Auction, Bid, Sale, Count, Row}
+use Rattle.mp_model.specs.Rules.{settled}
 use Rattle.mp_output.specs.Rows.{GivesRows, IsRow}
-use Rattle.mp_q_simple.specs.Q1.{q1_facts, row as row_of_q1}
-use Rattle.mp_q_simple.specs.Q2.{q2_facts, row as row_of_q2}
+use Rattle.mp_q_simple.specs.Bids.{RowFacts, bids_by}
+use Rattle.mp_q_simple.specs.Q1.{q1_facts, q1_rules, row as row_of_q1, rows_with as rows_of_q1}
+use Rattle.mp_q_simple.specs.Q2.{q2_facts, q2_rules, row as row_of_q2, rows_with as rows_of_q2}
 use Rattle.mp_q_join.specs.Q3.{q3_facts}
 use Rattle.mp_q_join.specs.declared.home.Home.{Home}
 use Rattle.mp_q_join.specs.Joining.{PersonCell, after_value, row_of, rows_along, rows_of_value}
@@ -27,31 +29,35 @@ where_so false v h = tt
 
 -- q1 and q2
 
-one_of_q1 : (v : Value) → IfSome (row_of_q1 v) IsRow
-one_of_q1 (Bid auction bidder price) = tt
-one_of_q1 (Person id name city state) = tt
-one_of_q1 (Auction id seller category reserve expires) = tt
-one_of_q1 (Sale of price) = tt
-one_of_q1 (Count auction count) = tt
-one_of_q1 (Row fields) = tt
+one_of_q1 : (num den : ℕ) (v : Value) → IfSome (row_of_q1 num den v) IsRow
+one_of_q1 num den (Bid auction bidder price) = tt
+one_of_q1 num den (Person id name city state) = tt
+one_of_q1 num den (Auction id seller category reserve expires) = tt
+one_of_q1 num den (Sale of price) = tt
+one_of_q1 num den (Count auction count) = tt
+one_of_q1 num den (Row fields) = tt
 
-one_of_q2 : (v : Value) → IfSome (row_of_q2 v) IsRow
-one_of_q2 (Bid auction bidder price) = where_so (auction % 123 == 0) _ tt
-one_of_q2 (Person id name city state) = tt
-one_of_q2 (Auction id seller category reserve expires) = tt
-one_of_q2 (Sale of price) = tt
-one_of_q2 (Count auction count) = tt
-one_of_q2 (Row fields) = tt
+one_of_q2 : (modulus : ℕ) (v : Value) → IfSome (row_of_q2 modulus v) IsRow
+one_of_q2 modulus (Bid auction bidder price) = where_so (auction % modulus == 0) _ tt
+one_of_q2 modulus (Person id name city state) = tt
+one_of_q2 modulus (Auction id seller category reserve expires) = tt
+one_of_q2 modulus (Sale of price) = tt
+one_of_q2 modulus (Count auction count) = tt
+one_of_q2 modulus (Row fields) = tt
 
 each_of : (row : Value → Option Value) → ((v : Value) → IfSome (row v) IsRow) → (rs : List Rec) → All (λ r. IfSome (row r.value) IsRow) rs
 each_of row h [] = All-nil (λ r. IfSome (row r.value) IsRow)
 each_of row h (r ∷ rs) = All-cons (λ r. IfSome (row r.value) IsRow) r rs (h r.value) (each_of row h rs)
 
-pub q1_gives_rows : GivesRows q1_facts
-q1_gives_rows cell e = All-filter_map IsRow (λ r. row_of_q1 r.value) e.recs (each_of row_of_q1 one_of_q1 e.recs)
+-- what a query without cells gives is a row, where that of each value is
+of_bids : (rows : RowFacts) → ((v : Value) → IfSome (rows.row v) IsRow) → GivesRows (bids_by rows)
+of_bids rows each cell e = All-filter_map IsRow (λ r. rows.row r.value) e.recs (each_of rows.row each e.recs)
 
-pub q2_gives_rows : GivesRows q2_facts
-q2_gives_rows cell e = All-filter_map IsRow (λ r. row_of_q2 r.value) e.recs (each_of row_of_q2 one_of_q2 e.recs)
+pub q1_gives_rows : (values : List ℕ) → GivesRows (q1_facts values)
+q1_gives_rows values = of_bids (rows_of_q1 values) (one_of_q1 (get_or (settled q1_rules values) 0 0) (get_or (settled q1_rules values) 1 1))
+
+pub q2_gives_rows : (values : List ℕ) → GivesRows (q2_facts values)
+q2_gives_rows values = of_bids (rows_of_q2 values) (one_of_q2 (get_or (settled q2_rules values) 0 1))
 
 -- q3
 
@@ -79,8 +85,8 @@ along : (cell : PersonCell) (rs : List Rec) → All IsRow (rows_along cell rs)
 along cell [] = All-nil IsRow
 along cell (r ∷ rs) = All-append IsRow (rows_of_value cell r.value) (rows_along (after_value cell r.value) rs) (of_value cell r.value) (along (after_value cell r.value) rs)
 
-pub q3_gives_rows : GivesRows q3_facts
-q3_gives_rows cell e = along cell e.recs
+pub q3_gives_rows : (values : List ℕ) → GivesRows (q3_facts values)
+q3_gives_rows values cell e = along cell e.recs
 
 -- q5
 
@@ -92,5 +98,5 @@ one_of_q5 m (Bid auction bidder price) = tt
 one_of_q5 m (Sale of price) = tt
 one_of_q5 m (Row fields) = tt
 
-pub q5_gives_rows : GivesRows q5_facts
-q5_gives_rows cell e = All-filter_map IsRow (λ r. row_at (greatest_of e.recs) r.value) e.recs (each_of (row_at (greatest_of e.recs)) (one_of_q5 (greatest_of e.recs)) e.recs)
+pub q5_gives_rows : (values : List ℕ) → GivesRows (q5_facts values)
+q5_gives_rows values cell e = All-filter_map IsRow (λ r. row_at (greatest_of e.recs) r.value) e.recs (each_of (row_at (greatest_of e.recs)) (one_of_q5 (greatest_of e.recs)) e.recs)

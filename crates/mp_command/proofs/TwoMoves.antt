@@ -33,7 +33,7 @@ planned_fit shape shift time_of some stages timely = all_made (ControlFits shape
 })
 
 -- those of a demo do
-pub two_moves_fit : (shape : Shape) → 0 < shape.workers → shape.bins ≤ 256 → 0 < shape.stages
+pub two_moves_fit : (shape : Shape) → 0 < shape.workers → shape.bins ≤ 4096 → 0 < shape.stages
     → All (ControlFits shape) (([] ++ all_at_once_records shape 600 0 1) ++ fluid_records shape 1200 30 0 2)
 two_moves_fit shape some few stages =
     All-append (ControlFits shape) ([] ++ all_at_once_records shape 600 0 1) (fluid_records shape 1200 30 0 2)

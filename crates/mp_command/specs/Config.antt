@@ -8,7 +8,7 @@ use Rattle.mp_names.specs.declared.controls.Shape.{Shape}
 use Rattle.mp_words.specs.declared.options.QueryName.{QueryName}
 use Rattle.mp_words.specs.Values.{CheckAsked, Options}
 use Rattle.mp_words.specs.Words.{Asked, Run, Check, Make, Demo}
-use Rattle.mp_command.specs.Queries.{stages_of}
+use Rattle.mp_command.specs.Queries.{given_of, stages_of}
 
 -- the shape of a job of this query with so many workers and bins
 abbrev pub shape_for : QueryName → ℕ → ℕ → Shape
@@ -18,9 +18,9 @@ shape_for query workers bins = record { workers = workers; bins = bins; stages =
 abbrev pub shape_of : Options → Shape
 shape_of asked = shape_for asked.query asked.workers asked.bins
 
--- the job that a command asks for, by the events and the control records that were read; no query has rules of its own
+-- the job that a command asks for, by the events and the control records that were read; the rules have the values that they have where nothing else is said, and the first owners are the usual ones
 abbrev pub job_asked : Options → List Event → List Control → JobFacts
-job_asked asked events controls = job_of [] events controls (shape_of asked)
+job_asked asked events controls = job_of (given_of asked.query) events controls (shape_of asked) []
 
 -- the files that a command reads, by their names, and the shape of the jobs that the configuration is for
 pub record Reading : Type 0 where

@@ -17,7 +17,7 @@ impl<'a> From<AllocError> for Refusal<'a> {
     }
 }
 
-// The plans of a demo have 512 records at most, so that they aren't too many.
+// The plans of a demo have 8192 records at most, so that they aren't too many.
 impl<'a> From<PlanRefused> for Refusal<'a> {
     ghost from_gives = { λ _ refusal. refusal ≡ NoMemory };
 

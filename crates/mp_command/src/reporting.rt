@@ -1,5 +1,6 @@
 //! The report's way into its file.
 ghost use Rattle.std.specs.Prelude.{◌≡◌, ◌≤◌, IfErr, OnErr, OnOk, Some};
+ghost use Rattle.mp_model.specs.Tables.{table_of};
 ghost use Rattle.mp_outside.specs.Fault.{Rose};
 ghost use Rattle.mp_report.specs.Report.{AreTalliesOf, IsReport};
 ghost use Rattle.mp_command.specs.Outcome.{StopsAnswer};
@@ -24,10 +25,10 @@ pub fn report_to<'a, D: Depot, Q: Query>(
     job: &Job<Q>,
     tallies: &[Tally],
 ) -> Result<(), Refusal<'a>>
-    requires tallies { AreTalliesOf (Q.facts job.now.rules) job.now tallies.now }
-    ensures whole { OnOk result (WritesReport (IsReport (Q.facts job.now.rules) job.now) (Some name.now)
+    requires tallies { AreTalliesOf (table_of Q.facts job.now) job.now tallies.now }
+    ensures whole { OnOk result (WritesReport (IsReport (table_of Q.facts job.now) job.now) (Some name.now)
         (D.files depot.old) (D.files depot.new)) }
-    ensures part { OnErr result (WritesReportPart (IsReport (Q.facts job.now.rules) job.now) (Some name.now)
+    ensures part { OnErr result (WritesReportPart (IsReport (table_of Q.facts job.now) job.now) (Some name.now)
         (D.files depot.old) (D.files depot.new)) }
     ensures refused { IfErr result (λ r. StopsAnswer (outcome_of r)) }
 

@@ -39,7 +39,7 @@ pub fn run_in_memory(options: &DemoOptions) -> RunOptions<'static>
 /// The control records that move every bin of the first stage at 600, and then one after the other from 1200 on.
 pub fn two_moves<'a>(alloc: Global, shape: Shape) -> Result<Vec<Control>, Refusal<'a>>
     requires workers { 0 < shape.workers }
-    requires bins { shape.bins ≤ 256 }
+    requires bins { shape.bins ≤ 4096 }
     requires stages { 0 < shape.stages }
     ensures fit { IfOk result (λ controls. ControlsFit shape controls.items) }
     ensures refused { IfErr result (λ r. outcome_of r ≡ NoMemory) }

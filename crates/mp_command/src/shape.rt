@@ -35,13 +35,13 @@ fn stages_of(query: QueryName) -> u32
     ensures { result ≡ stages_of query }
 {
     match query {
-        QueryName::Q1 => Q1::STAGES,
-        QueryName::Q2 => Q2::STAGES,
-        QueryName::Q3 => Q3::STAGES,
-        QueryName::Q4 => Q4::STAGES,
-        QueryName::Q5 => Q5::STAGES,
-        QueryName::Q6 => Q6::STAGES,
-        QueryName::Q7 => Q7::STAGES,
-        QueryName::Q8 => Q8::STAGES,
+        QueryName::Q1 => Q1::given().stages(),
+        QueryName::Q2 => Q2::given().stages(),
+        QueryName::Q3 => Q3::given().stages(),
+        QueryName::Q4 => Q4::given().stages(),
+        QueryName::Q5 => Q5::given().stages(),
+        QueryName::Q6 => Q6::given().stages(),
+        QueryName::Q7 => Q7::given().stages(),
+        QueryName::Q8 => Q8::given().stages(),
     }
 }

@@ -34,9 +34,9 @@ number_within shape kind fields k limit h low is =
     let pass = passes_at failures_of_number (limits_of shape kind) fields k limit h low is in
     ap (is_within limit) (get_or-map value_of (drop 1 fields) k [] 0 there ∙ ap value_of (get_or_after_one fields k [])) ∙ passes_limit limit (field_at fields (1 + k)) pass
 
--- a number between 1 and 256 is at least the one and at most the other
-between : (n : ℕ) → is_within (Between 1 256) n ≡ true → (1 ≤ n) × (n ≤ 256)
-between n e = let both = and_parts (nat_le 1 n) (nat_le n 256) e in (leb-true 1 n both.0, leb-true n 256 both.1)
+-- a number between 1 and 4096 is at least the one and at most the other
+between : (n : ℕ) → is_within (Between 1 4096) n ≡ true → (1 ≤ n) × (n ≤ 4096)
+between n e = let both = and_parts (nat_le 1 n) (nat_le n 4096) e in (leb-true 1 n both.0, leb-true n 4096 both.1)
 
 -- so what it says is within the limits of the shape
 pub stage_fits : (shape : Shape) (kind : LineKind) (fields : List (List ℕ)) → IsPassed shape kind fields → StageFits shape (line_of kind (numbers_in fields))
@@ -55,7 +55,7 @@ has_size shape Record fields h = tt
 has_size shape AllAtOnce fields h = tt
 has_size shape Fluid fields h = tt
 has_size shape Batched fields h =
-    (between _ (number_within shape Batched fields 2 (Between 1 256) h (lit< tt) refl)).0
+    (between _ (number_within shape Batched fields 2 (Between 1 4096) h (lit< tt) refl)).0
 
 -- the numbers that were read say what those of the line do
 pub line_of-read : (shape : Shape) (kind : LineKind) (fields : List (List ℕ)) (ns : List ℕ) → take (length (limits_of shape kind)) ns ≡ numbers_in fields → line_of kind ns ≡ line_of kind (numbers_in fields)
@@ -94,8 +94,8 @@ small_numbers shape Fluid fields ns h e words =
     )
 small_numbers shape Batched fields ns h e words =
     let read : (k : ℕ) → k < 5 → get_or ns k 0 ≡ get_or (numbers_in fields) k 0 = λ k low. sym (get_or-take 5 ns k 0 low) ∙ ap (λ l. get_or l k 0) e in
-    let most : get_or (numbers_in fields) 2 0 ≤ 256 = (between (get_or (numbers_in fields) 2 0) (number_within shape Batched fields 2 (Between 1 256) h (lit< tt) refl)).1 in
-    let small : 256 < 2 ^ 32 = lit< tt in (
+    let most : get_or (numbers_in fields) 2 0 ≤ 4096 = (between (get_or (numbers_in fields) 2 0) (number_within shape Batched fields 2 (Between 1 4096) h (lit< tt) refl)).1 in
+    let small : 4096 < 2 ^ 32 = lit< tt in (
       rw (read 2 (lit< tt)) (omega (arith, most, small)),
       rw (read 3 (lit< tt)) (omega (arith, stage_fits shape Batched fields h, words.stages)),
       rw (read 4 (lit< tt)) (short _ (leb-true _ _ (number_within shape Batched fields 4 (UpTo 255) h (lit< tt) refl))),

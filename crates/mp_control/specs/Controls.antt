@@ -48,11 +48,11 @@ failures_of shape before fields = failures_of_kind shape before (kind_of (field_
 abbrev pub records_on : Shape → List (List ℕ) → List Control
 records_on shape fields = records_of_kind shape (kind_of (field_at fields 0)) fields
 
--- the checks that a line fails, and the control records that it says
-abbrev pub control_rules : Shape → LineRules Control ControlReason
-control_rules shape = record { failures = failures_of shape; says = records_on shape }
+-- the checks that a line behind these control records fails, and all control records with those that it says
+abbrev pub control_rules : Shape → LineRules (List Control) ControlReason
+control_rules shape = record { failures = λ controls fields. failures_of shape (length controls) fields; after = λ controls fields. controls ++ records_on shape fields }
 
 -- the control records of the lines of a file that aren't blank, or the number of its first line that fails a check and
 -- the first check that this line fails
 abbrev pub controls_of : List ℕ → Shape → Result (List Control) (ℕ × ControlReason)
-controls_of text shape = file_of (control_rules shape) text
+controls_of text shape = file_of (control_rules shape) [] text

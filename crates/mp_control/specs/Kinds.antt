@@ -41,7 +41,7 @@ limits_of shape AllAtOnce = UpTo greatest_time ∷ Below shape.stages ∷ UpTo 2
 -- time, gap, stage, shift
 limits_of shape Fluid = UpTo greatest_time ∷ UpTo greatest_time ∷ Below shape.stages ∷ UpTo 255 ∷ []
 -- time, gap, size, stage, shift
-limits_of shape Batched = UpTo greatest_time ∷ UpTo greatest_time ∷ Between 1 256 ∷ Below shape.stages ∷ UpTo 255 ∷ []
+limits_of shape Batched = UpTo greatest_time ∷ UpTo greatest_time ∷ Between 1 4096 ∷ Below shape.stages ∷ UpTo 255 ∷ []
 
 -- the checks that fields after a kind fail: there is one for each limit, and each is a number within its limit
 abbrev pub failures_within : List NumberLimit → List (List ℕ) → List ControlReason

@@ -29,7 +29,7 @@ const TIME: NumberLimit = NumberLimit::UpTo(MAX_TIME);
 
 const SHIFT: NumberLimit = NumberLimit::UpTo(255);
 
-const SIZE: NumberLimit = NumberLimit::Between(1, 256);
+const SIZE: NumberLimit = NumberLimit::Between(1, 4096);
 
 impl LineKind {
     /// The kind that a line says in its first field, if it says one.

@@ -1,5 +1,5 @@
 //! The control records of a whole file.
-ghost use Rattle.std.specs.Prelude.{◌≡◌, ◌<◌, Ok, Err, IfOk, IfErr};
+ghost use Rattle.std.specs.Prelude.{◌≡◌, ◌<◌, [], Ok, Err, IfOk, IfErr};
 ghost use Rattle.mp_control.specs.Controls.{controls_of};
 ghost use Rattle.mp_job.specs.Legal.{ControlsFit};
 ghost use Rattle.mp_lines.specs.Refusals.{IfBadLine};
@@ -10,6 +10,7 @@ use mp_job::{Control, Shape};
 use mp_lines::{LineReader, LineRefused, read_lines};
 use mp_text::FieldList;
 use std::alloc::Global;
+use std::marker::Model;
 
 /// The control records of a configuration file for a job of this shape, in file order: those of each line that isn't
 /// blank. A record's place in the list is its index. Times may come in any order. The shape has a worker and a
@@ -30,7 +31,42 @@ pub fn read_control(
     ensures bad_line { IfErr result (λ refused.
         IfBadLine refused (λ line why. controls_of text.now shape.now ≡ Err (line, why))) }
 {
-    read_lines(alloc, &ControlReader { shape: *shape }, text)
+    let reader = ControlReader { shape: *shape };
+    let list = read_lines(alloc, &reader, ControlList::new(alloc), text)?;
+    Ok(list.into_controls())
+}
+
+/// The control records of the lines that were read. Contracts see a list.
+#[derive(Drop)]
+struct ControlList {
+    controls: Vec<Control>,
+}
+
+impl Model for ControlList {
+    ghost use Rattle.std.specs.Prelude.{List};
+    ghost use Rattle.mp_names.specs.declared.controls.Control.{Control};
+
+    ghost Value = { List Control };
+
+    ghost view = { λ l. l.controls.items };
+}
+
+impl ControlList {
+    // None.
+    fn new(alloc: Global) -> ControlList
+        ensures { result ≡ [] }
+    {
+        ControlList {
+            controls: Vec::new(alloc),
+        }
+    }
+
+    // They, in their order.
+    fn into_controls(self) -> Vec<Control>
+        ensures { result.items ≡ self }
+    {
+        self.controls
+    }
 }
 
 /// What the lines of a configuration for a job of this shape say.
@@ -44,7 +80,7 @@ struct ControlReader {
 impl LineReader for ControlReader {
     ghost use Rattle.mp_control.specs.Controls.{control_rules};
 
-    type Item = Control;
+    type State = ControlList;
 
     type Reason = ControlReason;
 
@@ -54,9 +90,9 @@ impl LineReader for ControlReader {
         &self,
         _alloc: Global,
         fields: &FieldList,
-        controls: &mut Vec<Control>,
+        list: &mut ControlList,
     ) -> Result<(), LineRefused<ControlReason>> {
         let line = read_line(self.shape, fields).map_err(LineRefused::Bad)?;
-        line.append(self.shape, controls)
+        line.append(self.shape, &mut list.controls)
     }
 }

@@ -11,6 +11,7 @@ use Rattle.mp_names.specs.declared.kinds.Kind.{Kind}
 use Rattle.mp_names.specs.declared.kinds.Kind.TheVariants.{Write}
 use Rattle.mp_names.specs.declared.names.Name.TheVariants.{Row, Written}
 use Rattle.mp_names.specs.Logs.{Log, empty_log}
+use Rattle.mp_names.specs.Frontiers.{HasEnded}
 use Rattle.mp_names.specs.Names.{In}
 use Rattle.mp_names.specs.Outlines.{Outline, OutlineIsSound}
 use Rattle.mp_outside.specs.Sink.{grown}
@@ -33,7 +34,7 @@ use Rattle.mp_drive.proofs.Written.{first_legal, some_first}
 pub finished : (o : Outline) (world : World) (w : ℕ) (s : WorkerState) → IsWorkerOf o w s (world.worker w) → KnowsTheEnd o s → WorkerIsFinished o world w
 finished o world w s is know =
     record {
-      done = λ at l. sym (is.seen at l) ∙ know.done at l;
+      done = λ at l. subst (HasEnded o.until) (is.seen at l) (know.done at l);
       written = λ e t g took.
           subst (λ (log : Log). In (Written t) log.settled) is.log
           (know.written (is.number ∙ e) t g (subst (λ (log : Log). In (Row t g) log.took) (sym is.log) took));

@@ -1,5 +1,5 @@
 -- The place of a number, and its kind.
-use Rattle.std.proofs.Common.{◌≡◌, ℕ, zero, suc, ◌+◌, ◌*◌, ◌/◌, ◌%◌, ◌<◌, List, [], ◌∷◌, ◌++◌, map, length, Some, ap, ◌∙◌, sym, subst, arith, ⊎_elim, ◌⊎◌, inl, inr}
+use Rattle.std.proofs.Common.{◌≡◌, ℕ, zero, suc, false, None, ◌+◌, ◌*◌, ◌/◌, ◌%◌, ◌<◌, List, [], ◌∷◌, ◌++◌, map, length, Some, ap, ◌∙◌, sym, subst, arith, ⊎_elim, ◌⊎◌, inl, inr}
 use Rattle.std.specs.List.{slice_get}
 use Rattle.std.proofs.Math.Nat.{div-lt_iff_lt-mul}
 use Rattle.std.proofs.lemmas.List.{length-map}
@@ -45,7 +45,10 @@ some_outline workers stages = record {
   records = λ j. [];
   posts = λ x. [];
   rows = [];
+  opening = λ j. [];
   bundle = 0;
+  paced = false;
+  until = None;
 }
 
 pub as_product : (o : Outline) (workers kinds : ℕ) → workers ≡ o.workers → kinds ≡ length (kinds_of o) → workers * kinds ≡ length (places o)

@@ -8,6 +8,7 @@ use Rattle.mp_names.specs.declared.kinds.Kind.{Kind}
 use Rattle.mp_names.specs.declared.names.Name.{Name}
 use Rattle.mp_names.specs.declared.names.Name.TheVariants.{Row, Written}
 use Rattle.mp_names.specs.Logs.{Log}
+use Rattle.mp_names.specs.Frontiers.{HasEnded}
 use Rattle.mp_names.specs.Names.{In}
 use Rattle.mp_names.specs.Outlines.{Outline, OutlineIsSound}
 use Rattle.mp_machine.specs.Places.{places}
@@ -74,7 +75,7 @@ module _ (o : Outline) (t : SystemState) where
   knows depth world w s are is finished =
       let it = are.workers w s is in
       record {
-        done = λ at has. it.seen at has ∙ finished.done at has;
+        done = λ at has. subst (HasEnded o.until) (sym (it.seen at has)) (finished.done at has);
         written = λ z u g i.
             let first : w ≡ 0 = sym it.number ∙ z in
             let taken : In (Row u g) (world.worker w).log.took = subst (λ (log : Log). In (Row u g) log.took) it.log i in

@@ -8,6 +8,7 @@ ghost use Rattle.mp_worker.specs.declared.turn.Turn.TheVariants.{Busy};
 ghost use Rattle.mp_drive.specs.declared.stop.DriveStop.TheVariants.{Write};
 ghost use Rattle.mp_drive.specs.Driven.{HasBegun, HasWritten, LeadsOn, turn_in};
 ghost use Rattle.mp_drive.specs.Refused.{KeepsSteps};
+ghost use Rattle.mp_model.specs.Tables.{table_of};
 
 use crate::{DriveStop, Plain};
 use mp_model::{Naming, Query};
@@ -27,18 +28,18 @@ impl<'a, Q: Query, J: Naming> Plain<'a, Q, J> {
         steps: &[(u32, Kind)],
         sink: &mut S,
     ) -> Result<Vec<Turn>, DriveStop>
-        ensures turns { let o = outline_of (Q.facts J.job.rules) J.job in
+        ensures turns { let o = outline_of (table_of Q.facts J.job) J.job in
             IfOk result (λ turns. LeadsOn o steps.now (map turn_in turns.items) self.old.state self.new.state) }
         ensures counted { IfOk result (λ turns.
             self.new.made ≡ self.old.made + made_count (map turn_in turns.items)) }
         ensures not_busy { IfOk result (λ turns. All (λ turn. turn ≢ Busy) turns.items) }
-        ensures kept { IfErr result (λ why. KeepsSteps (Q.facts J.job.rules) J.job steps.now why
+        ensures kept { IfErr result (λ why. KeepsSteps (table_of Q.facts J.job) J.job steps.now why
             self.old self.new (S.written sink.old) (S.written sink.new)) }
 
-        ensures written { let q = Q.facts J.job.rules in
+        ensures written { let q = table_of Q.facts J.job in
             (before : Option (List ℕ)) → HasWritten q J.job.events before self.old.state (S.written sink.old)
             → OnOk result (HasWritten q J.job.events before self.new.state (S.written sink.new)) }
-        ensures part { let q = Q.facts J.job.rules in
+        ensures part { let q = table_of Q.facts J.job in
             (before : Option (List ℕ)) → HasWritten q J.job.events before self.old.state (S.written sink.old)
             → OnErr result (HasBegun q J.job.events before (S.written sink.new)) }
         ensures failed { result ≡ Err Write → Rose (S.faults sink.old) (S.faults sink.new) }

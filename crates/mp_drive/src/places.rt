@@ -11,7 +11,7 @@ use mp_worker::{count_of_kinds, kind_at};
 /// workers.
 pub fn count_of_places(shape: Shape) -> u64
     requires { shape.workers ≤ most_workers }
-    ensures few { result < 2 ^ 39 }
+    ensures few { result < 2 ^ 41 }
     ensures count { (o : Outline) → o.workers ≡ shape.workers → o.stages ≡ shape.stages
         → result ≡ length (places o) }
 {

@@ -7,6 +7,7 @@ ghost use Rattle.mp_names.specs.Outlines.{name_count};
 ghost use Rattle.mp_outside.specs.Fault.{Rose};
 ghost use Rattle.mp_outside.specs.Sink.{OnlyAppends};
 ghost use Rattle.mp_model.specs.Answers.{one_thread_answer};
+ghost use Rattle.mp_model.specs.Tables.{table_of};
 ghost use Rattle.mp_outline.specs.JobOutline.{outline_of};
 ghost use Rattle.mp_machine.specs.Worlds.{start_of_machine};
 ghost use Rattle.mp_output.specs.Rows.{GivesRows};
@@ -48,13 +49,14 @@ pub struct Plain<'a, Q: Query, J: Naming> {
 impl<'a, Q: Query, J: Naming> Model for Plain<'a, Q, J> {
     ghost use Rattle.mp_drive.specs.Driven.{Driven};
     ghost use Rattle.mp_drive.specs.Kept.{IsKept, together};
+    ghost use Rattle.mp_model.specs.Tables.{table_of};
 
     ghost Value = { Driven };
 
     ghost view = { λ p. record { state = together p.workers.items p.board p.post; made = p.made } };
 
     ghost invariant = { λ p.
-        IsKept (Q.facts J.job.rules) J.job p.job.now (together p.workers.items p.board p.post) p.made };
+        IsKept (table_of Q.facts J.job) J.job p.job.now (together p.workers.items p.board p.post) p.made };
 }
 
 impl<'a, Q: Query, J: Naming> Plain<'a, Q, J> {
@@ -62,12 +64,12 @@ impl<'a, Q: Query, J: Naming> Plain<'a, Q, J> {
     /// gives rows alone. `AllocError`: no memory.
     pub fn open(alloc: Global, job: &'a Job<Q>, depth: u32) -> Result<Plain<'a, Q, J>, AllocError>
         requires job { job.now ≡ J.job }
-        requires rows { GivesRows (Q.facts J.job.rules) }
-        ensures start { let o = outline_of (Q.facts J.job.rules) J.job in
+        requires rows { GivesRows (table_of Q.facts J.job) }
+        ensures start { let o = outline_of (table_of Q.facts J.job) J.job in
             IfOk result (λ p. Refines o depth p.state (start_of_machine o)) }
         ensures depth { IfOk result (λ p. p.state.post.depth ≡ depth) }
         ensures made { IfOk result (λ p. p.made ≡ 0) }
-        ensures nothing_written { let q = Q.facts J.job.rules in
+        ensures nothing_written { let q = table_of Q.facts J.job in
             IfOk result (λ p. written_lines q J.job.events (first_log p.state) ≡ []) }
     {
         let board = Board::open(alloc, job)?;
@@ -85,7 +87,7 @@ impl<'a, Q: Query, J: Naming> Plain<'a, Q, J> {
     /// The frontiers that the posted logs show.
     pub fn seen(&self) -> Seen
         ensures version { result.version ≡ self.now.state.board.version }
-        ensures frontiers { let o = outline_of (Q.facts J.job.rules) J.job in
+        ensures frontiers { let o = outline_of (table_of Q.facts J.job) J.job in
             ShowsFrontiers o self.now.state.board.logs result }
     {
         self.board.seen()
@@ -95,7 +97,7 @@ impl<'a, Q: Query, J: Naming> Plain<'a, Q, J> {
     /// no more than the job's names times the number of workers and two.
     pub fn steps(&self) -> u64
         ensures made { result ≡ self.now.made }
-        ensures few { let o = outline_of (Q.facts J.job.rules) J.job in result ≤ (o.workers + 2) * name_count o }
+        ensures few { let o = outline_of (table_of Q.facts J.job) J.job in result ≤ (o.workers + 2) * name_count o }
     {
         self.made
     }
@@ -112,17 +114,17 @@ impl<'a, Q: Query, J: Naming> Plain<'a, Q, J> {
         kind: Kind,
         sink: &mut S,
     ) -> Result<Turn, DriveStop>
-        ensures turn { let o = outline_of (Q.facts J.job.rules) J.job in
+        ensures turn { let o = outline_of (table_of Q.facts J.job) J.job in
             IfOk result (λ turn. LeadsOn o ((worker, kind) ∷ []) (turn_in turn ∷ []) self.old.state self.new.state) }
         ensures counted { self.new.made ≡ self.old.made + made_by result }
         ensures not_busy { IfOk result (λ turn. turn ≢ Busy) }
-        ensures unchanged { let o = outline_of (Q.facts J.job.rules) J.job in
+        ensures unchanged { let o = outline_of (table_of Q.facts J.job) J.job in
             OnErr result (LeadsOn o [] [] self.old.state self.new.state) }
 
-        ensures written { let q = Q.facts J.job.rules in
+        ensures written { let q = table_of Q.facts J.job in
             (before : Option (List ℕ)) → HasWritten q J.job.events before self.old.state (S.written sink.old)
             → OnOk result (HasWritten q J.job.events before self.new.state (S.written sink.new)) }
-        ensures part { let q = Q.facts J.job.rules in
+        ensures part { let q = table_of Q.facts J.job in
             (before : Option (List ℕ)) → HasWritten q J.job.events before self.old.state (S.written sink.old)
             → OnErr result (HasKept q J.job.events kind before self.new.state (S.written sink.new)) }
         ensures failed { result ≡ Err stop.Write
@@ -150,11 +152,11 @@ impl<'a, Q: Query, J: Naming> Plain<'a, Q, J> {
     /// Whether each worker knows that all is over. What worker 0 has written is a beginning of the one-thread
     /// answer, and then all of it.
     pub fn is_finished(&self) -> bool
-        ensures known { IsTrue result ↔ AllKnowTheEnd (outline_of (Q.facts J.job.rules) J.job) self.now.state }
-        ensures answer { let q = Q.facts J.job.rules in
+        ensures known { IsTrue result ↔ AllKnowTheEnd (outline_of (table_of Q.facts J.job) J.job) self.now.state }
+        ensures answer { let q = table_of Q.facts J.job in
             IsTrue result
             → written_lines q J.job.events (first_log self.now.state) ≡ one_thread_answer q J.job.events }
-        ensures begun { let q = Q.facts J.job.rules in
+        ensures begun { let q = table_of Q.facts J.job in
             (k : ℕ) × (written_lines q J.job.events (first_log self.now.state)
             ≡ take k (one_thread_answer q J.job.events)) }
     {
@@ -179,12 +181,12 @@ fn new_workers<'a, Q: Query, J: Naming>(
     seen: Seen,
 ) -> Result<Vec<Worker<'a, Q, J>>, AllocError>
     requires job { job.now ≡ J.job }
-    requires rows { GivesRows (Q.facts J.job.rules) }
+    requires rows { GivesRows (table_of Q.facts J.job) }
     requires version { seen.version ≡ 0 }
-    requires opening { let o = outline_of (Q.facts J.job.rules) J.job in
+    requires opening { let o = outline_of (table_of Q.facts J.job) J.job in
         ShowsFrontiers o (replicate J.job.shape.workers empty_log) seen }
     ensures all { IfOk result (λ workers. length workers.items ≡ J.job.shape.workers) }
-    ensures new { let o = outline_of (Q.facts J.job.rules) J.job in
+    ensures new { let o = outline_of (table_of Q.facts J.job) J.job in
         IfOk result (λ workers. (w : ℕ) (s : WorkerState)
         → slice_get workers.items w ≡ Some s → IsNewWorker o w s) }
 {

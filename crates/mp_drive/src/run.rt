@@ -3,6 +3,7 @@ ghost use Rattle.std.specs.Prelude.{◌≡◌, ◌≢◌, ◌<◌, ◌≤◌, �
 ghost use Rattle.mp_outside.specs.Fault.{Rose};
 ghost use Rattle.mp_outside.specs.Sink.{OnlyAppends, grown};
 ghost use Rattle.mp_model.specs.Answers.{one_thread_answer};
+ghost use Rattle.mp_model.specs.Tables.{table_of};
 ghost use Rattle.mp_outline.specs.JobOutline.{outline_of};
 ghost use Rattle.mp_output.specs.Rows.{GivesRows};
 ghost use Rattle.mp_drive.specs.declared.stop.DriveStop.TheVariants.{Write};
@@ -33,12 +34,12 @@ pub fn replay<Q: Query, J: Naming, S: Sink, G: Gate>(
     sink: &mut S,
 ) -> Result<u64, DriveStop>
     requires job { job.now ≡ J.job }
-    requires rows { GivesRows (Q.facts J.job.rules) }
+    requires rows { GivesRows (table_of Q.facts J.job) }
     requires depth { 0 < depth }
-    ensures made { IfOk result (λ n. EndsAfter (outline_of (Q.facts J.job.rules) J.job) depth seed n) }
-    ensures answer { let q = Q.facts J.job.rules in
+    ensures made { IfOk result (λ n. EndsAfter (outline_of (table_of Q.facts J.job) J.job) depth seed n) }
+    ensures answer { let q = table_of Q.facts J.job in
         OnOk result (S.written sink.new ≡ grown (S.written sink.old) (one_thread_answer q J.job.events)) }
-    ensures part { let q = Q.facts J.job.rules in
+    ensures part { let q = table_of Q.facts J.job in
         OnErr result (HasBegun q J.job.events (S.written sink.old) (S.written sink.new)) }
     ensures failed { result ≡ Err Write → Rose (S.faults sink.old) (S.faults sink.new) }
     ensures no_fault { result ≢ Err Write → S.faults sink.new ≡ S.faults sink.old }
@@ -68,16 +69,16 @@ pub fn replay_with_tallies<Q: Query, J: Naming, S: Sink, G: Gate>(
     sink: &mut S,
 ) -> Result<Replayed, DriveStop>
     requires job { job.now ≡ J.job }
-    requires rows { GivesRows (Q.facts J.job.rules) }
+    requires rows { GivesRows (table_of Q.facts J.job) }
     requires depth { 0 < depth }
-    ensures made { let o = outline_of (Q.facts J.job.rules) J.job in
+    ensures made { let o = outline_of (table_of Q.facts J.job) J.job in
         IfOk result (λ run. EndsAfter o depth seed run.steps) }
     ensures all { IfOk result (λ run. length run.tallies.items ≡ J.job.shape.workers) }
     ensures tallies { IfOk result (λ run. (w : ℕ) (t : Told) → slice_get run.tallies.items w ≡ Some t
-        → IsTallyOf (Q.facts J.job.rules) J.job w t) }
-    ensures answer { let q = Q.facts J.job.rules in
+        → IsTallyOf (table_of Q.facts J.job) J.job w t) }
+    ensures answer { let q = table_of Q.facts J.job in
         OnOk result (S.written sink.new ≡ grown (S.written sink.old) (one_thread_answer q J.job.events)) }
-    ensures part { let q = Q.facts J.job.rules in
+    ensures part { let q = table_of Q.facts J.job in
         OnErr result (HasBegun q J.job.events (S.written sink.old) (S.written sink.new)) }
     ensures failed { result ≡ Err Write → Rose (S.faults sink.old) (S.faults sink.new) }
     ensures no_fault { result ≢ Err Write → S.faults sink.new ≡ S.faults sink.old }

@@ -3,6 +3,7 @@ ghost use Rattle.std.specs.Prelude.{◌≡◌, ◌≢◌, ◌<◌, ◌≤◌, �
 ghost use Rattle.mp_outside.specs.Fault.{Rose};
 ghost use Rattle.mp_outside.specs.Sink.{OnlyAppends, grown};
 ghost use Rattle.mp_model.specs.Answers.{one_thread_answer};
+ghost use Rattle.mp_model.specs.Tables.{table_of};
 ghost use Rattle.mp_outline.specs.JobOutline.{outline_of};
 ghost use Rattle.mp_drive.specs.declared.stop.DriveStop.TheVariants.{Write};
 ghost use Rattle.mp_drive.specs.Driven.{AllAreFull, AllKnowTheEnd, HasBegun, HasWritten, LeadsOn};
@@ -31,18 +32,18 @@ impl<'a, Q: Query, J: Naming> Plain<'a, Q, J> {
         sink: &mut S,
     ) -> Result<u64, DriveStop>
         requires depth { 0 < self.old.state.post.depth }
-        ensures made { let o = outline_of (Q.facts J.job.rules) J.job in
+        ensures made { let o = outline_of (table_of Q.facts J.job) J.job in
             IfOk result (λ n. FollowsSchedule o seed n self.old.state self.new.state) }
         ensures counted { IfOk result (λ n. self.new.made ≡ self.old.made + n) }
-        ensures finished { OnOk result (AllKnowTheEnd (outline_of (Q.facts J.job.rules) J.job) self.new.state) }
-        ensures full { OnOk result (AllAreFull (outline_of (Q.facts J.job.rules) J.job) self.new.state) }
-        ensures kept { IfErr result (λ why. KeepsSchedule (Q.facts J.job.rules) J.job seed why
+        ensures finished { OnOk result (AllKnowTheEnd (outline_of (table_of Q.facts J.job) J.job) self.new.state) }
+        ensures full { OnOk result (AllAreFull (outline_of (table_of Q.facts J.job) J.job) self.new.state) }
+        ensures kept { IfErr result (λ why. KeepsSchedule (table_of Q.facts J.job) J.job seed why
             self.old self.new (S.written sink.old) (S.written sink.new)) }
 
-        ensures answer { let q = Q.facts J.job.rules in
+        ensures answer { let q = table_of Q.facts J.job in
             (before : Option (List ℕ)) → HasWritten q J.job.events before self.old.state (S.written sink.old)
             → OnOk result (S.written sink.new ≡ grown before (one_thread_answer q J.job.events)) }
-        ensures part { let q = Q.facts J.job.rules in
+        ensures part { let q = table_of Q.facts J.job in
             (before : Option (List ℕ)) → HasWritten q J.job.events before self.old.state (S.written sink.old)
             → OnErr result (HasBegun q J.job.events before (S.written sink.new)) }
         ensures failed { result ≡ Err Write → Rose (S.faults sink.old) (S.faults sink.new) }
@@ -72,20 +73,20 @@ impl<'a, Q: Query, J: Naming> Plain<'a, Q, J> {
         sink: &mut S,
     ) -> Result<(), DriveStop>
         requires depth { 0 < self.old.state.post.depth }
-        requires unfinished { AllKnowTheEnd (outline_of (Q.facts J.job.rules) J.job) self.old.state → ⊥ }
-        ensures made { let o = outline_of (Q.facts J.job.rules) J.job in
+        requires unfinished { AllKnowTheEnd (outline_of (table_of Q.facts J.job) J.job) self.old.state → ⊥ }
+        ensures made { let o = outline_of (table_of Q.facts J.job) J.job in
             OnOk result (MakesPick o draw self.old.state self.new.state) }
         ensures one { OnOk result (self.new.made ≡ self.old.made + 1) }
         ensures none { OnErr result (self.new.made ≡ self.old.made) }
-        ensures still { let o = outline_of (Q.facts J.job.rules) J.job in
+        ensures still { let o = outline_of (table_of Q.facts J.job) J.job in
             OnErr result (LeadsOn o [] [] self.old.state self.new.state) }
-        ensures refused { IfErr result (λ why. RefusesDraw (Q.facts J.job.rules) J.job draw why []
+        ensures refused { IfErr result (λ why. RefusesDraw (table_of Q.facts J.job) J.job draw why []
             self.old.state self.new.state (S.written sink.old) (S.written sink.new)) }
 
-        ensures written { let q = Q.facts J.job.rules in
+        ensures written { let q = table_of Q.facts J.job in
             (before : Option (List ℕ)) → HasWritten q J.job.events before self.old.state (S.written sink.old)
             → OnOk result (HasWritten q J.job.events before self.new.state (S.written sink.new)) }
-        ensures part { let q = Q.facts J.job.rules in
+        ensures part { let q = table_of Q.facts J.job in
             (before : Option (List ℕ)) → HasWritten q J.job.events before self.old.state (S.written sink.old)
             → OnErr result (HasBegun q J.job.events before (S.written sink.new)) }
         ensures failed { result ≡ Err Write → Rose (S.faults sink.old) (S.faults sink.new) }

@@ -1,22 +1,22 @@
 -- What fails no check is legal: the events of a file are within their limits, and not too many.
-use Rattle.std.proofs.Common.{◌≡◌, ◌+◌, ◌<◌, ◌≤◌, lit<, ℕ, true, Option, Some, None, Ok, List, [], ◌++◌, length, drop, get_or, map, refl, arith}
+use Rattle.std.proofs.Common.{◌≡◌, ◌+◌, ◌<◌, ◌≤◌, lit<, ℕ, true, Option, Some, None, Ok, List, [], ◌++◌, length, drop, get_or, map, refl, arith, length-append}
 use Rattle.std.specs.Prelude.{All, nat_eq, nat_lt}
 use Rattle.std.proofs.lemmas.Bool.{eqb-true, leb-true, ltb-true}
-use Rattle.std.proofs.lemmas.List.Elements.{All-cons, All-nil}
+use Rattle.std.proofs.lemmas.List.Elements.{All-append, All-cons, All-nil}
 use Rattle.mp_events.specs.declared.kinds.LineKind.{LineKind}
 use Rattle.mp_events.specs.declared.kinds.LineKind.TheVariants.{Person, Auction, Bid}
 use Rattle.mp_events.specs.declared.refused.EventsReason.{EventsReason}
 use Rattle.mp_events.specs.declared.refused.EventsReason.TheVariants.{Count, Fields}
 use Rattle.mp_events.specs.Events.{events_of}
 use Rattle.mp_events.specs.Kinds.{a_name, kind_of, limits_of, up_to}
-use Rattle.mp_events.specs.Lines.{event_by, event_rules, events_of_kind, failures_of, failures_of_kind, is_ordered}
+use Rattle.mp_events.specs.Lines.{event_by, event_rules, events_of_kind, events_on, failures_of, failures_of_kind, is_ordered}
 use Rattle.mp_events.specs.Reasons.{reason_of}
 use Rattle.mp_lines.specs.declared.limits.NumberLimit.TheVariants.{UpTo}
 use Rattle.mp_lines.specs.Checks.{FieldsPass, check, failures_of_fields, field_at, number_at}
 use Rattle.mp_lines.specs.Limits.{failures_of_field}
 use Rattle.mp_lines.proofs.FieldsRead.{passes_at}
 use Rattle.mp_lines.proofs.LimitSteps.{name_within, number_within}
-use Rattle.mp_lines.proofs.Said.{all_in_file, few_in_file}
+use Rattle.mp_lines.proofs.Said.{kept_in_file}
 use Rattle.mp_lines.proofs.Starts.{empty_map, empty_parts, passes}
 use Rattle.mp_model.specs.declared.record.Event.{Event}
 use Rattle.mp_model.specs.Legal.{EventIsLegal, IsName}
@@ -82,11 +82,21 @@ counted : (before : ℕ) (fields : List (List ℕ)) → failures_of before field
 counted before fields e =
     let parts = empty_parts (check (nat_lt before most_events) Count) (failures_of_kind (kind_of (field_at fields 0)) fields) e in (ltb-true _ _ (passes _ _ parts.0), parts.1)
 
+-- events are within their limits, and not too many
+record AreLegal (events : List Event) : Type 0 where
+  each : All EventIsLegal events
+  few : length events ≤ most_events
+
+-- with that of a line that fails no check they still are
+one_more : (before : List Event) (fields : List (List ℕ)) → AreLegal before → failures_of (length before) fields ≡ [] → AreLegal (before ++ events_on fields)
+one_more before fields legal e =
+    let line = counted (length before) fields e in
+    let kind = kind_of (field_at fields 0) in record {
+      each = All-append EventIsLegal before (events_of_kind kind fields) legal.each (legal_of_kind kind fields line.1);
+      few = omega (arith, line.0, one_at_most kind fields, length-append before (events_of_kind kind fields));
+    }
+
 -- the events of a file are legal, and not more than there may be
 pub legal_events : (text : List ℕ) (events : List Event) → events_of text ≡ Ok events → All EventIsLegal events × (length events ≤ most_events)
 legal_events text events e =
-    let few : (before : ℕ) (fields : List (List ℕ)) → failures_of before fields ≡ [] → before + length (events_of_kind (kind_of (field_at fields 0)) fields) ≤ most_events =
-    λ before fields f. omega (arith, (counted before fields f).0, one_at_most (kind_of (field_at fields 0)) fields) in (
-      all_in_file event_rules EventIsLegal (λ before fields f. legal_of_kind (kind_of (field_at fields 0)) fields (counted before fields f).1) text events e,
-      few_in_file event_rules most_events few text events e,
-    )
+    let all = kept_in_file event_rules AreLegal one_more [] text events (record { each = All-nil EventIsLegal; few = omega arith }) e in (all.each, all.few)

@@ -1,5 +1,5 @@
 -- What is written is read: the lines of events, cut and read again, are these events.
-use Rattle.std.proofs.Common.{◌≡◌, ◌+◌, ◌-◌, ◌^◌, eqb, ◌<◌, ◌≤◌, ℕ, Bool, true, false, List, [], ◌∷◌, ◌++◌, length, get_or, map, refl, ap, sym, ◌∙◌, subst, append_assoc, arith, lit<, take, length-append, length-take}
+use Rattle.std.proofs.Common.{◌≡◌, ◌+◌, ◌-◌, ◌^◌, eqb, ◌<◌, ◌≤◌, ℕ, Bool, true, false, List, [], ◌∷◌, ◌++◌, length, get_or, map, refl, ap, sym, ◌∙◌, subst, append-nil, append_assoc, arith, lit<, take, length-append, length-take}
 use Rattle.std.proofs.lemmas.List.{get_or-append_right}
 use Rattle.std.specs.Prelude.{All, codes, nat_le, nat_lt}
 use Rattle.std.specs.Fmt.{decimal}
@@ -13,38 +13,21 @@ use Rattle.std.proofs.lemmas.List.Splits.{length-slice_split, slice_split_at, sl
 use Rattle.std.proofs.lemmas.Str.Parse.{digit_from_value}
 use Rattle.mp_events.specs.Kinds.{a_name, up_to}
 use Rattle.mp_events.specs.Lines.{event_rules, events_on, failures_of}
-use Rattle.mp_events.specs.Written.{HasPlainNames, IsPlain, WrittenEventsAreRead, line_of_event, written_fields}
-use Rattle.mp_lines.specs.Files.{failures_from, filled, items_on}
+use Rattle.mp_events.specs.Written.{HasPlainNames, WrittenEventsAreRead, line_of_event, written_fields}
+use Rattle.mp_lines.specs.Files.{failures_from, filled, said_after}
 use Rattle.mp_lines.specs.Limits.{failures_of_field}
 use Rattle.mp_model.specs.declared.record.Event.{Event}
 use Rattle.mp_model.specs.declared.value.Value.{Value}
 use Rattle.mp_model.specs.declared.value.Value.TheVariants.{Person, Auction, Bid, Sale, Count, Row}
 use Rattle.mp_model.specs.Legal.{IsLegalAt, IsName}
+use Rattle.mp_model.specs.Plain.{IsPlain}
+use Rattle.mp_model.proofs.PlainNumbers.{IsDigit, digits_in, plain_number}
 use Rattle.mp_names.specs.Limits.{greatest_id, greatest_price, greatest_time, most_events}
 use Rattle.mp_text.proofs.LineLemmas.{lines_of-nil}
 use Rattle.mp_text.proofs.NumberLemmas.{numerals}
 use Rattle.mp_text.specs.Fields.{fields_of, is_separator}
 use Rattle.mp_text.specs.Lines.{is_blank, is_line_feed, lines_of, without_empty_last}
 use Rattle.mp_text.specs.Numbers.{is_number, value_of}
-
--- bytes of a field: neither `|` nor a line feed nor a carriage return
-record IsDigit (b : ℕ) : Type 0 where
-  low : 48 ≤ b
-  high : b ≤ 57
-
-digits_are : (ds : List ℕ) → AllDigits 10 ds → All IsDigit ds
-digits_are [] h = All-nil IsDigit
-digits_are (d ∷ ds) h =
-    let range = digit_from_value d h.0 in All-cons IsDigit d ds (record { low = omega (arith, range); high = omega (arith, range) }) (digits_are ds h.1)
-
-plain_digit : (b : ℕ) → IsDigit b → (is_separator b ≡ false) × (is_line_feed b ≡ false)
-plain_digit b h = (ne_eqb b 124 (λ e. omega (arith, e, h.high)), ne_eqb b 10 (λ e. omega (arith, e, h.low)))
-
-digits_in : (n : ℕ) → n < 2 ^ 64 → All IsDigit (decimal n)
-digits_in n low = digits_are (decimal n) (decimal_is_IsNumeral n low).0.1
-
-plain_number : (n : ℕ) → n < 2 ^ 64 → IsPlain (decimal n)
-plain_number n low = All-weaker IsDigit (λ b. (is_separator b ≡ false) × (is_line_feed b ≡ false)) plain_digit (decimal n) (digits_in n low)
 
 -- a number is read as it is
 number_reads : (n : ℕ) → n < 2 ^ 64 → (is_number (decimal n) ≡ true) × (value_of (decimal n) ≡ n)
@@ -244,19 +227,19 @@ module _ where
       ∙ first_line (joined event) (flat_map line_of_event more) first.alone first.same
       ∙ ap (λ l. joined event ∷ l) (lines_are more (All-tail P event more each))
 
-  reads : (events : List Event) (n before : ℕ) → All (λ event. IsReadAs event.time event.value) events → before + length events ≤ most_events
-      → (failures_from event_rules before (filled (enumerate_from n (map joined events))) ≡ []) × (items_on event_rules (filled (enumerate_from n (map joined events))) ≡ events)
+  reads : (events : List Event) (n : ℕ) (before : List Event) → All (λ event. IsReadAs event.time event.value) events → length before + length events ≤ most_events
+      → (failures_from event_rules before (filled (enumerate_from n (map joined events))) ≡ []) × (said_after event_rules before (filled (enumerate_from n (map joined events))) ≡ before ++ events)
   unfolding joined
-  reads [] n before each few = (refl, refl)
+  reads [] n before each few = (refl, sym (append-nil before))
   reads (event ∷ more) n before each few =
       let P : Event → Type 0 = λ e. IsReadAs e.time e.value in
       let first = All-head P event more each in
-      let rest = reads more (n + 1) (before + 1) (All-tail P event more each) (omega (arith, few)) in
-      (rw (first.filled, first.cuts, first.fails before (omega (arith, few)), first.says, rest.0) refl, rw (first.filled, first.cuts, first.says, rest.1) refl)
+      let rest = reads more (n + 1) (before ++ event ∷ []) (All-tail P event more each) (omega (arith, few, length-append before (event ∷ []))) in
+      (rw (first.filled, first.cuts, first.fails (length before) (omega (arith, few)), first.says, rest.0) refl, rw (first.filled, first.cuts, first.says, rest.1) (append_assoc before (event ∷ []) more))
 
 -- the file of the lines of events is read as these
 pub written_are_read : WrittenEventsAreRead
 written_are_read events legal plain =
     let each : All (λ event. IsReadAs event.time event.value) events = λ k d low. is_read _ _ ((legal.each k d low).in_time) ((legal.each k d low).legal) (plain k d low) in
-    let read = reads events 1 0 each (omega (arith, legal.few)) in
+    let read = reads events 1 [] each (omega (arith, legal.few)) in
     rw (lines_are events each, read.0, read.1) refl

@@ -52,6 +52,6 @@ events_of_kind (Some kind) fields = event_by fields kind ∷ []
 abbrev pub events_on : List (List ℕ) → List Event
 events_on fields = events_of_kind (kind_of (field_at fields 0)) fields
 
--- the checks that a line fails, and the event that it says
-abbrev pub event_rules : LineRules Event EventsReason
-event_rules = record { failures = failures_of; says = events_on }
+-- the checks that a line behind these events fails, and all events with the one that it says
+abbrev pub event_rules : LineRules (List Event) EventsReason
+event_rules = record { failures = λ events fields. failures_of (length events) fields; after = λ events fields. events ++ events_on fields }

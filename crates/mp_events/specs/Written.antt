@@ -1,5 +1,5 @@
 -- The lines of events, as they are written.
-use Rattle.std.specs.Prelude.{◌≡◌, ℕ, false, Ok, List, [], ◌∷◌, ◌++◌, All, codes}
+use Rattle.std.specs.Prelude.{◌≡◌, ℕ, Ok, List, [], ◌∷◌, ◌++◌, All, codes}
 use Rattle.std.specs.Fmt.{decimal}
 use Rattle.std.specs.List.{flat_map, join_with_byte}
 use Rattle.std.specs.Str.Lines.{strip_carriage_return}
@@ -7,9 +7,8 @@ use Rattle.mp_model.specs.declared.record.Event.{Event}
 use Rattle.mp_model.specs.declared.value.Value.{Value}
 use Rattle.mp_model.specs.declared.value.Value.TheVariants.{Person, Auction, Bid}
 use Rattle.mp_model.specs.Legal.{EventsAreLegal}
+use Rattle.mp_model.specs.Plain.{IsPlain}
 use Rattle.mp_events.specs.Events.{events_of}
-use Rattle.mp_text.specs.Fields.{is_separator}
-use Rattle.mp_text.specs.Lines.{is_line_feed}
 
 -- the fields of an event's line: its kind, its time, and its numbers and names from left to right
 abbrev pub written_fields : ℕ → Value → List (List ℕ)
@@ -22,10 +21,6 @@ written_fields time _ = []
 -- an event as its line: its fields, cut by `|`, and a line feed
 abbrev pub line_of_event : Event → List ℕ
 line_of_event event = join_with_byte 124 (written_fields event.time event.value) ++ 10 ∷ []
-
--- a name without `|` and line feeds
-abbrev pub IsPlain : List ℕ → Type 0
-IsPlain name = All (λ b. (is_separator b ≡ false) × (is_line_feed b ≡ false)) name
 
 -- its names are plain, and the one that ends its line has no carriage return at its end
 abbrev pub HasPlainNames : Value → Type 0

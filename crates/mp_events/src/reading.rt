@@ -1,8 +1,9 @@
 //! The events of a whole file.
-ghost use Rattle.std.specs.Prelude.{◌≡◌, ◌≤◌, All, Ok, Err, IfOk, IfErr, vec_len};
+ghost use Rattle.std.specs.Prelude.{◌≡◌, ◌≤◌, ◌++◌, ◌∷◌, [], All, Ok, Err, IfOk, IfErr, OnOk, length, vec_len};
 ghost use Rattle.mp_events.specs.Events.{events_of};
 ghost use Rattle.mp_lines.specs.Refusals.{IfBadLine};
 ghost use Rattle.mp_model.specs.Legal.{EventIsLegal};
+ghost use Rattle.mp_model.specs.Plain.{EventsArePlain};
 ghost use Rattle.mp_names.specs.Limits.{most_events};
 
 use crate::line::read_line;
@@ -10,10 +11,11 @@ use crate::{EventsReason, EventsRefused};
 use mp_lines::{LineReader, LineRefused, read_lines};
 use mp_model::Event;
 use mp_text::FieldList;
-use std::alloc::Global;
+use std::alloc::{AllocError, Global};
+use std::marker::Model;
 
 /// The events of an event file, in file order: one for each line that isn't blank. An event's place in the list is its
-/// index. Times may come in any order.
+/// index. Times may come in any order. No name has a `|` or a line feed.
 ///
 /// `BadLine` comes exactly where a line fails a check, with the number of the first such line and the first check that
 /// it fails. `NoMemory` is an allocation failure alone.
@@ -21,11 +23,61 @@ pub fn read_events(alloc: Global, text: &[u8]) -> Result<Vec<Event>, EventsRefus
     ensures events { IfOk result (λ events. events_of text.now ≡ Ok events.items) }
     ensures legal { IfOk result (λ events. All EventIsLegal events.items) }
     ensures few { IfOk result (λ events. vec_len events ≤ most_events) }
+    ensures plain { IfOk result (λ events. EventsArePlain events.items) }
 
     ensures bad_line { IfErr result (λ refused.
         IfBadLine refused (λ line why. events_of text.now ≡ Err (line, why))) }
 {
-    read_lines(alloc, &EventReader, text)
+    let list = read_lines(alloc, &EventReader, EventList::new(alloc), text)?;
+    Ok(list.into_events())
+}
+
+/// The events of the lines that were read. Contracts see a list.
+#[derive(Drop)]
+struct EventList {
+    events: Vec<Event>,
+}
+
+impl Model for EventList {
+    ghost use Rattle.std.specs.Prelude.{List};
+    ghost use Rattle.mp_model.specs.declared.record.Event.{Event};
+
+    ghost Value = { List Event };
+
+    ghost view = { λ l. l.events.items };
+}
+
+impl EventList {
+    // None.
+    fn new(alloc: Global) -> EventList
+        ensures { result ≡ [] }
+    {
+        EventList {
+            events: Vec::new(alloc),
+        }
+    }
+
+    // How many there are.
+    fn len(&self) -> usize
+        ensures { result ≡ length self.now }
+    {
+        self.events.len()
+    }
+
+    // Adds one. `AllocError`: no memory.
+    fn push(&mut self, event: Event) -> Result<(), AllocError>
+        ensures { OnOk result (self.new ≡ self.old ++ event ∷ []) }
+    {
+        self.events.push(event)?;
+        Ok(())
+    }
+
+    // They, in their order.
+    fn into_events(self) -> Vec<Event>
+        ensures { result.items ≡ self }
+    {
+        self.events
+    }
 }
 
 /// What the lines of an event file say.
@@ -35,7 +87,7 @@ struct EventReader;
 impl LineReader for EventReader {
     ghost use Rattle.mp_events.specs.Lines.{event_rules};
 
-    type Item = Event;
+    type State = EventList;
 
     type Reason = EventsReason;
 
@@ -45,7 +97,7 @@ impl LineReader for EventReader {
         &self,
         alloc: Global,
         fields: &FieldList,
-        events: &mut Vec<Event>,
+        events: &mut EventList,
     ) -> Result<(), LineRefused<EventsReason>> {
         match read_line(fields, events.len()) {
             Ok(line) => {

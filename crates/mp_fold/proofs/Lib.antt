@@ -1,2 +1,4 @@
 -- The lemmas of this crate.
+mod Fresh
+mod Groups
 mod Outputs

@@ -20,7 +20,7 @@ pub fn answer_pieces<Q: Query>(
 ) -> Result<Vec<Vec<u8>>, AllocError>
     requires { EventsAreLegal events.now }
     ensures { IfOk result (λ v. flat_map (λ p. p.items) v.items
-        ≡ one_thread_answer (Q.facts (Q.rules query.now)) events.now) }
+        ≡ one_thread_answer (Q.facts (Q.values query.now)) events.now) }
 {
     let rows = in_order(alloc, answer_rows(alloc, query, events)?)?;
     let mut pieces = Pieces::new(alloc);

@@ -3,7 +3,7 @@ ghost use Rattle.std.specs.Prelude.{◌≡◌, ◌≤◌, ◌++◌, All, OnOk};
 ghost use Rattle.mp_names.specs.Limits.{last_time};
 ghost use Rattle.mp_model.specs.Folds.{FitsAlong, outputs_at, outputs_of, timeline};
 
-use crate::timeline::{at_time, group_times, is_woken, of_key};
+use crate::timeline::{at_time, group_times, is_posted, of_key};
 use mp_model::{Group, Output, Query, Rec, Tag, Time, Value};
 use std::alloc::{AllocError, Global};
 
@@ -17,16 +17,16 @@ pub fn fold_key<Q: Query>(
     outputs: &mut Vec<Output>,
 ) -> Result<(), AllocError>
     requires times { All (λ r. r.time ≤ last_time) recs.now }
-    requires fits { let q = Q.facts (Q.rules query.now) in
-        FitsAlong q stage (q.fresh stage) (timeline q stage key recs.now) }
+    requires fits { let q = Q.facts (Q.values query.now) in
+        FitsAlong q stage (q.opening stage key) (timeline q stage key recs.now) }
     ensures { OnOk result (outputs.new.items
-        ≡ outputs.old.items ++ outputs_of (Q.facts (Q.rules query.now)) stage recs.now key) }
+        ≡ outputs.old.items ++ outputs_of (Q.facts (Q.values query.now)) stage recs.now key) }
 {
     let own = of_key(alloc, recs, key)?;
     let times = group_times(alloc, query, stage, own.as_slice())?;
     let mut cell = query.fresh(alloc, stage);
     for time in times.as_slice() {
-        let woken = is_woken(query, stage, own.as_slice(), *time);
+        let woken = is_posted(query, stage, own.as_slice(), *time);
         let recs = at_time(alloc, own.as_slice(), *time)?;
         let group = Group::new(*time, key, woken, recs.as_slice());
         let values = query.step(alloc, stage, &mut cell, &group)?;

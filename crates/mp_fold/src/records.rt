@@ -15,7 +15,7 @@ pub fn input_records<Q: Query>(
     events: &[Event],
 ) -> Result<Vec<Rec>, AllocError>
     requires { All (λ e. e.time ≤ last_time) events.now }
-    ensures { IfOk result (λ v. v.items ≡ input_records (Q.facts (Q.rules query.now)) events.now) }
+    ensures { IfOk result (λ v. v.items ≡ input_records (Q.facts (Q.values query.now)) events.now) }
 {
     let mut recs = Vec::new(alloc);
     for (index, event) in events.iter().enumerate() {
@@ -33,7 +33,7 @@ fn push_record<Q: Query>(
 ) -> Result<(), AllocError>
     requires { event.now.time ≤ last_time }
     ensures { OnOk result (recs.new.items
-        ≡ recs.old.items ++ option_to_list (record_of (Q.facts (Q.rules query.now)) index event.now)) }
+        ≡ recs.old.items ++ option_to_list (record_of (Q.facts (Q.values query.now)) index event.now)) }
 {
     match query.key(0, event.time, &event.value) {
         Some(key) => {
@@ -58,7 +58,7 @@ pub fn output_records<Q: Query>(
 ) -> Result<Vec<Rec>, AllocError>
     requires { All (λ o. o.time ≤ last_time) outputs.now }
     ensures { IfOk result (λ v. v.items
-        ≡ filter_map (record_of_output (Q.facts (Q.rules query.now)) stage) outputs.now) }
+        ≡ filter_map (record_of_output (Q.facts (Q.values query.now)) stage) outputs.now) }
 {
     let mut recs = Vec::new(alloc);
     for output in outputs {
@@ -76,7 +76,7 @@ fn push_output_record<Q: Query>(
 ) -> Result<(), AllocError>
     requires { output.now.time ≤ last_time }
     ensures { OnOk result (recs.new.items
-        ≡ recs.old.items ++ option_to_list (record_of_output (Q.facts (Q.rules query.now)) stage output.now)) }
+        ≡ recs.old.items ++ option_to_list (record_of_output (Q.facts (Q.values query.now)) stage output.now)) }
 {
     match query.key(stage, output.time, &output.value) {
         Some(key) => {

@@ -18,9 +18,9 @@ pub fn answer_rows<Q: Query>(
     events: &[Event],
 ) -> Result<Vec<Output>, AllocError>
     requires { EventsAreLegal events.now }
-    ensures { IfOk result (λ v. v.items ≡ answer_rows (Q.facts (Q.rules query.now)) events.now) }
+    ensures { IfOk result (λ v. v.items ≡ answer_rows (Q.facts (Q.values query.now)) events.now) }
 {
-    let last = Q::STAGES - 1;
+    let last = query.stages() - 1;
     let recs = stage_records(alloc, query, events, last)?;
     stage_outputs(alloc, query, last, recs.as_slice())
 }
@@ -34,9 +34,9 @@ pub fn stage_records<Q: Query>(
     stage: u32,
 ) -> Result<Vec<Rec>, AllocError>
     requires events { EventsAreLegal events.now }
-    requires stage { stage < Q.STAGES }
+    requires stage { stage < (Q.facts (Q.values query.now)).stages }
     ensures { IfOk result (λ v. v.items
-        ≡ stage_records (Q.facts (Q.rules query.now)) events.now stage) }
+        ≡ stage_records (Q.facts (Q.values query.now)) events.now stage) }
 {
     let mut recs = input_records(alloc, query, events)?;
     for before in 0..stage {
@@ -55,9 +55,9 @@ fn stage_outputs<Q: Query>(
     recs: &[Rec],
 ) -> Result<Vec<Output>, AllocError>
     requires times { All (λ r. r.time ≤ last_time) recs.now }
-    requires fits { let q = Q.facts (Q.rules query.now) in
-        (k : ℕ) → FitsAlong q stage (q.fresh stage) (timeline q stage k recs.now) }
-    ensures { IfOk result (λ v. v.items ≡ stage_outputs (Q.facts (Q.rules query.now)) stage recs.now) }
+    requires fits { let q = Q.facts (Q.values query.now) in
+        (k : ℕ) → FitsAlong q stage (q.opening stage k) (timeline q stage k recs.now) }
+    ensures { IfOk result (λ v. v.items ≡ stage_outputs (Q.facts (Q.values query.now)) stage recs.now) }
 {
     let keys = keys_of(alloc, recs)?;
     let mut outputs = Vec::new(alloc);

@@ -1,9 +1,9 @@
-//! The groups of a key: its records, their times, and whether a time is woken.
+//! The groups of a key: its records, their times, and whether a time is posted.
 ghost use Rattle.std.specs.Prelude.{◌≡◌, ◌≤◌, ◌==◌, All, IfOk};
 ghost use Rattle.std.specs.List.{list_any};
 ghost use Rattle.mp_names.specs.Limits.{last_time};
 ghost use Rattle.mp_model.specs.Ascending.{ascending};
-ghost use Rattle.mp_model.specs.Folds.{at_time, is_woken, keys_of, of_key, times_in};
+ghost use Rattle.mp_model.specs.Folds.{at_time, keys_of, of_key, times_in};
 
 use crate::ascending::ascending;
 use mp_model::{Query, Rec, Time};
@@ -51,7 +51,7 @@ pub fn group_times<Q: Query>(
     recs: &[Rec],
 ) -> Result<Vec<Time>, AllocError>
     requires { All (λ r. r.time ≤ last_time) recs.now }
-    ensures { IfOk result (λ v. v.items ≡ ascending (times_in (Q.facts (Q.rules query.now)) stage recs.now)) }
+    ensures { IfOk result (λ v. v.items ≡ ascending (times_in (Q.facts (Q.values query.now)) stage recs.now)) }
 {
     let times = times_in(alloc, query, stage, recs)?;
     ascending(alloc, times.as_slice())
@@ -65,7 +65,7 @@ fn times_in<Q: Query>(
     recs: &[Rec],
 ) -> Result<Vec<Time>, AllocError>
     requires { All (λ r. r.time ≤ last_time) recs.now }
-    ensures { IfOk result (λ v. v.items ≡ times_in (Q.facts (Q.rules query.now)) stage recs.now) }
+    ensures { IfOk result (λ v. v.items ≡ times_in (Q.facts (Q.values query.now)) stage recs.now) }
 {
     let mut times = Vec::new(alloc);
     for rec in recs {
@@ -76,9 +76,9 @@ fn times_in<Q: Query>(
 }
 
 /// Whether one of the records posts this time.
-pub fn is_woken<Q: Query>(query: &Q, stage: u32, recs: &[Rec], time: Time) -> bool
+pub fn is_posted<Q: Query>(query: &Q, stage: u32, recs: &[Rec], time: Time) -> bool
     requires { All (λ r. r.time ≤ last_time) recs.now }
-    ensures { result ≡ is_woken (Q.facts (Q.rules query.now)) stage recs.now time }
+    ensures { result ≡ list_any (λ r. list_any (λ u. u == time) ((Q.facts (Q.values query.now)).posts stage r)) recs.now }
 {
     for rec in recs {
         if contains(query.posts(stage, rec).as_slice(), time) {

@@ -8,7 +8,8 @@ ghost use Rattle.mp_stamps.specs.declared.seen.Seen.{Seen};
 ghost use Rattle.mp_bins.specs.Leaving.{bin_at};
 ghost use Rattle.mp_bins.specs.Notes.{Notes};
 ghost use Rattle.mp_model.specs.Ascending.{placed};
-ghost use Rattle.mp_outline.specs.JobOutline.{outline_of};
+ghost use Rattle.mp_model.specs.Tables.{table_of};
+ghost use Rattle.mp_outline.specs.JobOutline.{layout_of, outline_of};
 ghost use Rattle.mp_handoff.specs.Due.{MoversMatchLogAndSeen, CanLeave, CanSettle, IsLeastDue, IsMoveAway, LeavesBy, MayLeaveHere, MaySettleHere};
 ghost use Rattle.mp_handoff.specs.Keys.{HasKeys, SentHasKeys};
 ghost use Rattle.mp_handoff.specs.MoversOf.{IsMoversOf, IsNewControl};
@@ -44,6 +45,7 @@ impl<Q: Query, J: Naming> Model for Movers<Q, J> {
     ghost use Rattle.std.specs.Vec.{vec_capacity};
     ghost use Rattle.mp_handoff.specs.Keys.{SentHasKeys};
     ghost use Rattle.mp_handoff.specs.MoversState.{MoversState, Rises};
+    ghost use Rattle.mp_model.specs.Tables.{table_of};
 
     ghost Value = { MoversState };
 
@@ -58,7 +60,7 @@ impl<Q: Query, J: Naming> Model for Movers<Q, J> {
     } };
 
     ghost invariant = { λ m.
-        (m.stage < J.job.shape.stages) × Rises m.unsettled.items × All (SentHasKeys (Q.facts J.job.rules) J.job m.stage) m.sent.items };
+        (m.stage < J.job.shape.stages) × Rises m.unsettled.items × All (SentHasKeys (table_of Q.facts J.job) J.job m.stage) m.sent.items };
 }
 
 impl<Q: Query, J: Naming> Movers<Q, J> {
@@ -71,7 +73,7 @@ impl<Q: Query, J: Naming> Movers<Q, J> {
         ensures unsettled { result.unsettled ≡ [] }
         ensures last { result.last ≡ None }
         ensures sent { result.sent ≡ [] }
-        ensures held { IsMoversOf (outline_of (Q.facts J.job.rules) J.job) empty_log result }
+        ensures held { IsMoversOf (outline_of (table_of Q.facts J.job) J.job) empty_log result }
     {
         Movers {
             stage,
@@ -87,7 +89,7 @@ impl<Q: Query, J: Naming> Movers<Q, J> {
     pub fn make_room(&mut self, count: u64) -> Result<(), AllocError>
         ensures room { OnOk result (count ≤ self.new.room) }
         ensures same { self.new ≡ record self.old { room = self.new.room } }
-        ensures held { (log : Log) → let o = outline_of (Q.facts J.job.rules) J.job in
+        ensures held { (log : Log) → let o = outline_of (table_of Q.facts J.job) J.job in
             IsMoversOf o log self.old → IsMoversOf o log self.new }
         ensures unchanged { OnErr result (self.new ≡ self.old) }
     {
@@ -98,7 +100,7 @@ impl<Q: Query, J: Naming> Movers<Q, J> {
     pub fn make_room_for_sent(&mut self) -> Result<(), AllocError>
         ensures room { OnOk result (0 < self.new.room_for_sent) }
         ensures same { self.new ≡ record self.old { room_for_sent = self.new.room_for_sent } }
-        ensures held { (log : Log) → let o = outline_of (Q.facts J.job.rules) J.job in
+        ensures held { (log : Log) → let o = outline_of (table_of Q.facts J.job) J.job in
             IsMoversOf o log self.old → IsMoversOf o log self.new }
         ensures unchanged { OnErr result (self.new ≡ self.old) }
     {
@@ -114,7 +116,7 @@ impl<Q: Query, J: Naming> Movers<Q, J> {
         ensures room { OnOk result (self.old.room ≤ self.new.room + 1) }
         ensures unchanged { OnErr result (self.new ≡ self.old) }
         ensures never_refused_with_room { 0 < self.old.room → IsOk result }
-        ensures held { OnOk result ((log : Log) (i : ℕ) → let o = outline_of (Q.facts J.job.rules) J.job in
+        ensures held { OnOk result ((log : Log) (i : ℕ) → let o = outline_of (table_of Q.facts J.job) J.job in
             IsMoversOf o log self.old
             → IsNewControl o log self.old time i
             → IsMoversOf o (with_took log (Ctrl i self.old.worker)) self.new) }
@@ -128,7 +130,7 @@ impl<Q: Query, J: Naming> Movers<Q, J> {
     /// Whether a time is noted and not settled.
     pub fn unsettled(&self, time: Time) -> bool
         ensures here { IsTrue result ↔ Contains self.now.unsettled time }
-        ensures told { (log : Log) (i : ℕ) → let o = outline_of (Q.facts J.job.rules) J.job in
+        ensures told { (log : Log) (i : ℕ) → let o = outline_of (table_of Q.facts J.job) J.job in
             IsMoversOf o log self.now
             → IsNewControl o log self.now time i
             → (result ≡ is_noted o log self.now.stage time) × (has log.settled (Settled self.now.stage time) ≡ false) }
@@ -143,12 +145,12 @@ impl<Q: Query, J: Naming> Movers<Q, J> {
     /// the stage's hosts that was seen has come to its time. `None` exactly where there is none. This worker's log says
     /// what the movers hold, and the owners are noted as far as the frontier of control records on their way has passed.
     pub fn due(&self, seen: &Seen, owners: &Owners) -> Option<Move>
-        requires { owners.now.shape ≡ J.job.shape }
-        ensures away { IfSome result (λ m. (log : Log) → let o = outline_of (Q.facts J.job.rules) J.job in
+        requires { owners.now.layout ≡ layout_of J.job }
+        ensures away { IfSome result (λ m. (log : Log) → let o = outline_of (table_of Q.facts J.job) J.job in
             MoversMatchLogAndSeen o log owners.now seen.now self.now → IsMoveAway o self.now.stage self.now.worker m) }
-        ensures may_leave { IfSome result (λ m. (log : Log) → let o = outline_of (Q.facts J.job.rules) J.job in
+        ensures may_leave { IfSome result (λ m. (log : Log) → let o = outline_of (table_of Q.facts J.job) J.job in
             MoversMatchLogAndSeen o log owners.now seen.now self.now → MayLeaveHere o log seen.now self.now m.bin m.time) }
-        ensures none_may { IfNone result ((log : Log) (b t : ℕ) → let o = outline_of (Q.facts J.job.rules) J.job in
+        ensures none_may { IfNone result ((log : Log) (b t : ℕ) → let o = outline_of (table_of Q.facts J.job) J.job in
             MoversMatchLogAndSeen o log owners.now seen.now self.now → MayLeaveHere o log seen.now self.now b t → ⊥) }
     {
         // No packet leaves before the first time that isn't settled, and to ask for that one costs less.
@@ -163,12 +165,12 @@ impl<Q: Query, J: Naming> Movers<Q, J> {
 
     // The same, by a search of the owners.
     fn due_by(&self, seen: &Seen, owners: &Owners) -> Option<Move>
-        requires { owners.now.shape ≡ J.job.shape }
-        ensures away { IfSome result (λ m. (log : Log) → let o = outline_of (Q.facts J.job.rules) J.job in
+        requires { owners.now.layout ≡ layout_of J.job }
+        ensures away { IfSome result (λ m. (log : Log) → let o = outline_of (table_of Q.facts J.job) J.job in
             MoversMatchLogAndSeen o log owners.now seen.now self.now → IsMoveAway o self.now.stage self.now.worker m) }
-        ensures may_leave { IfSome result (λ m. (log : Log) → let o = outline_of (Q.facts J.job.rules) J.job in
+        ensures may_leave { IfSome result (λ m. (log : Log) → let o = outline_of (table_of Q.facts J.job) J.job in
             MoversMatchLogAndSeen o log owners.now seen.now self.now → MayLeaveHere o log seen.now self.now m.bin m.time) }
-        ensures none_may { IfNone result ((log : Log) (b t : ℕ) → let o = outline_of (Q.facts J.job.rules) J.job in
+        ensures none_may { IfNone result ((log : Log) (b t : ℕ) → let o = outline_of (table_of Q.facts J.job) J.job in
             MoversMatchLogAndSeen o log owners.now seen.now self.now → MayLeaveHere o log seen.now self.now b t → ⊥) }
     {
         let Some(moved) = owners.next_leaving(self.stage, self.worker, self.last) else {
@@ -192,13 +194,13 @@ impl<Q: Query, J: Naming> Movers<Q, J> {
     /// no memory.
     pub fn sent(&mut self, moved: Move, keys: u64)
         requires room { 0 < self.old.room_for_sent }
-        requires keys { HasKeys (Q.facts J.job.rules) J.job self.old.stage moved.bin moved.time keys }
+        requires keys { HasKeys (table_of Q.facts J.job) J.job self.old.stage moved.bin moved.time keys }
         ensures same { self.new ≡ record self.old {
           last = Some (bin_at moved.time moved.bin);
           sent = self.old.sent ++ record { bin = moved.bin; time = moved.time; keys = keys } ∷ [];
           room_for_sent = self.new.room_for_sent;
         } }
-        ensures held { (log : Log) (notes : Notes) (seen : Seen) → let o = outline_of (Q.facts J.job.rules) J.job in
+        ensures held { (log : Log) (notes : Notes) (seen : Seen) → let o = outline_of (table_of Q.facts J.job) J.job in
             MoversMatchLogAndSeen o log notes seen self.old
             → IsLeastDue o log seen self.old moved.bin moved.time
             → IsMoversOf o (with_sent log (Packet self.old.stage moved.bin moved.time)) self.new }
@@ -218,7 +220,7 @@ impl<Q: Query, J: Naming> Movers<Q, J> {
     /// The packets of the stage that the worker has sent, in that order.
     pub fn sent_so_far(&self) -> &[Sent]
         ensures sent { result.now ≡ self.now.sent }
-        ensures keys { All (SentHasKeys (Q.facts J.job.rules) J.job self.now.stage) self.now.sent }
+        ensures keys { All (SentHasKeys (table_of Q.facts J.job) J.job self.now.stage) self.now.sent }
     {
         self.sent.as_slice()
     }
@@ -227,15 +229,15 @@ impl<Q: Query, J: Naming> Movers<Q, J> {
     /// passed it, and each packet that was to be sent up to then is. `None` exactly where it may not be settled. The
     /// worker's log and the owners are as for `due`. Takes no memory.
     pub fn settle(&mut self, seen: &Seen, owners: &Owners) -> Option<Time>
-        requires { owners.now.shape ≡ J.job.shape }
+        requires { owners.now.layout ≡ layout_of J.job }
         ensures first { IfSome result (λ t. self.old.unsettled ≡ t ∷ self.new.unsettled) }
         ensures same { IfSome result (λ t. self.new ≡ record self.old { unsettled = self.new.unsettled; room = self.old.room + 1 }) }
-        ensures may_settle { IfSome result (λ t. (log : Log) → let o = outline_of (Q.facts J.job.rules) J.job in
+        ensures may_settle { IfSome result (λ t. (log : Log) → let o = outline_of (table_of Q.facts J.job) J.job in
             MoversMatchLogAndSeen o log owners.now seen.now self.old → MaySettleHere o log seen.now self.old t) }
-        ensures held { IfSome result (λ t. (log : Log) → let o = outline_of (Q.facts J.job.rules) J.job in
+        ensures held { IfSome result (λ t. (log : Log) → let o = outline_of (table_of Q.facts J.job) J.job in
             MoversMatchLogAndSeen o log owners.now seen.now self.old
             → IsMoversOf o (with_settled log (Settled self.old.stage t)) self.new) }
-        ensures none_may { IfNone result ((log : Log) (t : ℕ) → let o = outline_of (Q.facts J.job.rules) J.job in
+        ensures none_may { IfNone result ((log : Log) (t : ℕ) → let o = outline_of (table_of Q.facts J.job) J.job in
             MoversMatchLogAndSeen o log owners.now seen.now self.old → MaySettleHere o log seen.now self.old t → ⊥) }
         ensures unchanged { IfNone result (self.new ≡ self.old) }
     {
@@ -250,7 +252,7 @@ impl<Q: Query, J: Naming> Movers<Q, J> {
 
     // Whether by what was seen and noted a time that is the first one may be settled.
     fn may_settle(&self, seen: &Seen, owners: &Owners, time: Time) -> bool
-        requires { owners.now.shape ≡ J.job.shape }
+        requires { owners.now.layout ≡ layout_of J.job }
         ensures { IsTrue result ↔ CanSettle owners.now seen.now self.now time }
     {
         passed(seen.frontier(Loc::CtlMail), time) && !self.leaves_by(owners, time)
@@ -258,7 +260,7 @@ impl<Q: Query, J: Naming> Movers<Q, J> {
 
     // Whether by what was noted a bin leaves after the last packet, up to this time.
     fn leaves_by(&self, owners: &Owners, time: Time) -> bool
-        requires { owners.now.shape ≡ J.job.shape }
+        requires { owners.now.layout ≡ layout_of J.job }
         ensures { IsTrue result ↔ LeavesBy owners.now self.now time }
     {
         match owners.next_leaving(self.stage, self.worker, self.last) {

@@ -1,9 +1,12 @@
 -- A group has no more outputs and new wakes than are told before it is applied.
 use Rattle.std.proofs.Common.{◌≡◌, ℕ, ◌+◌, ◌-◌, ◌^◌, ◌<◌, ◌≤◌, min, Bool, true, false, cond, not, nat_lt, ◌==◌, List, [], ◌∷◌, filter, fold, length, arith}
+use Rattle.mp_names.specs.Outlines.{is_before_stop}
 use Rattle.mp_model.specs.Ascending.{placed}
+use Rattle.mp_model.specs.Entry.{Entry}
 use Rattle.mp_model.specs.Facts.{JobFacts, QueryFacts}
 use Rattle.mp_model.specs.Folds.{cell_before}
 use Rattle.mp_model.specs.QueryLaws.{MostIsEnough}
+use Rattle.mp_model.specs.Tables.{table_of}
 use Rattle.mp_model.specs.Stages.{stage_records}
 use Rattle.mp_outline.specs.Laws.{group_at}
 use Rattle.mp_host_laws.specs.Hosted.{Hosted, cell_at, waits_at}
@@ -34,6 +37,14 @@ one_passes false x xs ys h = omega arith
 pub filter_length : {X : Type 0} (p : X → Bool) (xs : List X) → length (filter p xs) ≤ length xs
 filter_length p [] = omega arith
 filter_length p (x ∷ xs) = one_passes (p x) x xs (filter p xs) (filter_length p xs)
+
+-- a group has no more outputs in a job than the query says
+kept_length : {X : Type 0} (b : Bool) (xs : List X) (n : ℕ) → length xs ≤ n → length (cond b xs []) ≤ n
+kept_length true xs n h = h
+kept_length false xs n h = omega arith
+
+pub table_is_enough : {Cell : Type 0} (facts : List ℕ → QueryFacts Cell) (job : JobFacts) → MostIsEnough (facts job.values) → MostIsEnough (table_of facts job)
+table_is_enough facts job enough j cell e = kept_length (is_before_stop job.until e.time) ((facts job.values).gives j cell e) ((facts job.values).most j cell e) (enough j cell e)
 
 module _ {Cell : Type 0} (q : QueryFacts Cell) (enough : MostIsEnough q) (job : JobFacts) (h : Hosted Cell) (t k : ℕ) (whole : IsWholeHere q job h t k) where
   woken_length : length (woken_by q h t k) ≤ length (posts_here q h t k)

@@ -6,6 +6,7 @@ use Rattle.std.proofs.lemmas.Bool.{false≢true, or_right}
 use Rattle.std.proofs.lemmas.List.Elements.{All-append, All-cons, All-nil}
 use Rattle.mp_bins.specs.Notes.{first_owner}
 use Rattle.mp_model.specs.Facts.{JobFacts, QueryFacts}
+use Rattle.mp_outline.specs.JobOutline.{layout_of}
 use Rattle.mp_msg.specs.Contents.{IsRecordOf}
 use Rattle.mp_postdated.specs.Wakes.{ComesNoLater}
 use Rattle.mp_host_laws.specs.declared.held.Held.{Held}
@@ -19,9 +20,9 @@ module _ {Cell : Type 0} where
   one_without b true = All-cons (λ (s : Held Cell). s.state.wakes ≡ []) _ [] refl (All-nil (λ (s : Held Cell). s.state.wakes ≡ []))
   one_without b false = All-nil (λ (s : Held Cell). s.state.wakes ≡ [])
 
-  pub first_without : (job : JobFacts) (w n : ℕ) → All (λ (s : Held Cell). s.state.wakes ≡ []) (first_held job w n)
-  first_without job w zero = All-nil (λ (s : Held Cell). s.state.wakes ≡ [])
-  first_without job w (suc n) = All-append (λ (s : Held Cell). s.state.wakes ≡ []) (first_held job w n) _ (first_without job w n) (one_without n (first_owner job.shape n == w))
+  pub first_without : (job : JobFacts) (j w n : ℕ) → All (λ (s : Held Cell). s.state.wakes ≡ []) (first_held job j w n)
+  first_without job j w zero = All-nil (λ (s : Held Cell). s.state.wakes ≡ [])
+  first_without job j w (suc n) = All-append (λ (s : Held Cell). s.state.wakes ≡ []) (first_held job j w n) _ (first_without job j w n) (one_without n (first_owner (layout_of job) j n == w))
 
 same_group : (w : ℕ × ℕ) (t k : ℕ) → ComesNoLater w (t, k) → ComesNoLater (t, k) w → (w.0 ≡ t) × (w.1 ≡ k)
 same_group w t k a b = grind arith

@@ -1,15 +1,20 @@
 -- What a host is once the first group is applied to the state of its key's bin.
-use Rattle.std.proofs.Common.{◌≡◌, ◌≢◌, ◌<◌, ℕ, suc, ◌==◌, Bool, List, ◌∷◌, ◌++◌, All, Contains, IsSome, filter, not, sym, ◌∙◌, subst, ⊎_elim, length, refl, arith, length-append}
-use Rattle.std.proofs.lemmas.Bool.{and_parts, eqb-true}
+use Rattle.std.proofs.Common.{◌≡◌, ◌≢◌, ◌<◌, ℕ, suc, ◌==◌, Bool, List, [], ◌∷◌, ◌++◌, All, Contains, IsSome, filter, not, sym, ◌∙◌, subst, ⊎_elim, length, refl, arith, length-append}
+use Rattle.std.proofs.lemmas.Bool.{and_parts, cond-true, eqb-true}
 use Rattle.std.proofs.lemmas.List.{drop_at, get_or_at, take_at}
 use Rattle.std.proofs.lemmas.List.Elements.{All-append, All-cons, All-contains, All-drop, All-take}
+use Rattle.mp_names.specs.Outlines.{is_before_stop}
+use Rattle.mp_names.proofs.Listed.{before_stop-from}
 use Rattle.mp_bins.specs.Bins.{bin_of_key}
 use Rattle.mp_model.specs.declared.record.Rec.{Rec}
 use Rattle.mp_model.specs.Entry.{Entry}
 use Rattle.mp_model.specs.Facts.{JobFacts, QueryFacts}
 use Rattle.mp_model.specs.Stages.{stage_records}
+use Rattle.mp_model.specs.Tables.{table_of}
+use Rattle.mp_job.specs.Legal.{JobIsLegal}
 use Rattle.mp_job.proofs.Members.{Contains-filter, Contains-flat_map}
 use Rattle.mp_outline.proofs.Found.{found}
+use Rattle.mp_outline.proofs.Whole.{never_stops}
 use Rattle.mp_msg.specs.Contents.{IsRecordOf}
 use Rattle.mp_postdated.specs.Wakes.{Has, IsWake}
 use Rattle.mp_host_laws.specs.declared.held.Held.{Held}
@@ -33,7 +38,37 @@ module _ {Cell : Type 0} (h : Hosted Cell) (states : States Cell) (held : h.held
   pub found_here : (t k : ℕ) → IsSome (state_at h (bin_of_key k bins) t) → IsSome (state_for states t k)
   found_here t k some = rw (held, ← same) at some
 
--- so what is stepped is that
+-- a step is of the query as it is of its table in a job
+module _ {Cell : Type 0} (facts : List ℕ → QueryFacts Cell) (job : JobFacts) (j : ℕ) (group : Entry) (posts : List ℕ) where
+  state_stepped : (old new : Held Cell) → StateIsStepped (facts job.values) j group posts old new → StateIsStepped (table_of facts job) j group posts old new
+  state_stepped old new stepped = record {
+    takes = record { bin = stepped.takes.bin; since = stepped.takes.since; wakes = stepped.takes.wakes; cells = stepped.takes.cells };
+    order = stepped.order;
+    kept = stepped.kept;
+  }
+
+  pub table_stepped : {passes : Held Cell → Bool} {old new : List (Held Cell)} → FirstIsChanged passes (StateIsStepped (facts job.values) j group posts) old new
+      → FirstIsChanged passes (StateIsStepped (table_of facts job) j group posts) old new
+  table_stepped stepped = record {
+    front = stepped.front;
+    one = stepped.one;
+    rest = stepped.rest;
+    changed = stepped.changed;
+    was = stepped.was;
+    is = stepped.is;
+    none_before = stepped.none_before;
+    found = stepped.found;
+    how = state_stepped stepped.one stepped.changed stepped.how;
+  }
+
+-- a group that is of no time too late gives what the query says
+pub gives_all : {Cell : Type 0} (facts : List ℕ → QueryFacts Cell) (job : JobFacts) → JobIsLegal (table_of facts job) job → (j : ℕ) (cell : Cell) (e : Entry)
+    → (table_of facts job).gives j cell e ≡ (facts job.values).gives j cell e
+gives_all facts job legal j cell e =
+    let given = (facts job.values).gives j cell e in
+    cond-true (is_before_stop job.until e.time) given [] (before_stop-from job.until e.time (never_stops (table_of facts job) job legal e.time))
+
+-- so what is stepped is what the host has
 pub stepped_here : {Cell : Type 0} (q : QueryFacts Cell) (h : Hosted Cell) (t k : ℕ) (states : States Cell) {bins : ℕ} → states.bins ≡ bins
     → (group : Entry) → group ≡ group_here h t k → (posts : List ℕ) → posts ≡ posts_here q h t k → {held : List (Held Cell)}
     → FirstIsChanged (is_held_before (bin_of_key group.key states.bins) (suc group.time)) (StateIsStepped q h.stage group posts) states.held held

@@ -14,6 +14,7 @@ use Rattle.mp_model.specs.declared.record.Rec.{Rec}
 use Rattle.mp_model.specs.Facts.{JobFacts, QueryFacts}
 use Rattle.mp_job.specs.Legal.{JobIsLegal}
 use Rattle.mp_job.proofs.Members.{nothing_in_nil}
+use Rattle.mp_outline.specs.JobOutline.{layout_of}
 use Rattle.mp_msg.proofs.States.{same_content}
 use Rattle.mp_msg.specs.Contents.{IsRecordOf}
 use Rattle.mp_msg.specs.States.{BinContent}
@@ -97,22 +98,22 @@ module _ {Cell : Type 0} (q : QueryFacts Cell) (job : JobFacts) (j w : ℕ) wher
   one_or_none b l true = All-cons (MayBeHeld q job j) _ [] (empty_fits b l) (All-nil (MayBeHeld q job j))
   one_or_none b l false = All-nil (MayBeHeld q job j)
 
-  pub first_fit : (n : ℕ) → n ≤ job.shape.bins → All (MayBeHeld q job j) (first_held job w n)
+  pub first_fit : (n : ℕ) → n ≤ job.shape.bins → All (MayBeHeld q job j) (first_held job j w n)
   first_fit zero l = All-nil (MayBeHeld q job j)
-  first_fit (suc b) l = All-append (MayBeHeld q job j) (first_held job w b) _ (first_fit b (omega arith)) (one_or_none b (omega arith) (first_owner job.shape b == w))
+  first_fit (suc b) l = All-append (MayBeHeld q job j) (first_held job j w b) _ (first_fit b (omega arith)) (one_or_none b (omega arith) (first_owner (layout_of job) j b == w))
 
 -- one bin more
-module _ {Cell : Type 0} (job : JobFacts) (w b : ℕ) (held : List (Held Cell)) (was : held ≡ first_held job w b) where
-  pub one_first : (s : BinContent Cell) → s.cells ≡ [] → s.wakes ≡ [] → first_owner job.shape b ≡ w → held ++ record { bin = b; since = None; state = s } ∷ [] ≡ first_held job w (b + 1)
+module _ {Cell : Type 0} (job : JobFacts) (j w b : ℕ) (held : List (Held Cell)) (was : held ≡ first_held job j w b) where
+  pub one_first : (s : BinContent Cell) → s.cells ≡ [] → s.wakes ≡ [] → first_owner (layout_of job) j b ≡ w → held ++ record { bin = b; since = None; state = s } ∷ [] ≡ first_held job j w (b + 1)
   one_first s cells wakes e =
-      let own : (first_owner job.shape b == w) ≡ true = eq-eqb (first_owner job.shape b) w e in
+      let own : (first_owner (layout_of job) j b == w) ≡ true = eq-eqb (first_owner (layout_of job) j b) w e in
       let none : s ≡ empty_state = same_content s empty_state cells wakes in
       rw (add-one, own, was, none) refl
 
-  pub other_first : (first_owner job.shape b ≡ w → ⊥) → held ≡ first_held job w (b + 1)
+  pub other_first : (first_owner (layout_of job) j b ≡ w → ⊥) → held ≡ first_held job j w (b + 1)
   other_first e =
-      let other : (first_owner job.shape b == w) ≡ false = ne_eqb (first_owner job.shape b) w e in
-      rw (add-one, other) (was ∙ sym (append-nil (first_held job w b)))
+      let other : (first_owner (layout_of job) j b == w) ≡ false = ne_eqb (first_owner (layout_of job) j b) w e in
+      rw (add-one, other) (was ∙ sym (append-nil (first_held job j w b)))
 
 -- so a new host keeps to what a host keeps to
 pub new_hosted : {Cell : Type 0} (q : QueryFacts Cell) (job its : JobFacts) (h : Hosted Cell) → its ≡ job → JobIsLegal q job → h.stage < job.shape.stages → h.worker < job.shape.workers → IsNew job h → IsHosted q job its h

@@ -68,16 +68,16 @@ module _ (o : Outline) (w j : ℕ) where
     still_legal good = took_keeps o w (with_all_taken log front) good (f r) still_fresh (c.owed (f r) listed)
 
 -- a group waits once a record of it is taken, and others wait as before
-pending_step : (o : Outline) (w : ℕ) (log : Log) (j t k : ℕ) (x : Name) → ((i b s u : ℕ) → brings_wake log i b s u x ≡ false) → has log.applied (Group j t k) ≡ false → is_pending o (with_took log x) (Group j t k) ≡ (is_pending o log (Group j t k) || is_record_of j t k x)
-pending_step o w log j t k x no_packet n = ⊎_elim there (λ (e : is_record_of j t k x ≡ false). group_kept o w log x no_packet j t k e ∙ sym (or_false (is_pending o log (Group j t k))) ∙ ap (λ (b : Bool). is_pending o log (Group j t k) || b) (sym e)) (cases_Bool (is_record_of j t k x))
+pending_step : (o : Outline) (w : ℕ) (log : Log) (j t k : ℕ) (x : Name) → ((i b s u : ℕ) → brings_wake log i b s u x ≡ false) → has log.applied (Group j t k) ≡ false → is_pending o w (with_took log x) (Group j t k) ≡ (is_pending o w log (Group j t k) || is_record_of j t k x)
+pending_step o w log j t k x no_packet n = ⊎_elim there (λ (e : is_record_of j t k x ≡ false). group_kept o w log x no_packet j t k e ∙ sym (or_false (is_pending o w log (Group j t k))) ∙ ap (λ (b : Bool). is_pending o w log (Group j t k) || b) (sym e)) (cases_Bool (is_record_of j t k x))
   where
-    there : is_record_of j t k x ≡ true → is_pending o (with_took log x) (Group j t k) ≡ (is_pending o log (Group j t k) || is_record_of j t k x)
+    there : is_record_of j t k x ≡ true → is_pending o w (with_took log x) (Group j t k) ≡ (is_pending o w log (Group j t k) || is_record_of j t k x)
     there e =
         let new = with_took log x in
-        and_from (not (has log.applied (Group j t k))) (has_record new j t k || has_wake o new j t k)
+        and_from (not (has log.applied (Group j t k))) (has_record new j t k || has_wake o w new j t k)
         (not_from_false (has log.applied (Group j t k)) n)
-        (or_left (has_record new j t k) (has_wake o new j t k) (any_push (is_record_of j t k) log.took x ∙ or_right (list_any (is_record_of j t k) log.took) (is_record_of j t k x) e))
-        ∙ sym (or_right (is_pending o log (Group j t k)) (is_record_of j t k x) e)
+        (or_left (has_record new j t k) (has_wake o w new j t k) (any_push (is_record_of j t k) log.took x ∙ or_right (list_any (is_record_of j t k) log.took) (is_record_of j t k x) e))
+        ∙ sym (or_right (is_pending o w log (Group j t k)) (is_record_of j t k x) e)
 
 any_push_rec : (p : Rec → Bool) (rs : List Rec) (r : Rec) → list_any p (rs ++ r ∷ []) ≡ (list_any p rs || p r)
 any_push_rec p [] r = or_false (p r)
@@ -90,15 +90,15 @@ any_push_rec p (s ∷ ss) r = ap (λ (b : Bool). p s || b) (any_push_rec p ss r)
 module _ {Cell : Type 0} (o : Outline) (w j : ℕ) (h : Hosted Cell) where
   -- as many groups begin by the host as by the log
   pub begun_is_new : (rs done : List Rec) (log : Log) → ((r : Rec) → In (name_of_record j r) (map (name_of_record j) rs) → has log.applied (Group j r.time r.key) ≡ false)
-      → ((t k : ℕ) → has log.applied (Group j t k) ≡ false → is_pending o log (Group j t k) ≡ (waits_at h t k || list_any (is_of t k) done))
-      → groups_begun h done rs ≡ new_groups o log (map (name_of_record j) rs)
+      → ((t k : ℕ) → has log.applied (Group j t k) ≡ false → is_pending o w log (Group j t k) ≡ (waits_at h t k || list_any (is_of t k) done))
+      → groups_begun h done rs ≡ new_groups o w log (map (name_of_record j) rs)
   begun_is_new [] done log n p = refl
   begun_is_new (r ∷ rs) done log n p =
       let x = name_of_record j r in
       let names = map (name_of_record j) rs in
       let here = p r.time r.key (n r (In_here x names)) in
       let rest = begun_is_new rs (done ++ r ∷ []) (with_took log x) (λ s i. n s (In_later (name_of_record j s) x names i)) next in
-      first (is_pending o log (group_of x)) (waits_at h r.time r.key || list_any (is_of r.time r.key) done) here (groups_begun h (done ++ r ∷ []) rs) (new_groups o (with_took log x) names) rest
+      first (is_pending o w log (group_of x)) (waits_at h r.time r.key || list_any (is_of r.time r.key) done) here (groups_begun h (done ++ r ∷ []) rs) (new_groups o w (with_took log x) names) rest
     where
       first : (a b : Bool) → a ≡ b → (n m : ℕ) → n ≡ m → cond (not b) 1 0 + n ≡ cond a 0 1 + m
       first true true e n m f = omega (arith, f)
@@ -113,7 +113,7 @@ module _ {Cell : Type 0} (o : Outline) (w j : ℕ) (h : Hosted Cell) where
       of_this : (t k : ℕ) → is_record_of j t k (name_of_record j r) ≡ is_of t k r
       of_this t k = rw (eq-eqb j j refl) refl
 
-      next : (t k : ℕ) → has log.applied (Group j t k) ≡ false → is_pending o (with_took log (name_of_record j r)) (Group j t k) ≡ (waits_at h t k || list_any (is_of t k) (done ++ r ∷ []))
+      next : (t k : ℕ) → has log.applied (Group j t k) ≡ false → is_pending o w (with_took log (name_of_record j r)) (Group j t k) ≡ (waits_at h t k || list_any (is_of t k) (done ++ r ∷ []))
       next t k m =
           pending_step o w log j t k (name_of_record j r) (λ i b s u. refl) m
           ∙ ap (λ (b : Bool). b || is_record_of j t k (name_of_record j r)) (p t k m)

@@ -14,11 +14,14 @@ use Rattle.mp_names.specs.Limits.{last_time}
 use Rattle.mp_model.specs.declared.record.Rec.{Rec}
 use Rattle.mp_model.specs.Facts.{JobFacts, QueryFacts}
 use Rattle.mp_model.specs.QueryLaws.{HasStages, LaterStagesPostNothing, PostsAreLater, SumsFit}
-use Rattle.mp_model.specs.Stages.{stage_records}
+use Rattle.mp_model.specs.Tables.{table_of}
+use Rattle.mp_model.specs.Stages.{FoldsFit, stage_records}
 use Rattle.mp_model.proofs.LastTimes.{records_in_time}
 use Rattle.mp_job.specs.Legal.{JobIsLegal}
+use Rattle.mp_job.proofs.Whole.{saved_fits}
 use Rattle.mp_outline.specs.JobOutline.{outline_of}
 use Rattle.mp_outline.proofs.Soundness.{outline_is_sound}
+use Rattle.mp_outline.proofs.Whole.{NothingOpens, nothing_opens}
 use Rattle.mp_msg.specs.Contents.{IsRecordOf}
 use Rattle.mp_msg.specs.States.{BinContent, IsStateBefore}
 use Rattle.mp_postdated.specs.Wakes.{ComesNoLater}
@@ -36,25 +39,36 @@ use Rattle.mp_host_laws.proofs.Leaving.{bins_leave, leaving_bins_are_here}
 use Rattle.mp_host_laws.proofs.Received.{records_are_held}
 use Rattle.mp_host_laws.proofs.Returned.{bins_return}
 use Rattle.mp_host_laws.proofs.Waiting.{record_waits}
+use Rattle.mp_host_laws.proofs.WakeTimes.{wakes_in_time}
 use Rattle.mp_host_laws.proofs.Whole.{first_is_whole}
 use Rattle.mp_host.specs.Hosts.{IsHosted}
 use Rattle.mp_host.specs.Moves.{GetsBack, GivesUp, NothingLeaves, TakesPacket}
 use Rattle.mp_host.specs.Ready.{IsReadyHere}
 use Rattle.mp_host.specs.Telling.{AppliesGroup, TakesRecord}
 
--- the laws of a query that hosts stand on
-pub record QueryKeeps {Cell : Type 0} (q : QueryFacts Cell) : Type 0 where
+-- the laws of a query that hosts of a job stand on
+pub record QueryKeeps {Cell : Type 0} (q : QueryFacts Cell) (job : JobFacts) : Type 0 where
   pub stages : HasStages q
   pub later : PostsAreLater q
   pub nothing : LaterStagesPostNothing q
-  pub fit : SumsFit q
+  pub fit : JobIsLegal q job → FoldsFit q job.events
 
-module _ {Cell : Type 0} (q : QueryFacts Cell) (keeps : QueryKeeps q) (job its : JobFacts) where
+-- each query keeps to them in each job
+pub query_keeps : {Cell : Type 0} (facts : List ℕ → QueryFacts Cell) (job : JobFacts) → HasStages (facts job.values) → PostsAreLater (facts job.values) → LaterStagesPostNothing (facts job.values) → SumsFit facts
+    → QueryKeeps (table_of facts job) job
+query_keeps facts job stages later nothing fit = record {
+  stages = stages;
+  later = later;
+  nothing = nothing;
+  fit = λ legal. fit job legal.events (saved_fits facts job job.from legal.saved);
+}
+
+module _ {Cell : Type 0} (q : QueryFacts Cell) (job : JobFacts) (keeps : QueryKeeps q job) (its : JobFacts) where
   sound_outline : JobIsLegal q job → OutlineIsSound (outline_of q job)
   sound_outline legal = outline_is_sound q keeps.stages keeps.later keeps.nothing job legal
 
   whole_law : JobIsLegal q job → FirstIsWhole q job
-  whole_law legal = first_is_whole q keeps.nothing keeps.fit job legal (sound_outline legal)
+  whole_law legal = first_is_whole q keeps.nothing job (keeps.fit legal) legal (sound_outline legal) (nothing_opens q job legal)
 
   -- a record that is received is held by the log with it taken
   pub takes_record : (r : Rec) (old new : Hosted Cell) → IsHosted q job its old → IsRecordOf q job old.stage r → IsReceived r old new → TakesRecord q job r old new
@@ -89,7 +103,7 @@ module _ {Cell : Type 0} (q : QueryFacts Cell) (keeps : QueryKeeps q) (job its :
     -- no record is too late
     pub records_are_in_time : All (λ r. r.time ≤ last_time) h.records
     records_are_in_time =
-        let early = records_in_time q keeps.later keeps.nothing job.events hosted.legal.events h.stage in
+        let early = records_in_time q keeps.later keeps.nothing (wakes_in_time q job hosted.legal) job.events hosted.legal.events h.stage in
         All-weaker (IsRecordOf q job h.stage) (λ (r : Rec). r.time ≤ last_time) (λ r is. All-contains (λ (r : Rec). r.time ≤ last_time) (stage_records q job.events h.stage) r early is.1) h.records hosted.order.content
 
     pub group_is_in_time : (t k : ℕ) → All (λ r. r.time ≤ last_time) (records_of h t k)
@@ -111,9 +125,9 @@ lower_less : (j t k l : ℕ) → k < l → Less (Group j t k) (Group j t l)
 lower_less j t k l m = inr (refl, inr (refl, inr (refl, inl m)))
 
 -- so two least groups of a stage are one
-one_least : {Cell : Type 0} (q : QueryFacts Cell) (job : JobFacts) (log : Log) (j t k u l : ℕ)
-    → IsLeast (IsWaiting (outline_of q job) log j) (Group j t k) → IsLeast (IsWaiting (outline_of q job) log j) (Group j u l) → ◌≡◌ {A = ℕ × ℕ} (u, l) (t, k)
-one_least q job log j t k u l a b =
+one_least : {Cell : Type 0} (q : QueryFacts Cell) (job : JobFacts) (w : ℕ) (log : Log) (j t k u l : ℕ)
+    → IsLeast (IsWaiting (outline_of q job) w log j) (Group j t k) → IsLeast (IsWaiting (outline_of q job) w log j) (Group j u l) → ◌≡◌ {A = ℕ × ℕ} (u, l) (t, k)
+one_least q job w log j t k u l a b =
     ⊎_elim
     (λ (e : t ≡ u).
     ⊎_elim
@@ -134,17 +148,17 @@ one_least q job log j t k u l a b =
     ap2 : t ≡ u → k ≡ l → ◌≡◌ {A = ℕ × ℕ} (u, l) (t, k)
     ap2 e f = cc
 
-module _ {Cell : Type 0} (q : QueryFacts Cell) (keeps : QueryKeeps q) (job its : JobFacts) (h : Hosted Cell) (hosted : IsHosted q job its h) (seen : Seen) (notes : Notes) (log : Log) (informed : HostMatchesLogAndSeen q job log seen h) where
+module _ {Cell : Type 0} (q : QueryFacts Cell) (job : JobFacts) (keeps : QueryKeeps q job) (its : JobFacts) (h : Hosted Cell) (hosted : IsHosted q job its h) (seen : Seen) (notes : Notes) (log : Log) (informed : HostMatchesLogAndSeen q job log seen h) where
   -- the least group that waits by the log is the first here
-  least_first : (t k : ℕ) → IsLeast (IsWaiting (outline_of q job) log h.stage) (Group h.stage t k) → first_group h ≡ Some (t, k)
+  least_first : (t k : ℕ) → IsLeast (IsWaiting (outline_of q job) h.worker log h.stage) (Group h.stage t k) → first_group h ≡ Some (t, k)
   least_first t k least = found (first_group h) refl
     where
-      law : ((u l : ℕ) → first_group h ≡ Some (u, l) → IsLeast (IsWaiting (outline_of q job) log h.stage) (Group h.stage u l)) × (first_group h ≡ None → (u l : ℕ) → IsWaiting (outline_of q job) log h.stage (Group h.stage u l) → ⊥)
-      law = first_is_least q job (sound_outline q keeps job its hosted.legal) log h hosted.order informed.host informed.legal hosted.stage
+      law : ((u l : ℕ) → first_group h ≡ Some (u, l) → IsLeast (IsWaiting (outline_of q job) h.worker log h.stage) (Group h.stage u l)) × (first_group h ≡ None → (u l : ℕ) → IsWaiting (outline_of q job) h.worker log h.stage (Group h.stage u l) → ⊥)
+      law = first_is_least q job (sound_outline q job keeps its hosted.legal) (nothing_opens q job hosted.legal) log h hosted.order informed.host informed.legal hosted.stage
 
       found : (o : Option (ℕ × ℕ)) → first_group h ≡ o → first_group h ≡ Some (t, k)
       found None e = absurd (law.1 e t k least.0)
-      found (Some g) e = e ∙ ap (λ (p : ℕ × ℕ). Some p) (one_least q job log h.stage t k g.0 g.1 least (law.0 g.0 g.1 e))
+      found (Some g) e = e ∙ ap (λ (p : ℕ × ℕ). Some p) (one_least q job h.worker log h.stage t k g.0 g.1 least (law.0 g.0 g.1 e))
 
   ready_by_host : OwnersAreCurrent q job notes seen h.stage → (t k : ℕ) → IsReadyAt q job log seen h t k → IsReadyHere job seen notes h t k
   ready_by_host knows t k ready = record {
@@ -163,7 +177,7 @@ module _ {Cell : Type 0} (q : QueryFacts Cell) (keeps : QueryKeeps q) (job its :
       no_group : ◌≡◌ {A = Option (ℕ × ℕ)} None (Some (t, k)) → ⊥
       no_group e = cc
   ready_exact knows (Some g) some none t k = (
-    (λ e. ready_by_log q keeps job its h hosted seen notes log informed t k (is_this e)),
+    (λ e. ready_by_log q job keeps its h hosted seen notes log informed t k (is_this e)),
     (λ ready. let here = ready_by_host knows t k ready in sym some.first ∙ here.first),
   )
     where
@@ -177,13 +191,16 @@ module _ {Cell : Type 0} (q : QueryFacts Cell) (keeps : QueryKeeps q) (job its :
   -- the group that was ready here is applied by the log too
   pub applies_group : (new : Hosted Cell) (t k : ℕ) (woke : List ℕ) → IsReadyHere job seen notes h t k → IsApplied q job t k h new → woke ≡ woken_by q h t k → AppliesGroup q job log seen h new t k woke
   applies_group new t k woke ready applied same = record {
-    ready = ready_by_log q keeps job its h hosted seen notes log informed t k ready;
-    held = groups_are_held q keeps.nothing job sound log seen h new t k hosted.order informed hosted.stage hosted.worker ready.first ready.mail ready.state applied;
-    woken = λ u. rw same (woken_are_told q keeps.nothing job sound log seen h t k u hosted.order informed hosted.stage hosted.worker ready.first ready.mail ready.state);
+    ready = ready_by_log q job keeps its h hosted seen notes log informed t k ready;
+    held = groups_are_held q keeps.nothing job sound opens log seen h new t k hosted.order informed hosted.stage hosted.worker ready.first ready.mail ready.state applied;
+    woken = λ u. rw same (woken_are_told q keeps.nothing job sound opens log seen h t k u hosted.order informed hosted.stage hosted.worker ready.first ready.mail ready.state);
   }
     where
       sound : OutlineIsSound (outline_of q job)
-      sound = sound_outline q keeps job its hosted.legal
+      sound = sound_outline q job keeps its hosted.legal
+
+      opens : NothingOpens q job
+      opens = nothing_opens q job hosted.legal
 
 -- no two groups are ready here
 pub one_ready : {Cell : Type 0} (job : JobFacts) (seen : Seen) (notes : Notes) (h : Hosted Cell) (t k u l : ℕ)

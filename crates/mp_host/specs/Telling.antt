@@ -30,4 +30,4 @@ module _ {Cell : Type 0} (q : QueryFacts Cell) (job : JobFacts) where
   pub record AppliesGroup (log : Log) (seen : Seen) (old new : Hosted Cell) (t k : ℕ) (woke : List ℕ) : Type 0 where
     pub ready : IsReadyAt q job log seen old t k
     pub held : IsHostOf q job (with_applied log (Group old.stage t k)) new
-    pub woken : (u : ℕ) → (Contains woke u ↔ ((is_pending (outline_of q job) (with_applied log (Group old.stage t k)) (Group old.stage u k) ≡ true) × (is_pending (outline_of q job) log (Group old.stage u k) ≡ false)))
+    pub woken : (u : ℕ) → (Contains woke u ↔ ((is_pending (outline_of q job) old.worker (with_applied log (Group old.stage t k)) (Group old.stage u k) ≡ true) × (is_pending (outline_of q job) old.worker log (Group old.stage u k) ≡ false)))

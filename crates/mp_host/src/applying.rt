@@ -5,6 +5,8 @@ ghost use Rattle.mp_bins.specs.Bins.{bin_of_key};
 ghost use Rattle.mp_model.specs.Ascending.{ascending};
 ghost use Rattle.mp_model.specs.Folds.{cell_before};
 ghost use Rattle.mp_model.specs.Stages.{stage_records};
+ghost use Rattle.mp_model.specs.Tables.{table_of};
+ghost use Rattle.mp_outline.specs.JobOutline.{layout_of};
 ghost use Rattle.mp_outline.specs.Laws.{group_at};
 ghost use Rattle.mp_host_laws.specs.Applying.{IsApplied, group_here, posts_here, woken_by};
 ghost use Rattle.mp_host_laws.specs.Hosted.{cell_at, first_group, state_at, waits_at};
@@ -31,22 +33,22 @@ impl<'a, Q: Query, J: Naming> Host<'a, Q, J> {
         seen: &Seen,
         owners: &Owners,
     ) -> Result<Option<Applied>, AllocError>
-        requires shape { owners.now.shape ≡ J.job.shape }
-        requires informed { let q = Q.facts J.job.rules in
+        requires shape { owners.now.layout ≡ layout_of J.job }
+        requires informed { let q = table_of Q.facts J.job in
             (log : Log) × HostMatchesLogAndSeen q J.job log seen.now self.old × OwnersAreCurrent q J.job owners.now seen.now self.old.stage }
 
         // Which group, and what became of the host.
         ensures ready { IfDid result (λ a. IsReadyHere J.job seen.now owners.now self.old a.time a.key) }
-        ensures applied { IfDid result (λ a. IsApplied (Q.facts J.job.rules) J.job a.time a.key self.old self.new) }
+        ensures applied { IfDid result (λ a. IsApplied (table_of Q.facts J.job) J.job a.time a.key self.old self.new) }
 
         // What is told of it.
-        ensures outputs { let q = Q.facts J.job.rules in let j = self.old.stage in
+        ensures outputs { let q = table_of Q.facts J.job in let j = self.old.stage in
             IfDid result (λ a. a.outputs.items
             ≡ q.gives j (cell_before q j (stage_records q J.job.events j) a.key a.time) (group_at q J.job j a.time a.key)) }
-        ensures woke { IfDid result (λ a. a.woke.items ≡ woken_by (Q.facts J.job.rules) self.old a.time a.key) }
+        ensures woke { IfDid result (λ a. a.woke.items ≡ woken_by (table_of Q.facts J.job) self.old a.time a.key) }
 
         // Whatever the log is.
-        ensures held { let q = Q.facts J.job.rules in
+        ensures held { let q = table_of Q.facts J.job in
             IfDid result (λ a. (log : Log) → HostMatchesLogAndSeen q J.job log seen.now self.old
             → AppliesGroup q J.job log seen.now self.old self.new a.time a.key a.woke.items) }
 
@@ -70,13 +72,13 @@ impl<'a, Q: Query, J: Naming> Host<'a, Q, J> {
     ) -> Result<Applied, AllocError>
         requires first { first_group self.old ≡ Some (time, key) }
         requires in_hand { IsSome (state_at self.old (bin_of_key key J.job.shape.bins) time) }
-        requires fits { let q = Q.facts J.job.rules in let h = self.old in
+        requires fits { let q = table_of Q.facts J.job in let h = self.old in
             q.fits h.stage (cell_at (q.fresh h.stage) J.job.shape.bins h time key) (group_here h time key) ≡ true }
         ensures group { IfOk result (λ a. (a.time ≡ time) × (a.key ≡ key)) }
-        ensures applied { OnOk result (IsApplied (Q.facts J.job.rules) J.job time key self.old self.new) }
-        ensures outputs { let q = Q.facts J.job.rules in let h = self.old in
+        ensures applied { OnOk result (IsApplied (table_of Q.facts J.job) J.job time key self.old self.new) }
+        ensures outputs { let q = table_of Q.facts J.job in let h = self.old in
             IfOk result (λ a. a.outputs.items ≡ q.gives h.stage (cell_at (q.fresh h.stage) J.job.shape.bins h time key) (group_here h time key)) }
-        ensures woke { IfOk result (λ a. a.woke.items ≡ woken_by (Q.facts J.job.rules) self.old time key) }
+        ensures woke { IfOk result (λ a. a.woke.items ≡ woken_by (table_of Q.facts J.job) self.old time key) }
         ensures unchanged { OnErr result (self.new ≡ self.old) }
     {
         let posts = self.posts(alloc, time, key)?;
@@ -93,7 +95,7 @@ impl<'a, Q: Query, J: Naming> Host<'a, Q, J> {
     // The times that the records of the first group post.
     fn posts(&self, alloc: Global, time: Time, key: u64) -> Result<Vec<Time>, AllocError>
         requires { first_group self.now ≡ Some (time, key) }
-        ensures { IfOk result (λ v. v.items ≡ posts_here (Q.facts J.job.rules) self.now time key) }
+        ensures { IfOk result (λ v. v.items ≡ posts_here (table_of Q.facts J.job) self.now time key) }
     {
         let recs = first_records(&self.records, time, key);
         posts_of(alloc, self.job.query(), self.stage, recs)
@@ -123,11 +125,11 @@ impl<'a, Q: Query, J: Naming> Host<'a, Q, J> {
     ) -> Result<Vec<Value>, AllocError>
         requires first { first_group self.old ≡ Some (time, key) }
         requires in_hand { IsSome (state_at self.old (bin_of_key key J.job.shape.bins) time) }
-        requires fits { let q = Q.facts J.job.rules in let h = self.old in
+        requires fits { let q = table_of Q.facts J.job in let h = self.old in
             q.fits h.stage (cell_at (q.fresh h.stage) J.job.shape.bins h time key) (group_here h time key) ≡ true }
-        requires posts { posts.now ≡ posts_here (Q.facts J.job.rules) self.old time key }
-        ensures applied { OnOk result (IsApplied (Q.facts J.job.rules) J.job time key self.old self.new) }
-        ensures outputs { let q = Q.facts J.job.rules in let h = self.old in
+        requires posts { posts.now ≡ posts_here (table_of Q.facts J.job) self.old time key }
+        ensures applied { OnOk result (IsApplied (table_of Q.facts J.job) J.job time key self.old self.new) }
+        ensures outputs { let q = table_of Q.facts J.job in let h = self.old in
             IfOk result (λ v. v.items ≡ q.gives h.stage (cell_at (q.fresh h.stage) J.job.shape.bins h time key) (group_here h time key)) }
         ensures unchanged { OnErr result (self.new ≡ self.old) }
     {

@@ -6,7 +6,8 @@ ghost use Rattle.mp_names.specs.Outlines.{groups_of};
 ghost use Rattle.mp_bins.specs.Bins.{bin_of_key};
 ghost use Rattle.mp_model.specs.Folds.{cell_before};
 ghost use Rattle.mp_model.specs.Stages.{stage_records};
-ghost use Rattle.mp_outline.specs.JobOutline.{outline_of};
+ghost use Rattle.mp_model.specs.Tables.{table_of};
+ghost use Rattle.mp_outline.specs.JobOutline.{layout_of, outline_of};
 ghost use Rattle.mp_outline.specs.Laws.{group_at};
 ghost use Rattle.mp_host_laws.specs.Applying.{group_here, posts_here, woken_by};
 ghost use Rattle.mp_host_laws.specs.Hosted.{cell_at, first_group, keys_at, state_at};
@@ -28,9 +29,9 @@ impl<'a, Q: Query, J: Naming> Host<'a, Q, J> {
     /// How many groups wait at a time. Takes no memory.
     pub fn pending(&self, time: Time) -> u64
         ensures here { result ≡ length (keys_at self.now time) }
-        ensures told { let q = Q.facts J.job.rules in let o = outline_of q J.job in
+        ensures told { let q = table_of Q.facts J.job in let o = outline_of q J.job in
             (log : Log) → IsHostOf q J.job log self.now → LogIsLegal o self.now.worker log
-            → result ≡ number_at o (is_pending o log) time (groups_of o self.now.stage) }
+            → result ≡ number_at o (is_pending o self.now.worker log) time (groups_of o self.now.stage) }
     {
         (self.count_woken(time) + self.count_unwoken(time)) as u64
     }
@@ -39,7 +40,7 @@ impl<'a, Q: Query, J: Naming> Host<'a, Q, J> {
     fn count_woken(&self, time: Time) -> usize
         ensures keys { result ≡ length (woken_keys time self.now.held) }
         ensures few { result < 2 ^ 63 }
-        ensures hosted { IsHosted (Q.facts J.job.rules) J.job J.job self.now }
+        ensures hosted { IsHosted (table_of Q.facts J.job) J.job J.job self.now }
     {
         let mut count = 0;
         for (at, one) in self.states.as_slice().iter().enumerate() {
@@ -105,22 +106,22 @@ impl<'a, Q: Query, J: Naming> Host<'a, Q, J> {
     /// the query says of its outputs, and the posts of its records. `None` exactly where no group may be applied (`ready`).
     /// The worker's log and the owners are as for `apply`. Takes no memory.
     pub fn most_if_ready(&self, alloc: Global, seen: &Seen, owners: &Owners) -> Option<u64>
-        requires shape { owners.now.shape ≡ J.job.shape }
-        requires informed { let q = Q.facts J.job.rules in
+        requires shape { owners.now.layout ≡ layout_of J.job }
+        requires informed { let q = table_of Q.facts J.job in
             (log : Log) × HostMatchesLogAndSeen q J.job log seen.now self.now × OwnersAreCurrent q J.job owners.now seen.now self.now.stage }
 
         // Whether there is such a group.
         ensures some { IfSome result (λ _. (t : ℕ) × (k : ℕ) × IsReadyHere J.job seen.now owners.now self.now t k) }
         ensures none { IfNone result ((t k : ℕ) → ¬ IsReadyHere J.job seen.now owners.now self.now t k) }
-        ensures none_by_log { let q = Q.facts J.job.rules in
+        ensures none_by_log { let q = table_of Q.facts J.job in
             IfNone result ((log : Log) → HostMatchesLogAndSeen q J.job log seen.now self.now → OwnersAreCurrent q J.job owners.now seen.now self.now.stage
             → (t k : ℕ) → ¬ IsReadyAt q J.job log seen.now self.now t k) }
 
         // What it may give.
-        ensures most { let q = Q.facts J.job.rules in let h = self.now in
+        ensures most { let q = table_of Q.facts J.job in let h = self.now in
             IfSome result (λ most. (t k : ℕ) → IsReadyHere J.job seen.now owners.now h t k
             → most ≡ min (q.most h.stage (cell_at (q.fresh h.stage) J.job.shape.bins h t k) (group_here h t k) + length (posts_here q h t k)) (2 ^ 64 - 1)) }
-        ensures enough { let q = Q.facts J.job.rules in let h = self.now in let j = h.stage in
+        ensures enough { let q = table_of Q.facts J.job in let h = self.now in let j = h.stage in
             IfSome result (λ most. (t k : ℕ) → IsReadyHere J.job seen.now owners.now h t k → most < 2 ^ 64 - 1
             → length (q.gives j (cell_before q j (stage_records q J.job.events j) k t) (group_at q J.job j t k)) + length (woken_by q h t k) ≤ most) }
     {
@@ -135,9 +136,9 @@ impl<'a, Q: Query, J: Naming> Host<'a, Q, J> {
     fn most_of_first(&self, alloc: Global, time: Time, key: u64) -> u64
         requires first { first_group self.now ≡ Some (time, key) }
         requires in_hand { IsSome (state_at self.now (bin_of_key key J.job.shape.bins) time) }
-        requires fits { let q = Q.facts J.job.rules in let h = self.now in
+        requires fits { let q = table_of Q.facts J.job in let h = self.now in
             q.fits h.stage (cell_at (q.fresh h.stage) J.job.shape.bins h time key) (group_here h time key) ≡ true }
-        ensures { let q = Q.facts J.job.rules in let h = self.now in
+        ensures { let q = table_of Q.facts J.job in let h = self.now in
             result ≡ min (q.most h.stage (cell_at (q.fresh h.stage) J.job.shape.bins h time key) (group_here h time key) + length (posts_here q h time key)) (2 ^ 64 - 1) }
     {
         let query = self.job.query();

@@ -7,9 +7,9 @@ ghost use Rattle.mp_host_laws.specs.Applying.{IsReceived};
 ghost use Rattle.mp_host_laws.specs.Hosted.{IsNew, first_held};
 ghost use Rattle.mp_host_laws.specs.HostOf.{IsHostOf};
 ghost use Rattle.mp_host.specs.Telling.{TakesRecord};
+ghost use Rattle.mp_model.specs.Tables.{table_of};
 
 use crate::order::ByGroup;
-use mp_bins::first_owner;
 use mp_host_laws::Held;
 use mp_host_states::InHand;
 use mp_job::Job;
@@ -35,13 +35,14 @@ pub struct Host<'a, Q: Query, J: Naming> {
 impl<'a, Q: Query, J: Naming> Model for Host<'a, Q, J> {
     ghost use Rattle.mp_host_laws.specs.Hosted.{Hosted};
     ghost use Rattle.mp_host.specs.Hosts.{IsHosted, hosted_of};
+    ghost use Rattle.mp_model.specs.Tables.{table_of};
 
     ghost Value = { Hosted Q.Cell };
 
     ghost view = { λ h. hosted_of h.stage h.worker h.records h.states };
 
     ghost invariant = { λ h.
-        IsHosted (Q.facts J.job.rules) J.job h.job.now (hosted_of h.stage h.worker h.records h.states) };
+        IsHosted (table_of Q.facts J.job) J.job h.job.now (hosted_of h.stage h.worker h.records h.states) };
 }
 
 impl<'a, Q: Query, J: Naming> Host<'a, Q, J> {
@@ -58,9 +59,9 @@ impl<'a, Q: Query, J: Naming> Host<'a, Q, J> {
         ensures stage { IfOk result (λ h. h.stage ≡ stage) }
         ensures worker { IfOk result (λ h. h.worker ≡ worker) }
         ensures new { IfOk result (λ h. IsNew J.job h) }
-        ensures held { IfOk result (λ h. IsHostOf (Q.facts J.job.rules) J.job empty_log h) }
+        ensures held { IfOk result (λ h. IsHostOf (table_of Q.facts J.job) J.job empty_log h) }
     {
-        let held = first_held::<Q>(alloc, worker, job)?;
+        let held = first_held::<Q>(alloc, stage, worker, job)?;
         let states = InHand::new(alloc, job.shape().bins, held)?;
         Ok(Host {
             job,
@@ -87,9 +88,9 @@ impl<'a, Q: Query, J: Naming> Host<'a, Q, J> {
     // Keeps a record of the stage until its group is applied. `AllocError`: no memory, never where there is room, and
     // nothing changes.
     pub(crate) fn keep(&mut self, rec: Rec) -> Result<(), AllocError>
-        requires { IsRecordOf (Q.facts J.job.rules) J.job self.old.stage rec }
+        requires { IsRecordOf (table_of Q.facts J.job) J.job self.old.stage rec }
         ensures received { OnOk result (IsReceived rec self.old self.new) }
-        ensures held { OnOk result (TakesRecord (Q.facts J.job.rules) J.job rec self.old self.new) }
+        ensures held { OnOk result (TakesRecord (table_of Q.facts J.job) J.job rec self.old self.new) }
         ensures room { OnOk result (self.old.room ≤ self.new.room + 1) }
         ensures for_bins { self.new.room_for_bins ≡ self.old.room_for_bins }
         ensures unchanged { OnErr result (self.new ≡ self.old) }
@@ -99,19 +100,21 @@ impl<'a, Q: Query, J: Naming> Host<'a, Q, J> {
     }
 }
 
-// The bins whose first owner the worker is, with no cells and no wakes.
+// The bins of a stage whose first owner the worker is, with no cells and no wakes.
 fn first_held<Q: Query>(
     alloc: Global,
+    stage: u32,
     worker: u32,
     job: &Job<Q>,
 ) -> Result<Vec<Held<Q::Cell>>, AllocError>
-    ensures bins { IfOk result (λ v. v.items ≡ first_held job.now worker job.now.shape.bins) }
-    ensures legal { OnOk result (JobIsLegal (Q.facts job.now.rules) job.now) }
+    ensures bins { IfOk result (λ v. v.items ≡ first_held job.now stage worker job.now.shape.bins) }
+    ensures legal { OnOk result (JobIsLegal (table_of Q.facts job.now) job.now) }
 {
     let shape = job.shape();
     let mut held = Vec::new(alloc);
     for bin in 0..shape.bins {
-        if first_owner(shape, bin) == worker {
+        let owner = job.first_owner(stage, bin);
+        if owner == worker {
             held.push(Held {
                 bin,
                 since: None,

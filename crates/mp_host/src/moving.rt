@@ -3,6 +3,7 @@ ghost use Rattle.std.specs.Prelude.{◌≡◌, ◌≤◌, ◌+◌, ◌<◌, ◌^
 ghost use Rattle.std.specs.Vec.{vec_capacity};
 ghost use Rattle.mp_names.specs.Logs.{Log};
 ghost use Rattle.mp_model.specs.Ascending.{ascending};
+ghost use Rattle.mp_model.specs.Tables.{table_of};
 ghost use Rattle.mp_msg.specs.Contents.{IsPacketOf};
 ghost use Rattle.mp_host_laws.specs.Hosted.{Hosted, StandsInOrder, state_before};
 ghost use Rattle.mp_host_laws.specs.Moving.{AreNumbersOf, IsPutIn, IsTakenOut, brought, not_waiting};
@@ -32,7 +33,7 @@ impl<'a, Q: Query, J: Naming> Host<'a, Q, J> {
             → AreNumbersOf (not_waiting new one.state) v.items) }
         ensures none { IfOk result (λ v. state_before self.now bin time ≡ None → v.items ≡ []) }
         ensures few { IfOk result (λ v. All (λ n. n.1 < 2 ^ 63) v.items) }
-        ensures denotes { StandsInOrder (Q.facts J.job.rules) J.job self.now }
+        ensures denotes { StandsInOrder (table_of Q.facts J.job) J.job self.now }
     {
         let _ = &self.job;
         let mut numbers = Vec::new(alloc);
@@ -56,11 +57,11 @@ impl<'a, Q: Query, J: Naming> Host<'a, Q, J> {
     /// there is none, and then nothing changes. Takes no memory, and leaves room to put it back.
     pub fn take_bin(&mut self, bin: u32, time: Time) -> Option<Held<Q::Cell>>
         ensures taken { IfSome result (λ one. IsTakenOut bin time one self.old self.new) }
-        ensures fits { IfSome result (MayBeHeld (Q.facts J.job.rules) J.job self.old.stage) }
+        ensures fits { IfSome result (MayBeHeld (table_of Q.facts J.job) J.job self.old.stage) }
         ensures rooms { IfSome result (λ _. (self.new.room ≡ self.old.room) × (self.new.room_for_bins ≡ self.old.room_for_bins + 1)) }
         ensures none { IfNone result ((state_before self.old bin time ≡ None) × (self.new ≡ self.old)) }
-        ensures held { IfSome result (λ one. (log : Log) → GivesUp (Q.facts J.job.rules) J.job log bin time one self.old self.new) }
-        ensures here { IfNone result ((log : Log) → NothingLeaves (Q.facts J.job.rules) J.job log self.old bin time) }
+        ensures held { IfSome result (λ one. (log : Log) → GivesUp (table_of Q.facts J.job) J.job log bin time one self.old self.new) }
+        ensures here { IfNone result ((log : Log) → NothingLeaves (table_of Q.facts J.job) J.job log self.old bin time) }
     {
         let at = self.states.place_before(bin, u128::from(time))?;
         Some(self.states.take(at))
@@ -69,9 +70,9 @@ impl<'a, Q: Query, J: Naming> Host<'a, Q, J> {
     /// Puts a state that was taken out back in hand. There is room for it. Takes no memory.
     pub fn put_back(&mut self, one: Held<Q::Cell>)
         requires room { 1 ≤ self.old.room_for_bins }
-        requires fits { MayBeHeld (Q.facts J.job.rules) J.job self.old.stage one }
+        requires fits { MayBeHeld (table_of Q.facts J.job) J.job self.old.stage one }
         ensures put { IsPutIn one self.old self.new }
-        ensures held { (before : Hosted Q.Cell) (log : Log) (bin time : ℕ) → GetsBack (Q.facts J.job.rules) J.job log bin time one before self.old self.new }
+        ensures held { (before : Hosted Q.Cell) (log : Log) (bin time : ℕ) → GetsBack (table_of Q.facts J.job) J.job log bin time one before self.old self.new }
     {
         self.hold(one);
     }
@@ -84,7 +85,7 @@ impl<'a, Q: Query, J: Naming> Host<'a, Q, J> {
         requires room { length (ascending (map (λ w. w.0) state.now.wakes)) ≤ vec_capacity numbers.old }
         ensures told { AreNumbersOf (not_waiting self.now state.now) numbers.new.items }
         ensures few { All (λ n. n.1 < 2 ^ 63) numbers.new.items }
-        ensures denotes { StandsInOrder (Q.facts J.job.rules) J.job self.now }
+        ensures denotes { StandsInOrder (table_of Q.facts J.job) J.job self.now }
     {
         let _ = &self.states;
         let _ = self.count_waiting(&state.wakes, 0, 0, numbers);
@@ -93,9 +94,9 @@ impl<'a, Q: Query, J: Naming> Host<'a, Q, J> {
     /// Takes the state that a packet brings in hand. There is room for it (`make_room`). Takes no memory.
     pub fn install(&mut self, bin: u32, time: Time, state: BinState<Q::Cell>)
         requires room { 1 ≤ self.old.room_for_bins }
-        requires state { IsPacketOf (Q.facts J.job.rules) J.job self.old.stage bin time state }
+        requires state { IsPacketOf (table_of Q.facts J.job) J.job self.old.stage bin time state }
         ensures put { IsPutIn (brought bin time state) self.old self.new }
-        ensures held { (log : Log) → TakesPacket (Q.facts J.job.rules) J.job log bin time state self.old self.new }
+        ensures held { (log : Log) → TakesPacket (table_of Q.facts J.job) J.job log bin time state self.old self.new }
     {
         let _ = &self.job;
         self.hold(Held {
@@ -108,7 +109,7 @@ impl<'a, Q: Query, J: Naming> Host<'a, Q, J> {
     // Takes a state in hand, behind the others.
     fn hold(&mut self, one: Held<Q::Cell>)
         requires room { 1 ≤ self.old.room_for_bins }
-        requires fits { MayBeHeld (Q.facts J.job.rules) J.job self.old.stage one }
+        requires fits { MayBeHeld (table_of Q.facts J.job) J.job self.old.stage one }
         ensures { IsPutIn one self.old self.new }
     {
         self.states.hold(one);

@@ -7,6 +7,8 @@ ghost use Rattle.mp_host_laws.specs.Hosted.{StandsInOrder, first_group, first_wa
 ghost use Rattle.mp_host_laws.specs.HostOf.{HostMatchesLogAndSeen, IsReadyAt, OwnersAreCurrent};
 ghost use Rattle.mp_host.specs.Hosts.{IsHosted};
 ghost use Rattle.mp_host.specs.Ready.{IsReadyHere};
+ghost use Rattle.mp_model.specs.Tables.{table_of};
+ghost use Rattle.mp_outline.specs.JobOutline.{layout_of};
 
 use crate::Host;
 use mp_bins::{Owners, bin_of};
@@ -19,10 +21,10 @@ impl<'a, Q: Query, J: Naming> Host<'a, Q, J> {
     /// the frontiers of records and of packets have passed its time (as Naiad's notifications) and its bin is this
     /// worker's then.
     pub fn ready(&self, seen: &Seen, owners: &Owners) -> Option<(Time, u64)>
-        requires { owners.now.shape ≡ J.job.shape }
+        requires { owners.now.layout ≡ layout_of J.job }
         ensures some { IfSome result (λ g. IsReadyHere J.job seen.now owners.now self.now g.0 g.1) }
         ensures none { IfNone result ((t k : ℕ) → ¬ IsReadyHere J.job seen.now owners.now self.now t k) }
-        ensures exact { let q = Q.facts J.job.rules in
+        ensures exact { let q = table_of Q.facts J.job in
             (log : Log) → HostMatchesLogAndSeen q J.job log seen.now self.now → OwnersAreCurrent q J.job owners.now seen.now self.now.stage
             → (t k : ℕ) → ((result ≡ Some (t, k)) ↔ IsReadyAt q J.job log seen.now self.now t k) }
     {
@@ -31,10 +33,10 @@ impl<'a, Q: Query, J: Naming> Host<'a, Q, J> {
 
     // The same, by what the host itself has.
     pub(crate) fn first_ready(&self, seen: &Seen, owners: &Owners) -> Option<(Time, u64)>
-        requires { owners.now.shape ≡ J.job.shape }
+        requires { owners.now.layout ≡ layout_of J.job }
         ensures some { IfSome result (λ g. IsReadyHere J.job seen.now owners.now self.now g.0 g.1) }
         ensures none { IfNone result ((t k : ℕ) → ¬ IsReadyHere J.job seen.now owners.now self.now t k) }
-        ensures hosted { IsHosted (Q.facts J.job.rules) J.job J.job self.now }
+        ensures hosted { IsHosted (table_of Q.facts J.job) J.job J.job self.now }
     {
         let (time, key) = self.first()?;
         let is_ready = all_has_come(seen, self.stage, time) && self.owns(owners, time, key);
@@ -44,7 +46,7 @@ impl<'a, Q: Query, J: Naming> Host<'a, Q, J> {
     // The first group that waits, by time and then by key.
     fn first(&self) -> Option<(Time, u64)>
         ensures first { result ≡ first_group self.now }
-        ensures hosted { IsHosted (Q.facts J.job.rules) J.job J.job self.now }
+        ensures hosted { IsHosted (table_of Q.facts J.job) J.job J.job self.now }
     {
         let record = match self.records.first() {
             Some(rec) => Some((rec.time, rec.key)),
@@ -64,14 +66,14 @@ impl<'a, Q: Query, J: Naming> Host<'a, Q, J> {
     // The first wake of the states in hand, by time and then by key.
     fn first_wake(&self) -> Option<(Time, u64)>
         ensures first { result ≡ first_wake_of self.now.held }
-        ensures denotes { StandsInOrder (Q.facts J.job.rules) J.job self.now }
+        ensures denotes { StandsInOrder (table_of Q.facts J.job) J.job self.now }
     {
         self.states.first_wake()
     }
 
     // Whether the bin of a key is this worker's at a time, by what was noted.
     fn owns(&self, owners: &Owners, time: Time, key: u64) -> bool
-        requires { owners.now.shape ≡ J.job.shape }
+        requires { owners.now.layout ≡ layout_of J.job }
         ensures { result ≡ (owner_at owners.now self.now.stage (bin_of_key key J.job.shape.bins) time == self.now.worker) }
     {
         let bin = bin_of(key, self.job.shape().bins);

@@ -3,6 +3,7 @@ ghost use Rattle.std.specs.Prelude.{◌≡◌, ◌≤◌, ◌<◌, ◌+◌, All,
 ghost use Rattle.std.specs.List.{list_any};
 ghost use Rattle.mp_names.specs.Logs.{Log, LogIsLegal};
 ghost use Rattle.mp_model.specs.declared.record.Rec.{Rec};
+ghost use Rattle.mp_model.specs.Tables.{table_of};
 ghost use Rattle.mp_outline.specs.JobOutline.{outline_of};
 ghost use Rattle.mp_msg.specs.Bundles.{names_in};
 ghost use Rattle.mp_msg.specs.Contents.{IsRecordOf};
@@ -22,8 +23,8 @@ impl<'a, Q: Query, J: Naming> Host<'a, Q, J> {
     /// back, and nothing is held that wasn't.
     pub fn receive(&mut self, bundle: Bundle) -> Result<(), (Bundle, AllocError)>
         requires stage { bundle.stage ≡ self.old.stage }
-        requires content { All (IsRecordOf (Q.facts J.job.rules) J.job self.old.stage) bundle.recs }
-        ensures held { OnOk result (TakesRecords (Q.facts J.job.rules) J.job bundle.recs self.old self.new) }
+        requires content { All (IsRecordOf (table_of Q.facts J.job) J.job self.old.stage) bundle.recs }
+        ensures held { OnOk result (TakesRecords (table_of Q.facts J.job) J.job bundle.recs self.old self.new) }
         ensures room { OnOk result (self.old.room ≤ self.new.room + length bundle.recs) }
         ensures for_bins { self.new.room_for_bins ≡ self.old.room_for_bins }
         ensures stage { self.new.stage ≡ self.old.stage }
@@ -45,9 +46,9 @@ impl<'a, Q: Query, J: Naming> Host<'a, Q, J> {
     // Keeps so many records, the last one first.
     fn keep_all(&mut self, recs: &mut Vec<Rec>, count: usize)
         requires count { count ≡ length recs.old.items }
-        requires content { All (IsRecordOf (Q.facts J.job.rules) J.job self.old.stage) (reverse recs.old.items) }
+        requires content { All (IsRecordOf (table_of Q.facts J.job) J.job self.old.stage) (reverse recs.old.items) }
         requires room { count ≤ self.old.room }
-        ensures held { TakesRecords (Q.facts J.job.rules) J.job (reverse recs.old.items) self.old self.new }
+        ensures held { TakesRecords (table_of Q.facts J.job) J.job (reverse recs.old.items) self.old self.new }
         ensures room { self.old.room ≤ self.new.room + count }
         ensures for_bins { self.new.room_for_bins ≡ self.old.room_for_bins }
         ensures stage { self.new.stage ≡ self.old.stage }
@@ -66,9 +67,9 @@ impl<'a, Q: Query, J: Naming> Host<'a, Q, J> {
     /// How many groups wait once the records of a bundle of the stage are received, and don't before. Takes no memory.
     pub fn new_groups(&self, bundle: &Bundle) -> u64
         requires { bundle.now.stage ≡ self.now.stage }
-        ensures told { let q = Q.facts J.job.rules in let o = outline_of q J.job in
+        ensures told { let q = table_of Q.facts J.job in let o = outline_of q J.job in
             (log : Log) → IsHostOf q J.job log self.now → LogIsLegal o self.now.worker log
-            → AreToCome o log self.now.worker (names_in bundle.now) → result ≡ new_groups o log (names_in bundle.now) }
+            → AreToCome o log self.now.worker (names_in bundle.now) → result ≡ new_groups o self.now.worker log (names_in bundle.now) }
         ensures few { result ≤ length bundle.now.recs }
     {
         let _ = &self.job;

@@ -8,6 +8,7 @@ ghost use Rattle.mp_host_laws.specs.Hosted.{has_wake_at, is_of, waits_at};
 ghost use Rattle.mp_host_laws.specs.HostOf.{IsHostOf};
 ghost use Rattle.mp_host.specs.Hosts.{IsHosted};
 ghost use Rattle.mp_host.specs.Waiting.{is_woken_beside};
+ghost use Rattle.mp_model.specs.Tables.{table_of};
 
 use crate::Host;
 use crate::groups::has_group;
@@ -18,9 +19,9 @@ impl<'a, Q: Query, J: Naming> Host<'a, Q, J> {
     /// memory.
     pub fn waits(&self, time: Time, key: u64) -> bool
         ensures here { result ≡ waits_at self.now time key }
-        ensures told { let q = Q.facts J.job.rules in let o = outline_of q J.job in
+        ensures told { let q = table_of Q.facts J.job in let o = outline_of q J.job in
             (log : Log) → IsHostOf q J.job log self.now → LogIsLegal o self.now.worker log
-            → result ≡ is_pending o log (GroupName self.now.stage time key) }
+            → result ≡ is_pending o self.now.worker log (GroupName self.now.stage time key) }
     {
         self.has_record(time, key) || self.is_woken(time, key)
     }
@@ -35,7 +36,7 @@ impl<'a, Q: Query, J: Naming> Host<'a, Q, J> {
 
     pub(crate) fn has_record(&self, time: Time, key: u64) -> bool
         ensures here { result ≡ list_any (is_of time key) self.now.records }
-        ensures hosted { IsHosted (Q.facts J.job.rules) J.job J.job self.now }
+        ensures hosted { IsHosted (table_of Q.facts J.job) J.job J.job self.now }
     {
         has_group(&self.records, time, key)
     }

@@ -27,6 +27,7 @@ use Rattle.mp_outline.proofs.Found.{found, found_there}
 use Rattle.mp_outline.proofs.Outputs.{timeline_rises}
 use Rattle.mp_outline.proofs.Pairs.{AllPairs-Pairs, Pairs}
 use Rattle.mp_outline.proofs.Stages.{name_posts, name_stands, post_named, record_named}
+use Rattle.mp_outline.proofs.Whole.{NothingOpens}
 use Rattle.mp_postdated.specs.Wakes.{Has, IsWake}
 use Rattle.mp_msg.specs.Contents.{IsRecordOf}
 use Rattle.mp_msg.specs.States.{IsPostedAt, cell_in}
@@ -120,7 +121,7 @@ taken_same log j t k (Some m) u l quiet =
     ap (λ (b : Bool). nat_lt u m || b) (sym (still_unapplied log j t k u l other)))
     (cases_lt u m)
 
-module _ {Cell : Type 0} (q : QueryFacts Cell) (nothing : LaterStagesPostNothing q) (job : JobFacts) (sound : OutlineIsSound (outline_of q job)) (log : Log) (h : Hosted Cell) (t k : ℕ)
+module _ {Cell : Type 0} (q : QueryFacts Cell) (nothing : LaterStagesPostNothing q) (job : JobFacts) (sound : OutlineIsSound (outline_of q job)) (opens : NothingOpens q job) (log : Log) (h : Hosted Cell) (t k : ℕ)
     (host : IsHostOf q job log h) (legal : LogIsLegal (outline_of q job) h.worker log) (denotes : StandsInOrder q job h) (below : h.stage < job.shape.stages)
     (full : GroupIsWhole (outline_of q job) h.worker log h.stage t k) (unapplied : has log.applied (Group h.stage t k) ≡ false) (group : In (Group h.stage t k) (groups_of (outline_of q job) h.stage)) where
   -- What the group's records post
@@ -152,7 +153,7 @@ module _ {Cell : Type 0} (q : QueryFacts Cell) (nothing : LaterStagesPostNothing
       let own = same_parts j j r.time t r.key k r.tag g a.2 in
       let posts = post_named q nothing job j r u a.1 (subst (λ (x : Name). is_posted o x u ≡ true) (sym a.2) p.2) in
       let here = in_group q job j t k r a.1 own.0 own.1 in
-      let whole = records_are_whole q nothing job sound log h t k host legal denotes below full unapplied group in
+      let whole = records_are_whole q nothing job sound opens log h t k host legal denotes below full unapplied group in
       let there = subst (λ (rs : List Rec). Contains rs r) (sym whole) here in
       flat_map-Contains (q.posts j) (records_of h t k) u (found_there (λ (r : Rec). Contains (q.posts j r) u) (records_of h t k) r there posts)
 
@@ -166,7 +167,7 @@ module _ {Cell : Type 0} (q : QueryFacts Cell) (nothing : LaterStagesPostNothing
   post_unapplied : (u : ℕ) → Contains (posts_here q h t k) u → has (with_applied log (Group h.stage t k)).applied (Group h.stage u k) ≡ false
   post_unapplied u i =
       let later : t < u = posted_later t k u (post_is_posted u i) in
-      still_unapplied log h.stage t k u k (λ e. let s : t ≡ u = e.0 in omega arith) ∙ later_unapplied q nothing job sound log h t k host legal denotes below full unapplied group u (omega arith)
+      still_unapplied log h.stage t k u k (λ e. let s : t ≡ u = e.0 in omega arith) ∙ later_unapplied q nothing job sound opens log h t k host legal denotes below full unapplied group u (omega arith)
 
   -- The records afterwards
 
@@ -235,14 +236,14 @@ module _ {Cell : Type 0} (q : QueryFacts Cell) (nothing : LaterStagesPostNothing
         )
 
     -- the cell of the key after the group
-    own_cell : q.step h.stage (cell_in (q.fresh h.stage) one.state.cells k) (group_here h t k) ≡ fold_of q h.stage (q.fresh h.stage) (filter (λ e. is_taken_in (with_applied log (Group h.stage t k)) h.stage a e.time k) (timeline_of q job h.stage k))
+    own_cell : q.step h.stage (cell_in (q.fresh h.stage) one.state.cells k) (group_here h t k) ≡ fold_of q h.stage (q.opening h.stage k) (filter (λ e. is_taken_in (with_applied log (Group h.stage t k)) h.stage a e.time k) (timeline_of q job h.stage k))
     own_cell =
         let j = h.stage in
         let after = with_applied log (Group j t k) in
         let timeline = timeline_of q job j k in
-        let cell = state_cell q nothing job sound log h t k host legal denotes below full unapplied group a stays one there bin since in
-        let whole = group_is_whole q nothing job sound log h t k host legal denotes below full unapplied group in
-        let upto = fold_upto (λ (e : Entry). e.time) (q.step j) (q.fresh j) (λ (e : Entry). is_taken_in after j a e.time k) t (group_at q job j t k) timeline (timeline_rises q j k (stage_records q job.events j)) (on_timeline q nothing job sound log h t k host legal denotes below full unapplied group) refl early late in
+        let cell = state_cell q nothing job sound opens log h t k host legal denotes below full unapplied group a stays one there bin since in
+        let whole = group_is_whole q nothing job sound opens log h t k host legal denotes below full unapplied group in
+        let upto = fold_upto (λ (e : Entry). e.time) (q.step j) (q.opening j k) (λ (e : Entry). is_taken_in after j a e.time k) t (group_at q job j t k) timeline (timeline_rises q j k (stage_records q job.events j)) (on_timeline q nothing job sound opens log h t k host legal denotes below full unapplied group) refl early late in
         ap (λ (c : Cell). q.step j c (group_here h t k)) cell ∙ ap (q.step j (cell_before q j (stage_records q job.events j) k t)) whole ∙ sym upto
       where
         early : (e : Entry) → Contains (timeline_of q job h.stage k) e → e.time ≤ t → is_taken_in (with_applied log (Group h.stage t k)) h.stage a e.time k ≡ true
@@ -251,7 +252,7 @@ module _ {Cell : Type 0} (q : QueryFacts Cell) (nothing : LaterStagesPostNothing
             (λ (s : e.time ≡ t). taken_now log h.stage t k a e.time k s refl)
             (λ (s : (e.time < t) ⊎ (t < e.time)).
             ⊎_elim
-            (λ (m : e.time < t). taken_still log h.stage (Group h.stage t k) a e.time k (earlier_taken q nothing job sound log h t k host legal denotes below full unapplied group a stays e i m))
+            (λ (m : e.time < t). taken_still log h.stage (Group h.stage t k) a e.time k (earlier_taken q nothing job sound opens log h t k host legal denotes below full unapplied group a stays e i m))
             (λ (m : t < e.time). absurd (omega arith))
             s)
             (cases_order e.time t)
@@ -259,10 +260,10 @@ module _ {Cell : Type 0} (q : QueryFacts Cell) (nothing : LaterStagesPostNothing
         late : (e : Entry) → Contains (timeline_of q job h.stage k) e → t < e.time → is_taken_in (with_applied log (Group h.stage t k)) h.stage a e.time k ≡ false
         late e i l =
             sym (taken_same log h.stage t k a e.time k (λ s. let same : t ≡ e.time = s.0 in absurd (omega arith)))
-            ∙ later_not_taken q nothing job sound log h t k host legal denotes below full unapplied group a (stay_began (outline_of q job) log h.stage (bin_of_key k job.shape.bins) (suc t) a stays) e.time (omega arith)
+            ∙ later_not_taken q nothing job sound opens log h t k host legal denotes below full unapplied group a (stay_began (outline_of q job) log h.stage (bin_of_key k job.shape.bins) (suc t) a stays) e.time (omega arith)
 
     cells_after : (l : ℕ) → bin_of_key l job.shape.bins ≡ one.bin
-        → cell_in (q.fresh h.stage) changed.state.cells l ≡ fold_of q h.stage (q.fresh h.stage) (filter (λ e. is_taken_in (with_applied log (Group h.stage t k)) h.stage one.since e.time l) (timeline_of q job h.stage l))
+        → cell_in (q.fresh h.stage) changed.state.cells l ≡ fold_of q h.stage (q.opening h.stage l) (filter (λ e. is_taken_in (with_applied log (Group h.stage t k)) h.stage one.since e.time l) (timeline_of q job h.stage l))
     cells_after l own =
         let j = h.stage in
         let fresh = q.fresh j in
@@ -271,11 +272,11 @@ module _ {Cell : Type 0} (q : QueryFacts Cell) (nothing : LaterStagesPostNothing
         ⊎_elim
         (λ (e : l ≡ k).
         takes.cells l ∙ cond-true (l == k) stepped (cell_in fresh one.state.cells l) (eq-eqb l k e)
-        ∙ subst (λ (n : ℕ). stepped ≡ fold_of q j fresh (filter (λ (f : Entry). is_taken_in after j one.since f.time n) (timeline_of q job j n))) (sym e)
-        (subst (λ (c : Option ℕ). stepped ≡ fold_of q j fresh (filter (λ (f : Entry). is_taken_in after j c f.time k) (timeline_of q job j k))) (sym since) own_cell))
+        ∙ subst (λ (n : ℕ). stepped ≡ fold_of q j (q.opening j n) (filter (λ (f : Entry). is_taken_in after j one.since f.time n) (timeline_of q job j n))) (sym e)
+        (subst (λ (c : Option ℕ). stepped ≡ fold_of q j (q.opening j k) (filter (λ (f : Entry). is_taken_in after j c f.time k) (timeline_of q job j k))) (sym since) own_cell))
         (λ (e : l ≡ k → ⊥).
         let kept = filter_within (λ (f : Entry). is_taken_in log j one.since f.time l) (λ (f : Entry). is_taken_in after j one.since f.time l) (timeline_of q job j l) (λ f i. taken_same log j t k one.since f.time l (λ s. absurd (e (sym s.1)))) in
-        takes.cells l ∙ cond-false (l == k) stepped (cell_in fresh one.state.cells l) (ne_eqb l k e) ∙ was.cells l own ∙ ap (fold_of q j fresh) kept)
+        takes.cells l ∙ cond-false (l == k) stepped (cell_in fresh one.state.cells l) (ne_eqb l k e) ∙ was.cells l own ∙ ap (fold_of q j (q.opening j l)) kept)
         (cases_eq l k)
 
     changed_is : IsStateOf q job (with_applied log (Group h.stage t k)) h.stage changed
@@ -286,7 +287,7 @@ module _ {Cell : Type 0} (q : QueryFacts Cell) (nothing : LaterStagesPostNothing
           wakes = λ u l own.
               subst (λ (c : Option ℕ). (Has (wakes_in changed) u l ↔ ((has after.applied (Group j u l) ≡ false) × (v : ℕ) × IsPostedAt q job j l v u × CameInto after j c l v u))) (sym takes.since) (wakes_after u l (own ∙ takes.bin));
           cells = λ l own.
-              subst (λ (c : Option ℕ). cell_in (q.fresh j) changed.state.cells l ≡ fold_of q j (q.fresh j) (filter (λ (e : Entry). is_taken_in after j c e.time l) (timeline_of q job j l))) (sym takes.since) (cells_after l (own ∙ takes.bin));
+              subst (λ (c : Option ℕ). cell_in (q.fresh j) changed.state.cells l ≡ fold_of q j (q.opening j l) (filter (λ (e : Entry). is_taken_in after j c e.time l) (timeline_of q job j l))) (sym takes.since) (cells_after l (own ∙ takes.bin));
         }
 
   -- a state of another bin, or one that begins after the group's time, is as it was
@@ -315,11 +316,11 @@ module _ {Cell : Type 0} (q : QueryFacts Cell) (nothing : LaterStagesPostNothing
                 (came_cases log j t k s.since l p.1 u p.3))),
           )
 
-      cells : (l : ℕ) → bin_of_key l job.shape.bins ≡ s.bin → cell_in (q.fresh h.stage) s.state.cells l ≡ fold_of q h.stage (q.fresh h.stage) (filter (λ e. is_taken_in (with_applied log (Group h.stage t k)) h.stage s.since e.time l) (timeline_of q job h.stage l))
+      cells : (l : ℕ) → bin_of_key l job.shape.bins ≡ s.bin → cell_in (q.fresh h.stage) s.state.cells l ≡ fold_of q h.stage (q.opening h.stage l) (filter (λ e. is_taken_in (with_applied log (Group h.stage t k)) h.stage s.since e.time l) (timeline_of q job h.stage l))
       cells l own =
           let j = h.stage in
           was.cells l own
-          ∙ ap (fold_of q j (q.fresh j)) (filter_within (λ (e : Entry). is_taken_in log j s.since e.time l) (λ (e : Entry). is_taken_in (with_applied log (Group j t k)) j s.since e.time l) (timeline_of q job j l) (λ e i. taken_same log j t k s.since e.time l (λ d. key_quiet l own d.1)))
+          ∙ ap (fold_of q j (q.opening j l)) (filter_within (λ (e : Entry). is_taken_in log j s.since e.time l) (λ (e : Entry). is_taken_in (with_applied log (Group j t k)) j s.since e.time l) (timeline_of q job j l) (λ e i. taken_same log j t k s.since e.time l (λ d. key_quiet l own d.1)))
 
   -- The host afterwards
 
@@ -335,7 +336,7 @@ module _ {Cell : Type 0} (q : QueryFacts Cell) (nothing : LaterStagesPostNothing
     other_after : (s : Held Cell) → Contains h.held s → ((s.bin ≡ applied.held.one.bin) × (s.since ≡ applied.held.one.since) → ⊥) → IsStateOf q job (with_applied log (Group h.stage t k)) h.stage s
     other_after s i apart =
         let b = bin_of_key k job.shape.bins in
-        let there = (state_here q nothing job sound log h t k host legal denotes below full unapplied group).2 in
+        let there = (state_here q nothing job sound opens log h t k host legal denotes below full unapplied group).2 in
         let one = there.only applied.held.one one_there applied.held.found in
         other_is s (All-contains (IsStateOf q job log h.stage) h.held s host.states i) (λ bin. false_from_ne_true (began_before (suc t) s.since) (λ began.
         let own = there.only s i (and_from (s.bin == b) (began_before (suc t) s.since) (eq-eqb s.bin b bin) began) in
@@ -344,7 +345,7 @@ module _ {Cell : Type 0} (q : QueryFacts Cell) (nothing : LaterStagesPostNothing
     states_after : All (IsStateOf q job (with_applied log (Group h.stage t k)) h.stage) new.held
     states_after =
         let c = applied.held in
-        let here = state_here q nothing job sound log h t k host legal denotes below full unapplied group in
+        let here = state_here q nothing job sound opens log h t k host legal denotes below full unapplied group in
         let own = here.2.only c.one one_there c.found in
         let back : (z : Held Cell) → Contains (c.front ++ c.one ∷ c.rest) z → Contains h.held z = λ z i. subst (λ (l : List (Held Cell)). Contains l z) (sym c.was) i in
         subst (All (IsStateOf q job (with_applied log (Group h.stage t k)) h.stage)) (sym c.is)
@@ -386,69 +387,69 @@ module _ {Cell : Type 0} (q : QueryFacts Cell) (nothing : LaterStagesPostNothing
   -- The times that wait from then on
 
   -- what the group's records post is a wake that is here
-  post_wakes : (u : ℕ) → Contains (posts_here q h t k) u → has_wake (outline_of q job) (with_applied log (Group h.stage t k)) h.stage u k ≡ true
+  post_wakes : (u : ℕ) → Contains (posts_here q h t k) u → has_wake (outline_of q job) h.worker (with_applied log (Group h.stage t k)) h.stage u k ≡ true
   post_wakes u i =
       let o = outline_of q job in
       let j = h.stage in
       let b = o.bin_of k in
       let p = post_is_posted u i in
-      let still = false_from_ne_true (left_since log j b t) (λ e. let r = left_at log j b t e in none_sent q nothing job sound log h t k host legal denotes below full unapplied group r.0 r.1 r.2) in
-      here_wake o (with_applied log (Group j t k)) j u k (t, p.0, p.1, p.2, inl (push_has log.applied (Group j t k), still))
+      let still = false_from_ne_true (left_since log j b t) (λ e. let r = left_at log j b t e in none_sent q nothing job sound opens log h t k host legal denotes below full unapplied group r.0 r.1 r.2) in
+      here_wake o h.worker (with_applied log (Group j t k)) j u k (t, p.0, p.1, p.2, inl (push_has log.applied (Group j t k), still))
 
   -- a wake of the key that is here then was here before, or they post it
-  wake_cases : (u : ℕ) → has_wake (outline_of q job) (with_applied log (Group h.stage t k)) h.stage u k ≡ true → (has_wake (outline_of q job) log h.stage u k ≡ true) ⊎ Contains (posts_here q h t k) u
+  wake_cases : (u : ℕ) → has_wake (outline_of q job) h.worker (with_applied log (Group h.stage t k)) h.stage u k ≡ true → (has_wake (outline_of q job) h.worker log h.stage u k ≡ true) ⊎ Contains (posts_here q h t k) u
   wake_cases u e =
       let o = outline_of q job in
       let j = h.stage in
       let b = o.bin_of k in
-      let p = wake_here o sound (with_applied log (Group j t k)) j u k e in
+      let p = wake_here o sound opens h.worker (with_applied log (Group j t k)) j u k e in
       let s = p.0 in
       ⊎_elim
       (λ (c : In (Group j s k) (with_applied log (Group j t k)).applied × (left_since log j b s ≡ false)).
       ⊎_elim
-      (λ (i : In (Group j s k) log.applied). inl (here_wake o log j u k (s, p.1, p.2, p.3, inl (i, c.1))))
+      (λ (i : In (Group j s k) log.applied). inl (here_wake o h.worker log j u k (s, p.1, p.2, p.3, inl (i, c.1))))
       (λ (d : (s ≡ t) × (k ≡ k)). inr (posted_at s k u d.0 d.1 (p.1, p.2, p.3)))
       (applied_cases log j t k s k c.0))
-      (λ (c : Brought log j b s u). inl (here_wake o log j u k (s, p.1, p.2, p.3, inr c)))
+      (λ (c : Brought log j b s u). inl (here_wake o h.worker log j u k (s, p.1, p.2, p.3, inr c)))
       p.4
 
-  pub woken_told : (u : ℕ) → (Contains (woken_by q h t k) u ↔ ((is_pending (outline_of q job) (with_applied log (Group h.stage t k)) (Group h.stage u k) ≡ true) × (is_pending (outline_of q job) log (Group h.stage u k) ≡ false)))
+  pub woken_told : (u : ℕ) → (Contains (woken_by q h t k) u ↔ ((is_pending (outline_of q job) h.worker (with_applied log (Group h.stage t k)) (Group h.stage u k) ≡ true) × (is_pending (outline_of q job) h.worker log (Group h.stage u k) ≡ false)))
   woken_told u =
       let o = outline_of q job in
       let j = h.stage in
       let after = with_applied log (Group j t k) in
       let posts = posts_here q h t k in
       let quiet : ℕ → Bool = λ u. not (waits_at h u k) in
-      let waits = waits_is_pending q job sound log h host legal denotes u k in (
+      let waits = waits_is_pending q job sound opens log h host legal denotes u k in (
         (λ i.
             let a = Contains-filter quiet posts u (Contains-ascending (filter quiet posts) u i) in
-            (wake_pends o after j u k (post_unapplied u a.0) (post_wakes u a.0), sym waits ∙ not-true (waits_at h u k) a.1)),
+            (wake_pends o h.worker after j u k (post_unapplied u a.0) (post_wakes u a.0), sym waits ∙ not-true (waits_at h u k) a.1)),
         (λ a.
-            let p = pending_is o after j u k a.0 in
+            let p = pending_is o h.worker after j u k a.0 in
             let idle = was_unapplied log j t k u k p.0 in
-            let no_more : is_pending o log (Group j u k) ≡ true → ⊥ = both_ways (is_pending o log (Group j u k)) a.1 in
+            let no_more : is_pending o h.worker log (Group j u k) ≡ true → ⊥ = both_ways (is_pending o h.worker log (Group j u k)) a.1 in
             let there : Contains posts u = ⊎_elim
-            (λ (f : has_record after j u k ≡ true). absurd (no_more (record_pends o log j u k idle f)))
-            (λ (f : has_wake o after j u k ≡ true).
+            (λ (f : has_record after j u k ≡ true). absurd (no_more (record_pends o h.worker log j u k idle f)))
+            (λ (f : has_wake o h.worker after j u k ≡ true).
             ⊎_elim
-            (λ (c : has_wake o log j u k ≡ true). absurd (no_more (wake_pends o log j u k idle c)))
+            (λ (c : has_wake o h.worker log j u k ≡ true). absurd (no_more (wake_pends o h.worker log j u k idle c)))
             (λ (c : Contains posts u). c)
             (wake_cases u f))
             p.1 in
             ascending-Contains (filter quiet posts) u (filter-Contains quiet posts u there (not_from_false (waits_at h u k) (waits ∙ a.1)))),
       )
 
-module _ {Cell : Type 0} (q : QueryFacts Cell) (nothing : LaterStagesPostNothing q) (job : JobFacts) (sound : OutlineIsSound (outline_of q job)) where
+module _ {Cell : Type 0} (q : QueryFacts Cell) (nothing : LaterStagesPostNothing q) (job : JobFacts) (sound : OutlineIsSound (outline_of q job)) (opens : NothingOpens q job) where
   pub groups_are_held : GroupsAreHeld q job
   groups_are_held log seen old new t k denotes informed below inside first mail state applied =
-      let full = full_here q job sound log seen old t k denotes informed below first mail state in
-      let least = least_here q job sound log seen old t k denotes informed below first mail state in
-      let unapplied = unapplied_here q job sound log seen old t k denotes informed below first mail state in
-      applied_held q nothing job sound log old t k informed.host informed.legal denotes below full unapplied least.0.0 new applied
+      let full = full_here q job sound opens log seen old t k denotes informed below first mail state in
+      let least = least_here q job sound opens log seen old t k denotes informed below first mail state in
+      let unapplied = unapplied_here q job sound opens log seen old t k denotes informed below first mail state in
+      applied_held q nothing job sound opens log old t k informed.host informed.legal denotes below full unapplied least.0.0 new applied
 
   pub woken_are_told : WokenAreTold q job
   woken_are_told log seen h t k u denotes informed below inside first mail state =
-      let full = full_here q job sound log seen h t k denotes informed below first mail state in
-      let least = least_here q job sound log seen h t k denotes informed below first mail state in
-      let unapplied = unapplied_here q job sound log seen h t k denotes informed below first mail state in
-      woken_told q nothing job sound log h t k informed.host informed.legal denotes below full unapplied least.0.0 u
+      let full = full_here q job sound opens log seen h t k denotes informed below first mail state in
+      let least = least_here q job sound opens log seen h t k denotes informed below first mail state in
+      let unapplied = unapplied_here q job sound opens log seen h t k denotes informed below first mail state in
+      woken_told q nothing job sound opens log h t k informed.host informed.legal denotes below full unapplied least.0.0 u

@@ -8,8 +8,11 @@ use Rattle.mp_model.specs.Entry.{Entry}
 use Rattle.mp_model.specs.Facts.{JobFacts, QueryFacts}
 use Rattle.mp_model.specs.Folds.{fold_of}
 use Rattle.mp_job.proofs.Members.{Contains-cases, Contains-here, nothing_in_nil}
+use Rattle.mp_job.specs.Legal.{JobIsLegal}
+use Rattle.mp_outline.specs.JobOutline.{layout_of}
 use Rattle.mp_outline.specs.Laws.{timeline_of}
 use Rattle.mp_outline.proofs.Found.{found, found_there}
+use Rattle.mp_outline.proofs.Whole.{begins_fresh}
 use Rattle.mp_outline.proofs.Pairs.{AllPairs-Pairs, Pairs, Pairs-append, Pairs-weaker}
 use Rattle.mp_host_laws.specs.declared.held.Held.{Held}
 use Rattle.mp_host_laws.specs.Hosted.{empty_state, first_held}
@@ -18,32 +21,32 @@ use Rattle.mp_host_laws.specs.Laws.{NewHostsHoldNothing}
 use Rattle.mp_host_laws.proofs.Lists.{All-each, filter_none}
 use Rattle.mp_host_laws.proofs.Holding.{AreApart, by_parts}
 
-module _ (Cell : Type 0) (job : JobFacts) (w : ℕ) where
+module _ (Cell : Type 0) (job : JobFacts) (j w : ℕ) where
   -- the state that the first owner has of a bin, and those that the worker has of the bins below a number
   abbrev new_held : ℕ → Held Cell
   new_held b = record { bin = b; since = None; state = empty_state }
 
   abbrev one_held : ℕ → List (Held Cell)
-  one_held b = cond (first_owner job.shape b == w) (new_held b ∷ []) []
+  one_held b = cond (first_owner (layout_of job) j b == w) (new_held b ∷ []) []
 
   abbrev all_held : ℕ → List (Held Cell)
-  all_held n = first_held job w n
+  all_held n = first_held job j w n
 
   abbrev IsFirstOf : ℕ → Held Cell → Type 0
-  IsFirstOf b s = (first_owner job.shape b ≡ w) × (s ≡ new_held b)
+  IsFirstOf b s = (first_owner (layout_of job) j b ≡ w) × (s ≡ new_held b)
 
   one_is : (b : ℕ) (s : Held Cell) → Contains (one_held b) s → IsFirstOf b s
   one_is b s =
-      cond_both (first_owner job.shape b == w) (new_held b ∷ []) [] (λ ss. Contains ss s → IsFirstOf b s)
+      cond_both (first_owner (layout_of job) j b == w) (new_held b ∷ []) [] (λ ss. Contains ss s → IsFirstOf b s)
       (λ e i. (
-        eqb-true (first_owner job.shape b) w e,
+        eqb-true (first_owner (layout_of job) j b) w e,
         ⊎_elim (λ (d : new_held b ≡ s). sym d) (λ (n : Contains [] s). absurd (nothing_in_nil s n)) (Contains-cases (new_held b) s [] i),
       ))
       (λ e i. absurd (nothing_in_nil s i))
 
-  one_there : (b : ℕ) → first_owner job.shape b ≡ w → Contains (one_held b) (new_held b)
+  one_there : (b : ℕ) → first_owner (layout_of job) j b ≡ w → Contains (one_held b) (new_held b)
   one_there b e =
-      subst (λ (c : Bool). Contains (cond c (new_held b ∷ []) []) (new_held b)) (sym (eq-eqb (first_owner job.shape b) w e)) (Contains-here (new_held b) [])
+      subst (λ (c : Bool). Contains (cond c (new_held b ∷ []) []) (new_held b)) (sym (eq-eqb (first_owner (layout_of job) j b) w e)) (Contains-here (new_held b) [])
 
   first_is : (n : ℕ) (s : Held Cell) → Contains (all_held n) s → (b : ℕ) × (b < n) × IsFirstOf b s
   first_is zero s i = absurd (nothing_in_nil s i)
@@ -53,7 +56,7 @@ module _ (Cell : Type 0) (job : JobFacts) (w : ℕ) where
       (λ (k : Contains (one_held n) s). (n, omega arith, one_is n s k))
       (Contains-append_cases (all_held n) (one_held n) s i)
 
-  first_there : (n b : ℕ) → b < n → first_owner job.shape b ≡ w → Contains (all_held n) (new_held b)
+  first_there : (n b : ℕ) → b < n → first_owner (layout_of job) j b ≡ w → Contains (all_held n) (new_held b)
   first_there zero b l e = absurd (omega arith)
   first_there (suc n) b l e =
       ⊎_elim
@@ -69,7 +72,7 @@ module _ (Cell : Type 0) (job : JobFacts) (w : ℕ) where
   bins_ascend zero = tt
   bins_ascend (suc n) =
       Pairs-append (λ (r s : Held Cell). r.bin < s.bin) (all_held n) (one_held n) (bins_ascend n)
-      (cond_both (first_owner job.shape n == w) (new_held n ∷ []) [] (Pairs (λ (r s : Held Cell). r.bin < s.bin)) (λ e. ((λ s i. absurd (nothing_in_nil s i)), tt)) (λ e. tt))
+      (cond_both (first_owner (layout_of job) j n == w) (new_held n ∷ []) [] (Pairs (λ (r s : Held Cell). r.bin < s.bin)) (λ e. ((λ s i. absurd (nothing_in_nil s i)), tt)) (λ e. tt))
       (λ r s i k.
       let a = first_is n r i in
       let l = a.1 in
@@ -77,29 +80,29 @@ module _ (Cell : Type 0) (job : JobFacts) (w : ℕ) where
       let last : s.bin ≡ n = ap (λ (z : Held Cell). z.bin) (one_is n s k).1 in
       omega arith)
 
-module _ {Cell : Type 0} (q : QueryFacts Cell) (job : JobFacts) where
+module _ {Cell : Type 0} (q : QueryFacts Cell) (job : JobFacts) (legal : JobIsLegal q job) where
   -- a state without cells and wakes is what the empty log says
   empty_is : (j b : ℕ) → IsStateOf q job empty_log j (record { bin = b; since = None; state = empty_state })
   empty_is j b = record {
     wakes = λ u k e. ((λ i. absurd (nothing_in_nil (u, k) i)), (λ a. absurd (false≢true a.3)));
-    cells = λ k e. sym (ap (fold_of q j (q.fresh j)) (filter_none (λ (f : Entry). false) (timeline_of q job j k) (λ f i. refl)));
+    cells = λ k e. sym (ap (fold_of q j (q.opening j k)) (filter_none (λ (f : Entry). false) (timeline_of q job j k) (λ f i. refl)) ∙ begins_fresh q job legal j k);
   }
 
   module _ (j w : ℕ) where
     -- the states of all bins whose first owner the worker is
     abbrev begun : List (Held Cell)
-    begun = first_held job w job.shape.bins
+    begun = first_held job j w job.shape.bins
 
     first_in_hand : (b : ℕ) (since : Option ℕ) → Any (λ (s : Held Cell). (s.bin ≡ b) × (s.since ≡ since)) begun → IsInHandSince q job w empty_log j b since
     first_in_hand b since h =
         let r = found (λ (s : Held Cell). (s.bin ≡ b) × (s.since ≡ since)) begun h in
-        let a = first_is Cell job w job.shape.bins r.0 r.1 in
+        let a = first_is Cell job j w job.shape.bins r.0 r.1 in
         let bin : a.0 ≡ b = sym (ap (λ (z : Held Cell). z.bin) a.2.1) ∙ r.2.0 in
         let none : None ≡ since = sym (ap (λ (z : Held Cell). z.since) a.2.1) ∙ r.2.1 in
         subst (λ (c : ℕ). IsInHandSince q job w empty_log j c since) bin (subst (IsInHandSince q job w empty_log j a.0) none (a.1, a.2.0, (λ m. refl)))
 
     in_hand_first : (b : ℕ) (since : Option ℕ) → IsInHandSince q job w empty_log j b since → Any (λ (s : Held Cell). (s.bin ≡ b) × (s.since ≡ since)) begun
-    in_hand_first b None own = found_there (λ (s : Held Cell). (s.bin ≡ b) × (s.since ≡ None)) begun (record { bin = b; since = None; state = empty_state }) (first_there Cell job w job.shape.bins b own.0 own.1) (refl, refl)
+    in_hand_first b None own = found_there (λ (s : Held Cell). (s.bin ≡ b) × (s.since ≡ None)) begun (record { bin = b; since = None; state = empty_state }) (first_there Cell job j w job.shape.bins b own.0 own.1) (refl, refl)
     in_hand_first b (Some m) own = absurd (false≢true own.0)
 
     begun_once : AllPairs AreApart begun
@@ -107,11 +110,11 @@ module _ {Cell : Type 0} (q : QueryFacts Cell) (job : JobFacts) where
         AllPairs-Pairs AreApart begun
         (Pairs-weaker (λ (r s : Held Cell). r.bin < s.bin) AreApart
         (λ r s l e. let same : r.bin ≡ s.bin = e.0 in omega arith)
-        begun (bins_ascend Cell job w job.shape.bins))
+        begun (bins_ascend Cell job j w job.shape.bins))
 
     begun_states : All (IsStateOf q job empty_log j) begun
     begun_states =
-        All-each (IsStateOf q job empty_log j) begun (λ s i. let a = first_is Cell job w job.shape.bins s i in subst (IsStateOf q job empty_log j) (sym a.2.1) (empty_is j a.0))
+        All-each (IsStateOf q job empty_log j) begun (λ s i. let a = first_is Cell job j w job.shape.bins s i in subst (IsStateOf q job empty_log j) (sym a.2.1) (empty_is j a.0))
 
   pub new_hosts_hold_nothing : NewHostsHoldNothing q job
   new_hosts_hold_nothing h fresh =

@@ -52,11 +52,11 @@ module _ {Cell : Type 0} (q : QueryFacts Cell) (job : JobFacts) where
           a.3)),
     )
 
-    brought_cells : (k : ℕ) → bin_of_key k job.shape.bins ≡ b → cell_in (q.fresh h.stage) s.cells k ≡ fold_of q h.stage (q.fresh h.stage) (filter (λ e. is_taken_in log h.stage (Some t) e.time k) (timeline_of q job h.stage k))
+    brought_cells : (k : ℕ) → bin_of_key k job.shape.bins ≡ b → cell_in (q.fresh h.stage) s.cells k ≡ fold_of q h.stage (q.opening h.stage k) (filter (λ e. is_taken_in log h.stage (Some t) e.time k) (timeline_of q job h.stage k))
     brought_cells k own =
         let j = h.stage in
         before.cells k own
-        ∙ ap (fold_of q j (q.fresh j))
+        ∙ ap (fold_of q j (q.opening j k))
         (sym (take_below (λ (e : Entry). e.time) (λ (e : Entry). is_taken_in log j (Some t) e.time k) t (timeline_of q job j k) (timeline_rises q j k (stage_records q job.events j))
         (λ e i l. or_left (nat_lt e.time t) (has log.applied (Group j e.time k)) (lt-ltb e.time t l))
         (λ e i l. or_from (nat_lt e.time t) (has log.applied (Group j e.time k)) (le-ltb e.time t l) (late e.time k own l))))

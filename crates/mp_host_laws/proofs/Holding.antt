@@ -38,7 +38,7 @@ module _ {Cell : Type 0} (q : QueryFacts Cell) (job : JobFacts) where
     );
     cells = λ k b.
         is.cells k b
-        ∙ ap (fold_of q j (q.fresh j)) (filter_within (λ (f : Entry). is_taken_in old j s.since f.time k) (λ (f : Entry). is_taken_in new j s.since f.time k) (timeline_of q job j k) (λ f i. taken_same old new e j s.since f.time k));
+        ∙ ap (fold_of q j (q.opening j k)) (filter_within (λ (f : Entry). is_taken_in old j s.since f.time k) (λ (f : Entry). is_taken_in new j s.since f.time k) (timeline_of q job j k) (λ f i. taken_same old new e j s.since f.time k));
   }
 
 -- Hosts by their parts

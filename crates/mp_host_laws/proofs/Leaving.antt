@@ -141,7 +141,7 @@ module _ {Cell : Type 0} (q : QueryFacts Cell) (job : JobFacts) (sound : Outline
         → cell_in (q.fresh h.stage) s.state.cells k ≡ cell_before q h.stage (stage_records q job.events h.stage) k t
     left_cells s bin stays st k own =
         st.cells k (own ∙ sym bin)
-        ∙ ap (fold_of q h.stage (q.fresh h.stage))
+        ∙ ap (fold_of q h.stage (q.opening h.stage k))
         (take_below (λ (e : Entry). e.time) (λ (e : Entry). is_taken_in log h.stage s.since e.time k) t (timeline_of q job h.stage k) (timeline_rises q h.stage k (stage_records q job.events h.stage))
         (taken_early s.since stays k own) (λ e i l. taken_late s.since stays k own e.time l))
 

@@ -6,14 +6,16 @@ use Rattle.mp_names.specs.declared.names.Name.{Name}
 use Rattle.mp_names.specs.declared.names.Name.TheVariants.{Rec, Packet, Group}
 use Rattle.mp_names.specs.declared.names.Tag.{Tag}
 use Rattle.mp_names.specs.Names.{has, In, is_group, IsAscending, IsPrefix, Less}
-use Rattle.mp_names.specs.Outlines.{Outline, OutlineIsSound, group_owner, groups_of, is_posted}
-use Rattle.mp_names.specs.Logs.{Log, LogIsLegal, brings_wake, has_record, has_wake, is_pending, is_record_of, is_owned, is_wake_here, left_since, owned_groups}
+use Rattle.mp_names.specs.Outlines.{Outline, OutlineIsSound, group_owner, groups_of, due_groups, is_posted}
+use Rattle.mp_names.specs.Logs.{Log, LogIsLegal, brings_wake, has_record, has_wake, is_opening_here, is_pending, is_record_of, is_owned, is_wake_here, left_since, owned_groups}
 use Rattle.mp_names.proofs.Lists.{any_at, any_from, filter_In, In_append, In_filter, In_here, In_left, In_push, In_right}
 use Rattle.mp_names.proofs.Orders.{before_rest, filter_ascends, less_irreflexive, less_trans}
-use Rattle.mp_names.proofs.Listed.{groups_ascend, posted_group}
-use Rattle.mp_names.proofs.Hosts.{Brought, brought_at, brought_from, left_at, left_from}
+use Rattle.mp_names.proofs.Listed.{due_groups_ascend, earlier_stop, group_due, posted_group}
+use Rattle.mp_names.proofs.Steps.{applied_before_stop}
+use Rattle.mp_names.proofs.Hosts.{Brought, brought_at, brought_from, left_at, left_from, opening_at}
 use Rattle.mp_model.specs.Facts.{JobFacts, QueryFacts}
 use Rattle.mp_outline.specs.JobOutline.{outline_of}
+use Rattle.mp_outline.proofs.Whole.{NothingOpens}
 use Rattle.mp_msg.specs.States.{IsPostedAt}
 use Rattle.mp_host_laws.specs.Hosted.{began_before}
 use Rattle.mp_host_laws.specs.HostOf.{CameInto, IsInHandSince}
@@ -33,8 +35,12 @@ IsKept o log j k s u = (In (Group j s k) log.applied × (left_since log j (o.bin
 abbrev pub IsHere : Outline → Log → ℕ → ℕ → ℕ → Type 0
 IsHere o log j u k = (s : ℕ) × (g : Tag) × In (Rec j s k g) (o.records j) × (is_posted o (Rec j s k g) u ≡ true) × IsKept o log j k s u
 
-pub wake_here : (o : Outline) → OutlineIsSound o → (log : Log) (j u k : ℕ) → has_wake o log j u k ≡ true → IsHere o log j u k
-wake_here o sound log j u k h = let r = any_at (is_wake_here o log j u k) (o.records j) h in form r.0 r.1 r.2
+pub wake_here : (o : Outline) → OutlineIsSound o → ((j : ℕ) (x : Name) → In x (o.opening j) → ⊥) → (w : ℕ) (log : Log) (j u k : ℕ) → has_wake o w log j u k ≡ true → IsHere o log j u k
+wake_here o sound none w log j u k h =
+    ⊎_elim
+    (λ (e : is_opening_here o w log j u k ≡ true). absurd (none j (Group j u k) (opening_at o w log j u k e).0))
+    (λ (e : list_any (is_wake_here o log j u k) (o.records j) ≡ true). let r = any_at (is_wake_here o log j u k) (o.records j) e in form r.0 r.1 r.2)
+    (or_cases (is_opening_here o w log j u k) (list_any (is_wake_here o log j u k) (o.records j)) h)
   where
     form : (x : Name) → In x (o.records j) → is_wake_here o log j u k x ≡ true → IsHere o log j u k
     form (Rec i s l g) f e =
@@ -57,8 +63,8 @@ wake_here o sound log j u k h = let r = any_at (is_wake_here o log j u k) (o.rec
         )
     form _ f e = absurd (false≢true e)
 
-pub here_wake : (o : Outline) (log : Log) (j u k : ℕ) → IsHere o log j u k → has_wake o log j u k ≡ true
-here_wake o log j u k p =
+pub here_wake : (o : Outline) (w : ℕ) (log : Log) (j u k : ℕ) → IsHere o log j u k → has_wake o w log j u k ≡ true
+here_wake o w log j u k p =
     let s = p.0 in
     let b = o.bin_of k in
     let x = Rec j s k p.1 in
@@ -69,7 +75,8 @@ here_wake o log j u k p =
     (λ (c : In (Group j s k) log.applied × (left_since log j b s ≡ false)). or_left (applied && not left) brought (and_from applied (not left) c.0 (not_from_false left c.1)))
     (λ (c : Brought log j b s u). or_right (applied && not left) brought (brought_from log j b s u c))
     p.4 in
-    any_from (is_wake_here o log j u k) x (o.records j) p.2 (and_from (k == k) (is_posted o x u && (applied && not left || brought)) (eq-eqb k k refl) (and_from (is_posted o x u) (applied && not left || brought) p.3 kept))
+    or_right (is_opening_here o w log j u k) (list_any (is_wake_here o log j u k) (o.records j))
+    (any_from (is_wake_here o log j u k) x (o.records j) p.2 (and_from (k == k) (is_posted o x u && (applied && not left || brought)) (eq-eqb k k refl) (and_from (is_posted o x u) (applied && not left || brought) p.3 kept)))
 
 -- a wake that is here has a group
 pub here_in_groups : (o : Outline) (log : Log) (j u k : ℕ) → IsHere o log j u k → In (Group j u k) (groups_of o j)
@@ -80,7 +87,7 @@ pub still_later : (log : Log) (j b m s : ℕ) → m ≤ s → left_since log j b
 still_later log j b m s l e =
     false_from_ne_true (left_since log j b s) (λ h. let r = left_at log j b s h in let g : s < r.0 = r.1 in both_ways (left_since log j b m) e (left_from log j b m r.0 (omega arith) r.2))
 
-module _ {Cell : Type 0} (q : QueryFacts Cell) (job : JobFacts) (sound : OutlineIsSound (outline_of q job)) (w : ℕ) (log : Log) (legal : LogIsLegal (outline_of q job) w log) where
+module _ {Cell : Type 0} (q : QueryFacts Cell) (job : JobFacts) (sound : OutlineIsSound (outline_of q job)) (opens : NothingOpens q job) (w : ℕ) (log : Log) (legal : LogIsLegal (outline_of q job) w log) where
   -- The wake that a record of the key at some time posts came into a state of the key's bin that is in hand
   abbrev pub HasSource : ℕ → ℕ → ℕ → Type 0
   HasSource j u k = (since : Option ℕ) × IsInHandSince q job w log j ((outline_of q job).bin_of k) since × (v : ℕ) × IsPostedAt q job j k v u × CameInto log j since k v u
@@ -96,47 +103,47 @@ module _ {Cell : Type 0} (q : QueryFacts Cell) (job : JobFacts) (sound : Outline
       came None own began = (None, own, v, posted, applied)
       came (Some m) own began = let l : m < suc v = ltb-true m (suc v) began in (Some m, own, v, posted, inr (omega arith, applied))
 
-  pub wake_source : (j u k : ℕ) → has_wake (outline_of q job) log j u k ≡ true → HasSource j u k
+  pub wake_source : (j u k : ℕ) → has_wake (outline_of q job) w log j u k ≡ true → HasSource j u k
   wake_source j u k h =
       let o = outline_of q job in
-      let p = wake_here o sound log j u k h in
+      let p = wake_here o sound opens w log j u k h in
       ⊎_elim
       (λ (c : In (Group j p.0 k) log.applied × (left_since log j (o.bin_of k) p.0 ≡ false)). applied_source j u k p.0 (p.1, p.2, p.3) c.0 c.1)
       (λ (c : Brought log j (o.bin_of k) p.0 u). (Some c.0, (c.4, c.3), p.0, (p.1, p.2, p.3), inl (c.1, c.2)))
       p.4
 
   -- and the other way round
-  pub source_wake : (j u k : ℕ) → HasSource j u k → has_wake (outline_of q job) log j u k ≡ true
+  pub source_wake : (j u k : ℕ) → HasSource j u k → has_wake (outline_of q job) w log j u k ≡ true
   source_wake j u k h = form h.0 h.1 h.2 h.3 h.4
     where
-      form : (since : Option ℕ) → IsInHandSince q job w log j ((outline_of q job).bin_of k) since → (v : ℕ) → IsPostedAt q job j k v u → CameInto log j since k v u → has_wake (outline_of q job) log j u k ≡ true
+      form : (since : Option ℕ) → IsInHandSince q job w log j ((outline_of q job).bin_of k) since → (v : ℕ) → IsPostedAt q job j k v u → CameInto log j since k v u → has_wake (outline_of q job) w log j u k ≡ true
       form None own v posted came =
           let b = (outline_of q job).bin_of k in
           let still = false_from_ne_true (left_since log j b v) (λ e. let r = left_at log j b v e in both_ways (has log.sent (Packet j b r.0)) (own.2 r.0) r.2) in
-          here_wake (outline_of q job) log j u k (v, posted.0, posted.1, posted.2, inl (came, still))
+          here_wake (outline_of q job) w log j u k (v, posted.0, posted.1, posted.2, inl (came, still))
       form (Some m) own v posted came =
           let b = (outline_of q job).bin_of k in
           let kept : IsKept (outline_of q job) log j k v u = ⊎_elim
           (λ (c : (v < m) × (m ≤ u)). inr (m, c.0, c.1, own.1, own.0))
           (λ (c : (m ≤ v) × In (Group j v k) log.applied). inl (c.1, still_later log j b m v c.0 own.1))
           came in
-          here_wake (outline_of q job) log j u k (v, posted.0, posted.1, posted.2, kept)
+          here_wake (outline_of q job) w log j u k (v, posted.0, posted.1, posted.2, kept)
 
 -- What waits
 
 -- a group that waits isn't applied, and a record of it is taken or its wake is here
-pub pending_is : (o : Outline) (log : Log) (j u k : ℕ) → is_pending o log (Group j u k) ≡ true → (has log.applied (Group j u k) ≡ false) × ((has_record log j u k ≡ true) ⊎ (has_wake o log j u k ≡ true))
-pending_is o log j u k e =
-    let p = and_parts (not (has log.applied (Group j u k))) (has_record log j u k || has_wake o log j u k) e in
-    (not-true (has log.applied (Group j u k)) p.0, or_cases (has_record log j u k) (has_wake o log j u k) p.1)
+pub pending_is : (o : Outline) (w : ℕ) (log : Log) (j u k : ℕ) → is_pending o w log (Group j u k) ≡ true → (has log.applied (Group j u k) ≡ false) × ((has_record log j u k ≡ true) ⊎ (has_wake o w log j u k ≡ true))
+pending_is o w log j u k e =
+    let p = and_parts (not (has log.applied (Group j u k))) (has_record log j u k || has_wake o w log j u k) e in
+    (not-true (has log.applied (Group j u k)) p.0, or_cases (has_record log j u k) (has_wake o w log j u k) p.1)
 
-pub record_pends : (o : Outline) (log : Log) (j u k : ℕ) → has log.applied (Group j u k) ≡ false → has_record log j u k ≡ true → is_pending o log (Group j u k) ≡ true
-record_pends o log j u k n h =
-    and_from (not (has log.applied (Group j u k))) (has_record log j u k || has_wake o log j u k) (not_from_false (has log.applied (Group j u k)) n) (or_left (has_record log j u k) (has_wake o log j u k) h)
+pub record_pends : (o : Outline) (w : ℕ) (log : Log) (j u k : ℕ) → has log.applied (Group j u k) ≡ false → has_record log j u k ≡ true → is_pending o w log (Group j u k) ≡ true
+record_pends o w log j u k n h =
+    and_from (not (has log.applied (Group j u k))) (has_record log j u k || has_wake o w log j u k) (not_from_false (has log.applied (Group j u k)) n) (or_left (has_record log j u k) (has_wake o w log j u k) h)
 
-pub wake_pends : (o : Outline) (log : Log) (j u k : ℕ) → has log.applied (Group j u k) ≡ false → has_wake o log j u k ≡ true → is_pending o log (Group j u k) ≡ true
-wake_pends o log j u k n h =
-    and_from (not (has log.applied (Group j u k))) (has_record log j u k || has_wake o log j u k) (not_from_false (has log.applied (Group j u k)) n) (or_right (has_record log j u k) (has_wake o log j u k) h)
+pub wake_pends : (o : Outline) (w : ℕ) (log : Log) (j u k : ℕ) → has log.applied (Group j u k) ≡ false → has_wake o w log j u k ≡ true → is_pending o w log (Group j u k) ≡ true
+wake_pends o w log j u k n h =
+    and_from (not (has log.applied (Group j u k))) (has_record log j u k || has_wake o w log j u k) (not_from_false (has log.applied (Group j u k)) n) (or_right (has_record log j u k) (has_wake o w log j u k) h)
 
 -- a record of the group that is taken
 pub record_taken : (log : Log) (j u k : ℕ) → has_record log j u k ≡ true → (g : Tag) × In (Rec j u k g) log.took
@@ -180,7 +187,11 @@ pub applied_before : (o : Outline) (w : ℕ) (log : Log) → LogIsLegal o w log 
 applied_before o w log legal j t u k group mine applied less =
     let below = (legal.applied_ready (Group j u k) applied).0 in
     let later = filter_In (is_group j) (Group j u k) log.applied applied (eq-eqb j j refl) in
-    let own = filter_In (is_owned o w) (Group j t k) (groups_of o j) group (eq-eqb (group_owner o j t k) w mine) in
-    let ascends = filter_ascends (is_owned o w) (groups_of o j) (groups_ascend o j) in
+    let early = earlier_stop o.until t u (sooner less) (applied_before_stop o w log legal j u k applied) in
+    let own = filter_In (is_owned o w) (Group j t k) (due_groups o j) (group_due o j (Group j t k) group early) (eq-eqb (group_owner o j t k) w mine) in
+    let ascends = filter_ascends (is_owned o w) (due_groups o j) (due_groups_ascend o j) in
     let here = prefix_before (filter (is_group j) log.applied) (owned_groups o w j) (Group j u k) (Group j t k) ascends (legal.applied_in_order j below) later own less in
     (In_filter (is_group j) (Group j t k) log.applied here).0
+  where
+    sooner : Less (Group j t k) (Group j u k) → t ≤ u
+    sooner less = omega arith

@@ -12,6 +12,7 @@ use Rattle.mp_job.proofs.Members.{Contains-filter, filter-Contains}
 use Rattle.mp_model.specs.declared.record.Rec.{Rec}
 use Rattle.mp_model.specs.Facts.{JobFacts, QueryFacts}
 use Rattle.mp_outline.specs.JobOutline.{outline_of}
+use Rattle.mp_outline.proofs.Whole.{NothingOpens}
 use Rattle.mp_msg.specs.States.{BinContent, IsStateBefore}
 use Rattle.mp_host_laws.specs.declared.held.Held.{Held}
 use Rattle.mp_host_laws.specs.Hosted.{Hosted, StandsInOrder, StateStands, has_wake_at, has_wake_in, is_of, waits_at, wakes_in}
@@ -60,18 +61,19 @@ module _ {Cell : Type 0} (one : Held Cell) (less more : Hosted Cell) (records : 
       idle : ℕ × ℕ → Bool
       idle w = not (waits_at less w.0 w.1)
 
-module _ {Cell : Type 0} (q : QueryFacts Cell) (job : JobFacts) (sound : OutlineIsSound (outline_of q job)) where
+module _ {Cell : Type 0} (q : QueryFacts Cell) (job : JobFacts) (sound : OutlineIsSound (outline_of q job)) (opens : NothingOpens q job) where
   -- a host that holds what a log says tells by it whether a group waits
-  told_by : (log : Log) (j w : ℕ) (h : Hosted Cell) → h.stage ≡ j → h.worker ≡ w → IsHostOf q job log h → LogIsLegal (outline_of q job) w log → StandsInOrder q job h → (u k : ℕ) → waits_at h u k ≡ is_pending (outline_of q job) log (Group j u k)
+  told_by : (log : Log) (j w : ℕ) (h : Hosted Cell) → h.stage ≡ j → h.worker ≡ w → IsHostOf q job log h → LogIsLegal (outline_of q job) w log → StandsInOrder q job h → (u k : ℕ) → waits_at h u k ≡ is_pending (outline_of q job) w log (Group j u k)
   told_by log j w h a b host good standing u k =
-      waits_is_pending q job sound log h host (subst (λ (n : ℕ). LogIsLegal (outline_of q job) n log) (sym b) good) standing u k
-      ∙ ap (λ (n : ℕ). is_pending (outline_of q job) log (Group n u k)) a
+      waits_is_pending q job sound opens log h host (subst (λ (n : ℕ). LogIsLegal (outline_of q job) n log) (sym b) good) standing u k
+      ∙ ap (λ (n : ℕ). is_pending (outline_of q job) h.worker log (Group n u k)) a
+      ∙ ap (λ (n : ℕ). is_pending (outline_of q job) n log (Group j u k)) b
 
   -- what a wake tells at two hosts it tells by their logs
-  by_logs : (less more : Log) (old new : Hosted Cell) (one : BinContent Cell) (j u k : ℕ) → waits_at old u k ≡ is_pending (outline_of q job) more (Group j u k) → waits_at new u k ≡ is_pending (outline_of q job) less (Group j u k)
+  by_logs : (w : ℕ) (less more : Log) (old new : Hosted Cell) (one : BinContent Cell) (j u k : ℕ) → waits_at old u k ≡ is_pending (outline_of q job) w more (Group j u k) → waits_at new u k ≡ is_pending (outline_of q job) w less (Group j u k)
       → (Contains (not_waiting new one) (u, k) ↔ ((waits_at old u k ≡ true) × (waits_at new u k ≡ false)))
-      → (Contains (not_waiting new one) (u, k) ↔ ((is_pending (outline_of q job) more (Group j u k) ≡ true) × (is_pending (outline_of q job) less (Group j u k) ≡ false)))
-  by_logs less more old new one j u k a b told = (
+      → (Contains (not_waiting new one) (u, k) ↔ ((is_pending (outline_of q job) w more (Group j u k) ≡ true) × (is_pending (outline_of q job) w less (Group j u k) ≡ false)))
+  by_logs w less more old new one j u k a b told = (
     (λ i. let r = told.0 i in (sym a ∙ r.0, sym b ∙ r.1)),
     (λ r. told.1 (a ∙ r.0, b ∙ r.1)),
   )
@@ -102,7 +104,7 @@ module _ {Cell : Type 0} (q : QueryFacts Cell) (job : JobFacts) (sound : Outline
       let without = bin_left q job sound log old b t host good may one new taken in
       let there = other_was_here q job sound log old b t host good may one new taken in
       let standing_new = stands_without b t one old new taken there standing in
-      by_logs (with_sent log (Packet old.stage b t)) log old new one.state old.stage u k
+      by_logs old.worker (with_sent log (Packet old.stage b t)) log old new one.state old.stage u k
       (told_by log old.stage old.worker old refl refl host good standing u k)
       (told_by (with_sent log (Packet old.stage b t)) old.stage old.worker new taken.stage taken.worker without may.legal standing_new u k)
       (one_told one new old (sym taken.records) (one_was_here q job sound log old b t host good may one new taken)
@@ -121,7 +123,7 @@ module _ {Cell : Type 0} (q : QueryFacts Cell) (job : JobFacts) (sound : Outline
       let inside = (move_in_shape (outline_of q job) sound old.stage b t comes.0).1 in
       let standing_new = stands_with b t s old new inside before put standing in
       let good_new = took_keeps (outline_of q job) old.worker log good (Packet old.stage b t) untaken comes in
-      by_logs log came new old s old.stage u k
+      by_logs old.worker log came new old s old.stage u k
       (told_by came old.stage old.worker new put.stage put.worker with_it good_new standing_new u k)
       (told_by log old.stage old.worker old refl refl host good standing u k)
       (one_told one old new put.records (subst (λ (hs : List (Held Cell)). Contains hs one) (sym put.held) (Contains-push old.held one))

@@ -16,6 +16,7 @@ use Rattle.mp_model.specs.Facts.{JobFacts, QueryFacts}
 use Rattle.mp_outline.specs.JobOutline.{outline_of}
 use Rattle.mp_outline.proofs.Found.{found, found_there}
 use Rattle.mp_outline.proofs.Stages.{record_named}
+use Rattle.mp_outline.proofs.Whole.{NothingOpens}
 use Rattle.mp_postdated.specs.Wakes.{Has}
 use Rattle.mp_host_laws.specs.declared.held.Held.{Held}
 use Rattle.mp_host_laws.specs.Hosted.{Hosted, StandsInOrder, StateStands, has_wake_at, has_wake_in, is_of, is_wake, wakes_in, waits_at}
@@ -77,12 +78,12 @@ module _ {Cell : Type 0} (q : QueryFacts Cell) (job : JobFacts) (log : Log) (h :
   pub state_is : (s : Held Cell) → Contains h.held s → IsStateOf q job log h.stage s
   state_is s i = All-contains (IsStateOf q job log h.stage) h.held s host.states i
 
-module _ {Cell : Type 0} (q : QueryFacts Cell) (job : JobFacts) (sound : OutlineIsSound (outline_of q job)) (log : Log) (h : Hosted Cell) (host : IsHostOf q job log h) (legal : LogIsLegal (outline_of q job) h.worker log) (denotes : StandsInOrder q job h) where
+module _ {Cell : Type 0} (q : QueryFacts Cell) (job : JobFacts) (sound : OutlineIsSound (outline_of q job)) (opens : NothingOpens q job) (log : Log) (h : Hosted Cell) (host : IsHostOf q job log h) (legal : LogIsLegal (outline_of q job) h.worker log) (denotes : StandsInOrder q job h) where
   -- a wake by the log, of a group that isn't applied, is one of a state that is here
-  pub log_wake_here : (t k : ℕ) → has_wake (outline_of q job) log h.stage t k ≡ true → has log.applied (Group h.stage t k) ≡ false → has_wake_at h t k ≡ true
+  pub log_wake_here : (t k : ℕ) → has_wake (outline_of q job) h.worker log h.stage t k ≡ true → has log.applied (Group h.stage t k) ≡ false → has_wake_at h t k ≡ true
   log_wake_here t k e unapplied =
       let j = h.stage in
-      let p = wake_source q job sound h.worker log legal j t k e in
+      let p = wake_source q job sound opens h.worker log legal j t k e in
       let r = state_since q job log h host (bin_of_key k job.shape.bins) p.0 p.1 in
       let s = r.0 in
       let came = subst (λ (since : Option ℕ). CameInto log j since k p.2 t) (sym r.3) p.4 in
@@ -93,7 +94,7 @@ module _ {Cell : Type 0} (q : QueryFacts Cell) (job : JobFacts) (sound : Outline
   wake_bin s t k i w = (All-contains (StateStands q job h.stage) h.held s denotes.states i).own.wakes t k w
 
   -- and the other way round
-  pub wake_in_log : (t k : ℕ) → has_wake_at h t k ≡ true → (has_wake (outline_of q job) log h.stage t k ≡ true) × (has log.applied (Group h.stage t k) ≡ false)
+  pub wake_in_log : (t k : ℕ) → has_wake_at h t k ≡ true → (has_wake (outline_of q job) h.worker log h.stage t k ≡ true) × (has log.applied (Group h.stage t k) ≡ false)
   wake_in_log t k e =
       let j = h.stage in
       let r = in_state h t k e in
@@ -101,9 +102,9 @@ module _ {Cell : Type 0} (q : QueryFacts Cell) (job : JobFacts) (sound : Outline
       let bin = wake_bin s t k r.1 r.2 in
       let a = ((state_is q job log h host s r.1).wakes t k bin).0 r.2 in
       let own = subst (λ (b : ℕ). IsInHandSince q job h.worker log j b s.since) (sym bin) (since_state q job log h host s r.1) in
-      (source_wake q job sound h.worker log legal j t k (s.since, own, a.1, a.2, a.3), a.0)
+      (source_wake q job sound opens h.worker log legal j t k (s.since, own, a.1, a.2, a.3), a.0)
 
-  waits_pends : (t k : ℕ) → waits_at h t k ≡ true → is_pending (outline_of q job) log (Group h.stage t k) ≡ true
+  waits_pends : (t k : ℕ) → waits_at h t k ≡ true → is_pending (outline_of q job) h.worker log (Group h.stage t k) ≡ true
   waits_pends t k e =
       let o = outline_of q job in
       let j = h.stage in
@@ -111,9 +112,9 @@ module _ {Cell : Type 0} (q : QueryFacts Cell) (job : JobFacts) (sound : Outline
       (λ (r : (r : Rec) × Contains h.records r × (r.time ≡ t) × (r.key ≡ k)).
       let a = (host.records r.0).0 r.1 in
       let taken = taken_record log j r.0.time r.0.key r.0.tag a.1 in
-      let pends = record_pends o log j r.0.time r.0.key a.2 taken in
-      subst (λ (t : ℕ). is_pending o log (Group j t k) ≡ true) r.2 (subst (λ (k : ℕ). is_pending o log (Group j r.0.time k) ≡ true) r.3 pends))
-      (λ (f : has_wake_at h t k ≡ true). let a = wake_in_log t k f in wake_pends o log j t k a.1 a.0)
+      let pends = record_pends o h.worker log j r.0.time r.0.key a.2 taken in
+      subst (λ (t : ℕ). is_pending o h.worker log (Group j t k) ≡ true) r.2 (subst (λ (k : ℕ). is_pending o h.worker log (Group j r.0.time k) ≡ true) r.3 pends))
+      (λ (f : has_wake_at h t k ≡ true). let a = wake_in_log t k f in wake_pends o h.worker log j t k a.1 a.0)
       (waits_why h t k e)
 
   -- a taken record of a group that isn't applied is here
@@ -128,26 +129,26 @@ module _ {Cell : Type 0} (q : QueryFacts Cell) (job : JobFacts) (sound : Outline
       let unapplied = subst (λ (t : ℕ). has log.applied (Group j t r.key) ≡ false) (sym parts.0) (subst (λ (k : ℕ). has log.applied (Group j t k) ≡ false) (sym parts.1) waits) in
       (r, (host.records r).1 ((owed.0, a.1), taken, unapplied), parts.0, parts.1, parts.2)
 
-  pends_waits : (t k : ℕ) → is_pending (outline_of q job) log (Group h.stage t k) ≡ true → waits_at h t k ≡ true
+  pends_waits : (t k : ℕ) → is_pending (outline_of q job) h.worker log (Group h.stage t k) ≡ true → waits_at h t k ≡ true
   pends_waits t k e =
       let o = outline_of q job in
       let j = h.stage in
-      let p = pending_is o log j t k e in
+      let p = pending_is o h.worker log j t k e in
       ⊎_elim
       (λ (f : has_record log j t k ≡ true). let g = record_taken log j t k f in let r = taken_is_here t k g.0 p.0 g.1 in record_waits h t k r.0 r.1 r.2 r.3)
-      (λ (f : has_wake o log j t k ≡ true). wake_waits h t k (log_wake_here t k f p.0))
+      (λ (f : has_wake o h.worker log j t k ≡ true). wake_waits h t k (log_wake_here t k f p.0))
       p.1
 
   -- a group waits here where it waits by the log
-  pub waits_is_pending : (t k : ℕ) → waits_at h t k ≡ is_pending (outline_of q job) log (Group h.stage t k)
-  waits_is_pending t k = same_test (waits_at h t k) (is_pending (outline_of q job) log (Group h.stage t k)) (waits_pends t k) (pends_waits t k)
+  pub waits_is_pending : (t k : ℕ) → waits_at h t k ≡ is_pending (outline_of q job) h.worker log (Group h.stage t k)
+  waits_is_pending t k = same_test (waits_at h t k) (is_pending (outline_of q job) h.worker log (Group h.stage t k)) (waits_pends t k) (pends_waits t k)
 
   -- and it is one of the outline
-  pub pending_in_groups : (t k : ℕ) → is_pending (outline_of q job) log (Group h.stage t k) ≡ true → In (Group h.stage t k) (groups_of (outline_of q job) h.stage)
+  pub pending_in_groups : (t k : ℕ) → is_pending (outline_of q job) h.worker log (Group h.stage t k) ≡ true → In (Group h.stage t k) (groups_of (outline_of q job) h.stage)
   pending_in_groups t k e =
       let o = outline_of q job in
       let j = h.stage in
       ⊎_elim
       (λ (f : has_record log j t k ≡ true). let g = record_taken log j t k f in record_group o j t k g.0 (legal.took_owed (RecName j t k g.0) g.1).0.1)
-      (λ (f : has_wake o log j t k ≡ true). here_in_groups o log j t k (wake_here o sound log j t k f))
-      (pending_is o log j t k e).1
+      (λ (f : has_wake o h.worker log j t k ≡ true). here_in_groups o log j t k (wake_here o sound opens h.worker log j t k f))
+      (pending_is o h.worker log j t k e).1

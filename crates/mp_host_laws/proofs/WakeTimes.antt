@@ -1,5 +1,5 @@
 -- The times of the wakes of a packet: they are the job's, so there are no more of them.
-use Rattle.std.proofs.Common.{◌≡◌, ◌≢◌, ℕ, zero, suc, ◌<◌, ◌≤◌, ◌==◌, ◌+◌, ◌++◌, Bool, true, cond, not, List, [], ◌∷◌, Contains, count_by, filter, length, map, refl, sym, ap, ◌∙◌, subst, arith}
+use Rattle.std.proofs.Common.{◌≡◌, ◌≢◌, ℕ, zero, suc, ◌<◌, ◌≤◌, ◌==◌, ◌+◌, ◌++◌, Bool, true, cond, not, List, [], ◌∷◌, All, Contains, count_by, filter, length, map, refl, sym, ap, ◌∙◌, subst, arith}
 use Rattle.std.specs.List.{sum_by}
 use Rattle.std.proofs.lemmas.Bool.{eq-eqb, eqb-true}
 use Rattle.std.proofs.lemmas.List.{length-map}
@@ -14,8 +14,11 @@ use Rattle.mp_model.specs.declared.record.Rec.{Rec}
 use Rattle.mp_model.specs.Ascending.{ascending}
 use Rattle.mp_model.specs.Facts.{JobFacts, QueryFacts}
 use Rattle.mp_model.specs.Folds.{times_in}
-use Rattle.mp_model.specs.QueryLaws.{LaterStagesPostNothing}
+use Rattle.mp_model.specs.QueryLaws.{LaterStagesPostNothing, WakesAreInTime}
 use Rattle.mp_model.specs.Stages.{input_records, stage_records}
+use Rattle.mp_model.proofs.SavedWakes.{saved_in_time}
+use Rattle.mp_names.specs.Limits.{last_time}
+use Rattle.mp_job.specs.Legal.{JobIsLegal}
 use Rattle.mp_job.specs.Times.{control_times, times_of}
 use Rattle.mp_job.proofs.Ascents.{Contains-ascending, Rises, Rises-ascending, ascending-Contains}
 use Rattle.mp_job.proofs.Members.{Contains-filter, Contains-here, Contains-later, Contains-map, flat_map-Contains, nothing_in_nil}
@@ -77,6 +80,12 @@ number_has_group groups ns are u i =
     let sums = are.numbers u in
     let one = counted_one (λ (g : ℕ × ℕ). g.0 == u) groups (λ e. some (omega arith)) in
     (one.0, one.1, eqb-true (one.0).0 u one.2)
+
+-- The wakes that a stage begins with
+
+-- none is too late
+pub wakes_in_time : {Cell : Type 0} (q : QueryFacts Cell) (job : JobFacts) → JobIsLegal q job → (j : ℕ) → WakesAreInTime q j
+wakes_in_time q job legal j = subst (All (λ (w : ℕ × ℕ). w.0 ≤ last_time)) (sym (legal.table.waking j)) (saved_in_time q job.from legal.saved j)
 
 -- The wakes of a packet
 

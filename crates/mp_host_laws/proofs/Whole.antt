@@ -21,8 +21,8 @@ use Rattle.mp_model.specs.declared.record.Rec.{Rec}
 use Rattle.mp_model.specs.Entry.{Entry}
 use Rattle.mp_model.specs.Facts.{JobFacts, QueryFacts}
 use Rattle.mp_model.specs.Folds.{cell_before, FitsAlong, fold_of}
-use Rattle.mp_model.specs.QueryLaws.{LaterStagesPostNothing, SumsFit}
-use Rattle.mp_model.specs.Stages.{stage_records}
+use Rattle.mp_model.specs.QueryLaws.{LaterStagesPostNothing}
+use Rattle.mp_model.specs.Stages.{FoldsFit, stage_records}
 use Rattle.mp_job.specs.Legal.{JobIsLegal}
 use Rattle.mp_job.proofs.Members.{nothing_in_nil, Contains-cases, Contains-filter, filter-Contains}
 use Rattle.mp_outline.specs.JobOutline.{outline_of}
@@ -32,6 +32,7 @@ use Rattle.mp_outline.proofs.Pairs.{Pairs, Pairs-filter, Pairs-within}
 use Rattle.mp_outline.proofs.Records.{records_in_order, same_record}
 use Rattle.mp_outline.proofs.Stages.{group_named, name_stands}
 use Rattle.mp_outline.proofs.Timelines.{groups_are_on, wakes_are}
+use Rattle.mp_outline.proofs.Whole.{NothingOpens}
 use Rattle.mp_msg.specs.States.{cell_in}
 use Rattle.mp_msg.proofs.Ordered.{same_ordered}
 use Rattle.mp_host_laws.specs.declared.held.Held.{Held}
@@ -97,7 +98,7 @@ fits_at q j cell e (f ∷ es) h i fits =
     rw (take_while-cons (λ (g : Entry). nat_lt g.time e.time) f es, l) (fits_at q j (q.step j cell f) e es h.1 k fits.1))
     (Contains-cases f e es i)
 
-module _ {Cell : Type 0} (q : QueryFacts Cell) (nothing : LaterStagesPostNothing q) (job : JobFacts) (sound : OutlineIsSound (outline_of q job)) (log : Log) (h : Hosted Cell) (t k : ℕ)
+module _ {Cell : Type 0} (q : QueryFacts Cell) (nothing : LaterStagesPostNothing q) (job : JobFacts) (sound : OutlineIsSound (outline_of q job)) (opens : NothingOpens q job) (log : Log) (h : Hosted Cell) (t k : ℕ)
     (host : IsHostOf q job log h) (legal : LogIsLegal (outline_of q job) h.worker log) (denotes : StandsInOrder q job h) (below : h.stage < job.shape.stages)
     (full : GroupIsWhole (outline_of q job) h.worker log h.stage t k) (unapplied : has log.applied (Group h.stage t k) ≡ false) (group : In (Group h.stage t k) (groups_of (outline_of q job) h.stage)) where
   -- The records
@@ -153,7 +154,7 @@ module _ {Cell : Type 0} (q : QueryFacts Cell) (nothing : LaterStagesPostNothing
   -- The wake
 
   wake_is_known : has_wake_at h t k ≡ (group_at q job h.stage t k).woken
-  wake_is_known = same_test (has_wake_at h t k) (has_wake (outline_of q job) log h.stage t k) (λ e. (wake_in_log q job sound log h host legal denotes t k e).0) (λ e. log_wake_here q job sound log h host legal denotes t k e unapplied) ∙ full.wake_known ∙ wakes_are q nothing job h.stage t k below
+  wake_is_known = same_test (has_wake_at h t k) (has_wake (outline_of q job) h.worker log h.stage t k) (λ e. (wake_in_log q job sound opens log h host legal denotes t k e).0) (λ e. log_wake_here q job sound opens log h host legal denotes t k e unapplied) ∙ full.wake_known ∙ wakes_are q nothing job h.stage t k below
 
   pub group_is_whole : group_here h t k ≡ group_at q job h.stage t k
   group_is_whole =
@@ -213,13 +214,12 @@ module _ {Cell : Type 0} (q : QueryFacts Cell) (nothing : LaterStagesPostNothing
       → cell_in (q.fresh h.stage) s.state.cells k ≡ cell_before q h.stage (stage_records q job.events h.stage) k t
   state_cell a stays s here bin since =
       let j = h.stage in
-      let fresh = q.fresh j in
       let timeline = timeline_of q job j k in
       let began = stay_began (outline_of q job) log j (bin_of_key k job.shape.bins) (suc t) a stays in
       let is = All-contains (IsStateOf q job log j) h.held s host.states here in
       is.cells k (sym bin)
-      ∙ ap (λ (c : Option ℕ). fold_of q j fresh (filter (λ (e : Entry). is_taken_in log j c e.time k) timeline)) since
-      ∙ ap (fold_of q j fresh) (take_below (λ (e : Entry). e.time) (λ (e : Entry). is_taken_in log j a e.time k) t timeline (timeline_rises q j k (stage_records q job.events j)) (earlier_taken a stays) (λ e i l. later_not_taken a began e.time l))
+      ∙ ap (λ (c : Option ℕ). fold_of q j (q.opening j k) (filter (λ (e : Entry). is_taken_in log j c e.time k) timeline)) since
+      ∙ ap (fold_of q j (q.opening j k)) (take_below (λ (e : Entry). e.time) (λ (e : Entry). is_taken_in log j a e.time k) t timeline (timeline_rises q j k (stage_records q job.events j)) (earlier_taken a stays) (λ e i l. later_not_taken a began e.time l))
 
   cell_is_before : cell_at (q.fresh h.stage) job.shape.bins h t k ≡ cell_before q h.stage (stage_records q job.events h.stage) k t
   cell_is_before =
@@ -230,15 +230,15 @@ module _ {Cell : Type 0} (q : QueryFacts Cell) (nothing : LaterStagesPostNothing
   pub on_timeline : Contains (timeline_of q job h.stage k) (group_at q job h.stage t k)
   on_timeline = (groups_are_on q nothing job sound h.stage t k below).0 group
 
-  group_fits : SumsFit q → JobIsLegal q job → q.fits h.stage (cell_at (q.fresh h.stage) job.shape.bins h t k) (group_here h t k) ≡ true
+  group_fits : FoldsFit q job.events → JobIsLegal q job → q.fits h.stage (cell_at (q.fresh h.stage) job.shape.bins h t k) (group_here h t k) ≡ true
   group_fits fit job_legal =
       let j = h.stage in
       let same : job.shape.stages ≡ q.stages = job_legal.stages in
-      let along = fit job.events job_legal.events j k (omega arith) in
-      let at = fits_at q j (q.fresh j) (group_at q job j t k) (timeline_of q job j k) (timeline_rises q j k (stage_records q job.events j)) on_timeline along in
+      let along = fit j k (omega arith) in
+      let at = fits_at q j (q.opening j k) (group_at q job j t k) (timeline_of q job j k) (timeline_rises q j k (stage_records q job.events j)) on_timeline along in
       rw (cell_is_before, group_is_whole) at
 
-  pub is_whole_here : SumsFit q → JobIsLegal q job → IsWholeHere q job h t k
+  pub is_whole_here : FoldsFit q job.events → JobIsLegal q job → IsWholeHere q job h t k
   is_whole_here fit job_legal = record {
     group = group_is_whole;
     in_hand = ap is_some state_here.2.found;
@@ -246,25 +246,25 @@ module _ {Cell : Type 0} (q : QueryFacts Cell) (nothing : LaterStagesPostNothing
     fits = group_fits fit job_legal;
   }
 
-module _ {Cell : Type 0} (q : QueryFacts Cell) (job : JobFacts) (sound : OutlineIsSound (outline_of q job)) (log : Log) (seen : Seen) (h : Hosted Cell) (t k : ℕ)
+module _ {Cell : Type 0} (q : QueryFacts Cell) (job : JobFacts) (sound : OutlineIsSound (outline_of q job)) (opens : NothingOpens q job) (log : Log) (seen : Seen) (h : Hosted Cell) (t k : ℕ)
     (denotes : StandsInOrder q job h) (informed : HostMatchesLogAndSeen q job log seen h) (below : h.stage < job.shape.stages) (first : first_group h ≡ Some (t, k))
     (mail : HasPassed (seen_at seen (Mail h.stage)) t) (state : HasPassed (seen_at seen (State h.stage)) t) where
-  pub least_here : IsLeast (IsWaiting (outline_of q job) log h.stage) (Group h.stage t k)
-  least_here = first_least q job sound log h informed.host informed.legal denotes t k first
+  pub least_here : IsLeast (IsWaiting (outline_of q job) h.worker log h.stage) (Group h.stage t k)
+  least_here = first_least q job sound opens log h informed.host informed.legal denotes t k first
 
   pub full_here : GroupIsWhole (outline_of q job) h.worker log h.stage t k
   full_here = whole (outline_of q job) sound h.worker log informed.legal h.stage t k least_here (informed.done (Mail h.stage) t below mail) (informed.done (State h.stage) t below state)
 
   pub unapplied_here : has log.applied (Group h.stage t k) ≡ false
-  unapplied_here = pending_new (outline_of q job) log h.stage t k least_here.0.1
+  unapplied_here = pending_new (outline_of q job) h.worker log h.stage t k least_here.0.1
 
   pub ready_here : IsReadyAt q job log seen h t k
   ready_here = record { least = least_here; mail = mail; state = state; in_hand = full_here.bin_in_hand }
 
-module _ {Cell : Type 0} (q : QueryFacts Cell) (nothing : LaterStagesPostNothing q) (fit : SumsFit q) (job : JobFacts) (legal : JobIsLegal q job) (sound : OutlineIsSound (outline_of q job)) where
+module _ {Cell : Type 0} (q : QueryFacts Cell) (nothing : LaterStagesPostNothing q) (job : JobFacts) (fit : FoldsFit q job.events) (legal : JobIsLegal q job) (sound : OutlineIsSound (outline_of q job)) (opens : NothingOpens q job) where
   pub first_is_whole : FirstIsWhole q job
   first_is_whole log seen h t k denotes informed below inside first mail state =
-      let full = full_here q job sound log seen h t k denotes informed below first mail state in
-      let least = least_here q job sound log seen h t k denotes informed below first mail state in
-      let unapplied = unapplied_here q job sound log seen h t k denotes informed below first mail state in
-      (ready_here q job sound log seen h t k denotes informed below first mail state, is_whole_here q nothing job sound log h t k informed.host informed.legal denotes below full unapplied least.0.0 fit legal)
+      let full = full_here q job sound opens log seen h t k denotes informed below first mail state in
+      let least = least_here q job sound opens log seen h t k denotes informed below first mail state in
+      let unapplied = unapplied_here q job sound opens log seen h t k denotes informed below first mail state in
+      (ready_here q job sound opens log seen h t k denotes informed below first mail state, is_whole_here q nothing job sound opens log h t k informed.host informed.legal denotes below full unapplied least.0.0 fit legal)

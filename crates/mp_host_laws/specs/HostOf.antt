@@ -14,7 +14,7 @@ use Rattle.mp_bins.specs.Notes.{Notes, first_owner, owner_at as noted_owner}
 use Rattle.mp_model.specs.declared.record.Rec.{Rec}
 use Rattle.mp_model.specs.Facts.{JobFacts, QueryFacts}
 use Rattle.mp_model.specs.Folds.{fold_of}
-use Rattle.mp_outline.specs.JobOutline.{name_of_record, outline_of}
+use Rattle.mp_outline.specs.JobOutline.{layout_of, name_of_record, outline_of}
 use Rattle.mp_outline.specs.Laws.{timeline_of}
 use Rattle.mp_postdated.specs.Wakes.{Has}
 use Rattle.mp_msg.specs.Contents.{IsRecordOf}
@@ -40,7 +40,7 @@ CameInto log j (Some m) k s u = ((s < m) × (m ≤ u)) ⊎ ((m ≤ s) × In (Gro
 module _ {Cell : Type 0} (q : QueryFacts Cell) (job : JobFacts) where
   -- the worker has had a state of the bin in hand since then: as the first owner, or since it took the packet of that time; and it hasn't left
   abbrev pub IsInHandSince : ℕ → Log → ℕ → ℕ → Option ℕ → Type 0
-  IsInHandSince w log j b None = (b < job.shape.bins) × (first_owner job.shape b ≡ w) × ((m : ℕ) → has log.sent (Packet j b m) ≡ false)
+  IsInHandSince w log j b None = (b < job.shape.bins) × (first_owner (layout_of job) j b ≡ w) × ((m : ℕ) → has log.sent (Packet j b m) ≡ false)
   IsInHandSince w log j b (Some m) = In (Packet j b m) log.took × (left_since log j b m ≡ false)
 
   -- What a state in hand has: the wakes that came into it, of groups that aren't applied, and the cells of its bin's keys after the groups that were taken in
@@ -48,7 +48,7 @@ module _ {Cell : Type 0} (q : QueryFacts Cell) (job : JobFacts) where
     pub wakes : (u k : ℕ) → bin_of_key k job.shape.bins ≡ s.bin
         → (Has (wakes_in s) u k ↔ ((has log.applied (Group j u k) ≡ false) × (v : ℕ) × IsPostedAt q job j k v u × CameInto log j s.since k v u))
     pub cells : (k : ℕ) → bin_of_key k job.shape.bins ≡ s.bin
-        → cell_in (q.fresh j) s.state.cells k ≡ fold_of q j (q.fresh j) (filter (λ e. is_taken_in log j s.since e.time k) (timeline_of q job j k))
+        → cell_in (q.fresh j) s.state.cells k ≡ fold_of q j (q.opening j k) (filter (λ e. is_taken_in log j s.since e.time k) (timeline_of q job j k))
 
   -- The host holds just what the log says of its stage
   pub record IsHostOf (log : Log) (h : Hosted Cell) : Type 0 where
@@ -69,12 +69,12 @@ module _ {Cell : Type 0} (q : QueryFacts Cell) (job : JobFacts) where
 
   -- every control record whose time the frontier of packets has passed is noted: up to there the owners are the job's
   pub record OwnersAreCurrent (notes : Notes) (seen : Seen) (stage : ℕ) : Type 0 where
-    pub shape : notes.shape ≡ job.shape
+    pub shape : notes.layout.shape ≡ job.shape
     pub owners : (t b : ℕ) → HasPassed (seen_at seen (State stage)) t → noted_owner notes stage b t ≡ owner_at (outline_of q job) stage b t
 
   -- the group of this key at this time can be applied: it is the least that waits, all records and packets up to its time have come, and its bin is in hand
   pub record IsReadyAt (log : Log) (seen : Seen) (h : Hosted Cell) (t k : ℕ) : Type 0 where
-    pub least : IsLeast (IsWaiting (outline_of q job) log h.stage) (Group h.stage t k)
+    pub least : IsLeast (IsWaiting (outline_of q job) h.worker log h.stage) (Group h.stage t k)
     pub mail : HasPassed (seen_at seen (Mail h.stage)) t
     pub state : HasPassed (seen_at seen (State h.stage)) t
     pub in_hand : InHand (outline_of q job) h.worker log h.stage ((outline_of q job).bin_of k) t

@@ -7,6 +7,7 @@ use Rattle.mp_bins.specs.Notes.{first_owner}
 use Rattle.mp_model.specs.declared.record.Rec.{Rec}
 use Rattle.mp_model.specs.Ascending.{ascending}
 use Rattle.mp_model.specs.Facts.{JobFacts, QueryFacts}
+use Rattle.mp_outline.specs.JobOutline.{layout_of}
 use Rattle.mp_msg.specs.Contents.{IsRecordOf}
 use Rattle.mp_msg.specs.States.{BinContent, IsInOrder as StateIsInOrder, IsOfBin, cell_in}
 use Rattle.mp_ordered.specs.InOrder.{IsInOrder}
@@ -117,12 +118,12 @@ module _ {Cell : Type 0} where
   abbrev pub empty_state : BinContent Cell
   empty_state = record { cells = []; wakes = [] }
 
-  -- the bins below a number whose first owner the worker is, each with an empty state
-  abbrev pub first_held : JobFacts → ℕ → ℕ → List (Held Cell)
-  first_held job w zero = []
-  first_held job w (suc b) = first_held job w b ++ cond (first_owner job.shape b == w) (record { bin = b; since = None; state = empty_state } ∷ []) []
+  -- the bins of a stage below a number whose first owner the worker is, each with an empty state
+  abbrev pub first_held : JobFacts → ℕ → ℕ → ℕ → List (Held Cell)
+  first_held job j w zero = []
+  first_held job j w (suc b) = first_held job j w b ++ cond (first_owner (layout_of job) j b == w) (record { bin = b; since = None; state = empty_state } ∷ []) []
 
   -- a host that has received and applied nothing has its bins, as their first owner
   pub record IsNew (job : JobFacts) (h : Hosted Cell) : Type 0 where
     pub records : h.records ≡ []
-    pub held : h.held ≡ first_held job h.worker job.shape.bins
+    pub held : h.held ≡ first_held job h.stage h.worker job.shape.bins

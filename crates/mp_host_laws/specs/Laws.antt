@@ -48,8 +48,8 @@ module _ {Cell : Type 0} (q : QueryFacts Cell) (job : JobFacts) where
       → IsHostOf q job log h
       → LogIsLegal (outline_of q job) h.worker log
       → h.stage < job.shape.stages
-      → ((t k : ℕ) → first_group h ≡ Some (t, k) → IsLeast (IsWaiting (outline_of q job) log h.stage) (Group h.stage t k))
-      × (first_group h ≡ None → (t k : ℕ) → IsWaiting (outline_of q job) log h.stage (Group h.stage t k) → ⊥)
+      → ((t k : ℕ) → first_group h ≡ Some (t, k) → IsLeast (IsWaiting (outline_of q job) h.worker log h.stage) (Group h.stage t k))
+      × (first_group h ≡ None → (t k : ℕ) → IsWaiting (outline_of q job) h.worker log h.stage (Group h.stage t k) → ⊥)
 
   -- What a host has of a group that is ready: the whole group, the state of its key's bin, and the key's cell just before it
   pub record IsWholeHere (h : Hosted Cell) (t k : ℕ) : Type 0 where
@@ -96,7 +96,7 @@ module _ {Cell : Type 0} (q : QueryFacts Cell) (job : JobFacts) where
       → first_group h ≡ Some (t, k)
       → HasPassed (seen_at seen (Mail h.stage)) t
       → HasPassed (seen_at seen (State h.stage)) t
-      → (Contains (woken_by q h t k) u ↔ ((is_pending (outline_of q job) (with_applied log (Group h.stage t k)) (Group h.stage u k) ≡ true) × (is_pending (outline_of q job) log (Group h.stage u k) ≡ false)))
+      → (Contains (woken_by q h t k) u ↔ ((is_pending (outline_of q job) h.worker (with_applied log (Group h.stage t k)) (Group h.stage u k) ≡ true) × (is_pending (outline_of q job) h.worker log (Group h.stage u k) ≡ false)))
 
   -- as many groups wait here at a time as wait by the log
   abbrev pub WaitingAreCounted : Type 0
@@ -106,7 +106,7 @@ module _ {Cell : Type 0} (q : QueryFacts Cell) (job : JobFacts) where
       → IsHostOf q job log h
       → LogIsLegal (outline_of q job) h.worker log
       → h.stage < job.shape.stages
-      → length (keys_at h t) ≡ number_at (outline_of q job) (is_pending (outline_of q job) log) t (groups_of (outline_of q job) h.stage)
+      → length (keys_at h t) ≡ number_at (outline_of q job) (is_pending (outline_of q job) h.worker log) t (groups_of (outline_of q job) h.stage)
 
   -- Bins that move
 
@@ -142,7 +142,7 @@ module _ {Cell : Type 0} (q : QueryFacts Cell) (job : JobFacts) where
       → old.stage < job.shape.stages
       → MayLeaveNow log old b t
       → IsTakenOut b t one old new
-      → (Contains (not_waiting new one.state) (u, k) ↔ ((is_pending (outline_of q job) log (Group old.stage u k) ≡ true) × (is_pending (outline_of q job) (with_sent log (Packet old.stage b t)) (Group old.stage u k) ≡ false)))
+      → (Contains (not_waiting new one.state) (u, k) ↔ ((is_pending (outline_of q job) old.worker log (Group old.stage u k) ≡ true) × (is_pending (outline_of q job) old.worker (with_sent log (Packet old.stage b t)) (Group old.stage u k) ≡ false)))
 
   -- a host that gets back what was taken out of it holds what it held
   abbrev pub BinsReturn : Type 0
@@ -177,4 +177,4 @@ module _ {Cell : Type 0} (q : QueryFacts Cell) (job : JobFacts) where
       → has log.took (Packet old.stage b t) ≡ false
       → IsStateBefore q job old.stage b t s
       → IsPutIn (brought b t s) old new
-      → (Contains (not_waiting old s) (u, k) ↔ ((is_pending (outline_of q job) (with_took log (Packet old.stage b t)) (Group old.stage u k) ≡ true) × (is_pending (outline_of q job) log (Group old.stage u k) ≡ false)))
+      → (Contains (not_waiting old s) (u, k) ↔ ((is_pending (outline_of q job) old.worker (with_took log (Packet old.stage b t)) (Group old.stage u k) ≡ true) × (is_pending (outline_of q job) old.worker log (Group old.stage u k) ≡ false)))

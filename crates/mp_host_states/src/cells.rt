@@ -16,15 +16,15 @@ pub fn step_in<Q: Query>(
     cells: &mut IndexMap<u64, Q::Cell>,
     group: &Group,
 ) -> Result<Vec<Value>, AllocError>
-    requires fits { let q = Q.facts (Q.rules query.now) in
+    requires fits { let q = Q.facts (Q.values query.now) in
         q.fits stage (cell_of (q.fresh stage) cells.old group.now.key) group.now ≡ true }
-    ensures cells { let q = Q.facts (Q.rules query.now) in
+    ensures cells { let q = Q.facts (Q.values query.now) in
         OnOk result ((l : ℕ) → cell_of (q.fresh stage) cells.new l
         ≡ cond (l == group.now.key) (q.step stage (cell_of (q.fresh stage) cells.old group.now.key) group.now) (cell_of (q.fresh stage) cells.old l)) }
-    ensures kept { let q = Q.facts (Q.rules query.now) in
+    ensures kept { let q = Q.facts (Q.values query.now) in
         OnOk result ((l : ℕ) (c : Q.Cell) → get nat_eq cells.new l ≡ Some c
         → (get nat_eq cells.old l ≡ Some c) ⊎ ((l ≡ group.now.key) × (c ≢ q.fresh stage))) }
-    ensures outputs { let q = Q.facts (Q.rules query.now) in
+    ensures outputs { let q = Q.facts (Q.values query.now) in
         IfOk result (λ v. v.items ≡ q.gives stage (cell_of (q.fresh stage) cells.old group.now.key) group.now) }
     ensures unchanged { OnErr result (cells.new.entries ≡ cells.old.entries) }
 {
@@ -56,9 +56,9 @@ pub fn most_in<Q: Query>(
     cells: &IndexMap<u64, Q::Cell>,
     group: &Group,
 ) -> u64
-    requires fits { let q = Q.facts (Q.rules query.now) in
+    requires fits { let q = Q.facts (Q.values query.now) in
         q.fits stage (cell_of (q.fresh stage) cells.now group.now.key) group.now ≡ true }
-    ensures { let q = Q.facts (Q.rules query.now) in
+    ensures { let q = Q.facts (Q.values query.now) in
         result ≡ q.most stage (cell_of (q.fresh stage) cells.now group.now.key) group.now }
 {
     match cells.get(&group.key()) {

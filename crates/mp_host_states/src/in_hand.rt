@@ -43,7 +43,7 @@ impl<C: Drop> Model for InHand<C> {
 }
 
 impl<C: Drop> InHand<C> {
-    /// These states without wakes, of bins below `bins`, which is a power of two from 1 to 256. `AllocError`: no memory.
+    /// These states without wakes, of bins below `bins`, which is a power of two from 1 to 4096. `AllocError`: no memory.
     pub fn new(alloc: Global, bins: u32, held: Vec<Held<C>>) -> Result<InHand<C>, AllocError>
         requires bins { IsBinCount bins }
         requires inside { All (λ s. s.bin < bins) held.items }
@@ -165,13 +165,13 @@ pub fn step_group<Q: Query>(
     posts: &[Time],
 ) -> Result<Vec<Value>, AllocError>
     requires in_hand { IsSome (state_for states.old group.now.time group.now.key) }
-    requires fits { let q = Q.facts (Q.rules query.now) in
+    requires fits { let q = Q.facts (Q.values query.now) in
         q.fits stage (cell_for (q.fresh stage) states.old group.now.time group.now.key) group.now ≡ true }
     requires woken { All (λ s. Has s.state.wakes group.now.time group.now.key → group.now.woken ≡ true) states.old.held }
-    ensures stepped { let q = Q.facts (Q.rules query.now) in
+    ensures stepped { let q = Q.facts (Q.values query.now) in
         OnOk result (FirstIsChanged (is_held_before (bin_of_key group.now.key states.old.bins) (suc group.now.time))
         (StateIsStepped q stage group.now posts.now) states.old.held states.new.held) }
-    ensures outputs { let q = Q.facts (Q.rules query.now) in
+    ensures outputs { let q = Q.facts (Q.values query.now) in
         IfOk result (λ v. v.items ≡ q.gives stage (cell_for (q.fresh stage) states.old group.now.time group.now.key) group.now) }
     ensures same { states.new ≡ record states.old { held = states.new.held } }
     ensures unchanged { OnErr result (states.new ≡ states.old) }
@@ -193,9 +193,9 @@ pub fn most_of_group<Q: Query>(
     group: &Group,
 ) -> u64
     requires in_hand { IsSome (state_for states.now group.now.time group.now.key) }
-    requires fits { let q = Q.facts (Q.rules query.now) in
+    requires fits { let q = Q.facts (Q.values query.now) in
         q.fits stage (cell_for (q.fresh stage) states.now group.now.time group.now.key) group.now ≡ true }
-    ensures { let q = Q.facts (Q.rules query.now) in
+    ensures { let q = Q.facts (Q.values query.now) in
         result ≡ q.most stage (cell_for (q.fresh stage) states.now group.now.time group.now.key) group.now }
 {
     let at = states.place_of(group);

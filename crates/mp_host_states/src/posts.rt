@@ -14,7 +14,7 @@ pub fn posts_of<Q: Query>(
     recs: &[Rec],
 ) -> Result<Vec<Time>, AllocError>
     requires { All (λ r. r.time ≤ last_time) recs.now }
-    ensures { IfOk result (λ v. v.items ≡ flat_map ((Q.facts (Q.rules query.now)).posts stage) recs.now) }
+    ensures { IfOk result (λ v. v.items ≡ flat_map ((Q.facts (Q.values query.now)).posts stage) recs.now) }
 {
     let mut times = Vec::new(alloc);
     for rec in recs {
@@ -26,7 +26,7 @@ pub fn posts_of<Q: Query>(
 /// How many times records post, each time of each of them counted; 2^64 - 1 where there are more.
 pub fn count_posts<Q: Query>(query: &Q, stage: u32, recs: &[Rec]) -> u64
     requires { All (λ r. r.time ≤ last_time) recs.now }
-    ensures { result ≡ min (length (flat_map ((Q.facts (Q.rules query.now)).posts stage) recs.now)) (2 ^ 64 - 1) }
+    ensures { result ≡ min (length (flat_map ((Q.facts (Q.values query.now)).posts stage) recs.now)) (2 ^ 64 - 1) }
 {
     let mut count: u64 = 0;
     for rec in recs {

@@ -19,18 +19,18 @@ pub fn step_state<Q: Query>(
     group: &Group,
     posts: &[Time],
 ) -> Result<Vec<Value>, AllocError>
-    requires fits { let q = Q.facts (Q.rules query.now) in
+    requires fits { let q = Q.facts (Q.values query.now) in
         q.fits stage (cell_in (q.fresh stage) state.old.cells group.now.key) group.now ≡ true }
     requires woken { Has state.old.wakes group.now.time group.now.key → group.now.woken ≡ true }
     ensures wakes { OnOk result ((t k : ℕ) → Has state.new.wakes t k
         ↔ ((Has state.old.wakes t k × (IsWake group.now.time group.now.key (t, k) → ⊥)) ⊎ ((k ≡ group.now.key) × Contains posts.now t))) }
-    ensures cells { let q = Q.facts (Q.rules query.now) in
+    ensures cells { let q = Q.facts (Q.values query.now) in
         OnOk result ((l : ℕ) → cell_in (q.fresh stage) state.new.cells l
         ≡ cond (l == group.now.key) (q.step stage (cell_in (q.fresh stage) state.old.cells group.now.key) group.now) (cell_in (q.fresh stage) state.old.cells l)) }
-    ensures kept { let q = Q.facts (Q.rules query.now) in
+    ensures kept { let q = Q.facts (Q.values query.now) in
         OnOk result ((l : ℕ) (c : Q.Cell) → Contains state.new.cells (l, c)
         → Contains state.old.cells (l, c) ⊎ ((l ≡ group.now.key) × (c ≢ q.fresh stage))) }
-    ensures outputs { let q = Q.facts (Q.rules query.now) in
+    ensures outputs { let q = Q.facts (Q.values query.now) in
         IfOk result (λ v. v.items ≡ q.gives stage (cell_in (q.fresh stage) state.old.cells group.now.key) group.now) }
     ensures unchanged { OnErr result (state.new ≡ state.old) }
     ensures in_order { IsInOrder state.new }
@@ -61,9 +61,9 @@ pub fn most_of_state<Q: Query>(
     state: &BinState<Q::Cell>,
     group: &Group,
 ) -> u64
-    requires fits { let q = Q.facts (Q.rules query.now) in
+    requires fits { let q = Q.facts (Q.values query.now) in
         q.fits stage (cell_in (q.fresh stage) state.now.cells group.now.key) group.now ≡ true }
-    ensures { let q = Q.facts (Q.rules query.now) in
+    ensures { let q = Q.facts (Q.values query.now) in
         result ≡ q.most stage (cell_in (q.fresh stage) state.now.cells group.now.key) group.now }
 {
     most_in(alloc, query, stage, &state.cells, group)

@@ -4,3 +4,4 @@ pub mod Legality
 pub mod Members
 pub mod Same
 pub mod Sharing
+pub mod Whole

@@ -1,6 +1,6 @@
 -- What stands in shares.
 use Rattle.std.proofs.Common.{◌≡◌, ℕ, zero, suc, ◌+◌, ◌<◌, ◌≤◌, ◌%◌, ◌==◌, Bool, cond, false, true, ◌≢◌, ◌&&◌, Option, Some, List, [], ◌∷◌, ◌++◌, length, drop, get_or, option_to_list, filter, map, set, slice_get, sym, take, append-nil, option_and_then, Contains, IsSome, is_some, refl, ap, ◌∙◌, subst, ⊎_elim, add-one, add-zero, zero-add, arith}
-use Rattle.std.specs.List.{enumerate_from, filter_map, range_with_len}
+use Rattle.std.specs.List.{enumerate_from, filter_map, flat_map, range_with_len}
 use Rattle.std.specs.List.Sorted.{IsStrictlyIncreasing}
 use Rattle.std.proofs.lemmas.Bool.{and_from, and_parts, cases_Bool, cases_eq, cases_lt, cond-false, cond-true, eq-eqb, ne_eqb, eqb-true, false≢true}
 use Rattle.std.proofs.lemmas.List.{ext_get_or, get_or-set_other, get_or-set_same, length-set}
@@ -10,6 +10,7 @@ use Rattle.std.proofs.lemmas.List.Kept.{IsStrictlyIncreasing-filter}
 use Rattle.std.proofs.lemmas.Option.{slice_get_past}
 use Rattle.std.proofs.lemmas.Grind.{common_steps}
 use Rattle.mp_model.specs.declared.record.Event.{Event}
+use Rattle.mp_model.specs.declared.record.Rec.{Rec}
 use Rattle.mp_model.specs.declared.value.Value.{Value}
 use Rattle.mp_model.specs.Facts.{QueryFacts}
 use Rattle.mp_job.specs.Laws.{SharesHoldEachOnce}
@@ -163,13 +164,17 @@ module _ {Cell : Type 0} (q : QueryFacts Cell) where
   pub times_made : (i n k : ℕ) (e : Event) (v : Value) (key : Option ℕ) (old posts : List ℕ) → key ≡ q.key 0 e.time e.value → key ≡ Some k → n ≡ i → v ≡ e.value → posts ≡ q.posts 0 (record { time = e.time; key = k; tag = record { 0 = 0; 1 = n }; value = v }) → (old ++ e.time ∷ []) ++ posts ≡ old ++ times_in q 0 (option_to_list (record_of q i e))
   times_made i n k e v key old posts is has index value are = grind (arith, common_steps)
 
-  module _ (events : List Event) where
-    -- those of the events from this one on
+  -- and the posts alone
+  pub posts_made : (i n k : ℕ) (e : Event) (v : Value) (key : Option ℕ) (old posts : List ℕ) → key ≡ q.key 0 e.time e.value → key ≡ Some k → n ≡ i → v ≡ e.value → posts ≡ q.posts 0 (record { time = e.time; key = k; tag = record { 0 = 0; 1 = n }; value = v }) → old ++ posts ≡ old ++ flat_map (q.posts 0) (option_to_list (record_of q i e))
+  posts_made i n k e v key old posts is has index value are = grind (arith, common_steps)
+
+  module _ (times : Rec → List ℕ) (events : List Event) where
+    -- the times of the records of the events from this one on
     abbrev pub times_from : ℕ → List ℕ
-    times_from n = times_in q 0 (filter_map (λ p. record_of q p.0 p.1) (enumerate_from n (drop n events)))
+    times_from n = flat_map times (filter_map (λ p. record_of q p.0 p.1) (enumerate_from n (drop n events)))
 
     -- what is added, with what the later events will add
-    pub times_added : (n : ℕ) (e : Event) (old new all : List ℕ) → n < length events → e ≡ get_or events n e → HoldSame new (old ++ times_in q 0 (option_to_list (record_of q n e))) → HoldSame (old ++ times_from n) all → HoldSame (new ++ times_from (n + 1)) all
+    pub times_added : (n : ℕ) (e : Event) (old new all : List ℕ) → n < length events → e ≡ get_or events n e → HoldSame new (old ++ flat_map times (option_to_list (record_of q n e))) → HoldSame (old ++ times_from n) all → HoldSame (new ++ times_from (n + 1)) all
     times_added n e old new all l is added before = same_then (new ++ times_from (n + 1)) (old ++ times_from n) all (same_twice _ new _ (times_from (n + 1)) _ (same_list _ _ refl) added (grind (arith, common_steps))) before
 
     -- after the last nothing is left to add

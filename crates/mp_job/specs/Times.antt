@@ -1,5 +1,6 @@
 -- The times at which something happens.
 use Rattle.std.specs.Prelude.{ℕ, ◌++◌, ◌↔◌, Contains, List, map}
+use Rattle.std.specs.List.{flat_map}
 use Rattle.mp_names.specs.declared.controls.Control.{Control}
 use Rattle.mp_model.specs.declared.record.Event.{Event}
 use Rattle.mp_model.specs.Ascending.{ascending}
@@ -22,3 +23,12 @@ AllStandIn xs ys = (t : ℕ) → Contains xs t → Contains ys t
 -- the same numbers stand in both, however often
 abbrev pub HoldSame : List ℕ → List ℕ → Type 0
 HoldSame xs ys = (t : ℕ) → (Contains xs t ↔ Contains ys t)
+
+-- the times that records post, and what the last of them posted
+pub record PostedTimes : Type 0 where
+  pub times : List ℕ
+  pub last : List ℕ
+
+-- the times that the records of stage 0 post, ascending and each once
+abbrev pub post_times_of : {Cell : Type 0} → QueryFacts Cell → List Event → List ℕ
+post_times_of q events = ascending (flat_map (q.posts 0) (input_records q events))

@@ -1,6 +1,6 @@
 //! What the events of a job are looked through for, once: the workers' shares, and the times of records.
-ghost use Rattle.std.specs.Prelude.{◌≡◌, ◌<◌, ◌≤◌, ◌++◌, ◌∷◌, [], OnOk, if◌then◌else◌, is_some, length, map, option_to_list};
-ghost use Rattle.std.specs.List.{range_with_len};
+ghost use Rattle.std.specs.Prelude.{◌≡◌, ◌<◌, ◌≤◌, ◌++◌, ◌∷◌, [], IfOk, OnOk, if◌then◌else◌, is_some, length, map, option_to_list};
+ghost use Rattle.std.specs.List.{flat_map, range_with_len};
 ghost use Rattle.mp_names.specs.Limits.{last_time};
 ghost use Rattle.mp_model.specs.Folds.{times_in};
 ghost use Rattle.mp_model.specs.Legal.{EventsAreLegal};
@@ -8,29 +8,33 @@ ghost use Rattle.mp_model.specs.Stages.{input_records, record_of};
 ghost use Rattle.mp_job.specs.Parts.{shares_of, with_index};
 ghost use Rattle.mp_job.specs.Times.{AllStandIn, HoldSame};
 
+use crate::posted::Posted;
 use crate::shares::Share;
 use mp_model::{Event, PostList, Query, Rec, Tag, Time, Value};
-use std::alloc::AllocError;
+use std::alloc::{AllocError, Global};
 use std::mem;
 
 /// Puts the indices of the events that make a record into the shares of the workers, which are empty, and adds the times of
-/// these records and of their posts. Of a time that is there already it may add no other. The events stay. `AllocError`: no
-/// memory.
+/// these records and of their posts: the posts alone. Of a time that is there already it may add no other. The events stay.
+/// `AllocError`: no memory.
 pub fn gather<Q: Query>(
+    alloc: Global,
     query: &Q,
     events: &mut [Event],
     shares: &mut [Share],
     times: &mut Vec<Time>,
-) -> Result<(), AllocError>
+) -> Result<Vec<Time>, AllocError>
     requires legal { EventsAreLegal events.old }
     requires some_worker { 0 < length shares.old }
     requires empty { shares.old ≡ map (λ _. []) (range_with_len 0 (length shares.old)) }
-    ensures shares { OnOk result (shares.new ≡ shares_of (Q.facts (Q.rules query.now)) events.old (length shares.old)) }
-    ensures times { let q = Q.facts (Q.rules query.now) in
+    ensures shares { OnOk result (shares.new ≡ shares_of (Q.facts (Q.values query.now)) events.old (length shares.old)) }
+    ensures times { let q = Q.facts (Q.values query.now) in
         OnOk result (HoldSame times.new.items (times.old.items ++ times_in q 0 (input_records q events.old))) }
+    ensures posts { let q = Q.facts (Q.values query.now) in
+        IfOk result (λ posts. HoldSame posts.items (flat_map (q.posts 0) (input_records q events.old))) }
     ensures events { events.new ≡ events.old }
 {
-    let mut posted = PostList::new();
+    let mut posted = Posted::new(alloc);
     for index in 0..events.len() {
         take_in(
             query,
@@ -41,7 +45,7 @@ pub fn gather<Q: Query>(
             &mut posted,
         )?;
     }
-    Ok(())
+    Ok(posted.into_times())
 }
 
 // Puts the index of an event, if it makes a record, into the share of its worker, and adds the times of the record: its
@@ -53,16 +57,18 @@ fn take_in<Q: Query>(
     event: &mut Event,
     shares: &mut [Share],
     times: &mut Vec<Time>,
-    posted: &mut PostList,
+    posted: &mut Posted,
 ) -> Result<(), AllocError>
     requires in_time { event.old.time ≤ last_time }
     requires some_worker { 0 < length shares.old }
-    requires posted { AllStandIn posted.old times.old.items }
+    requires posted { AllStandIn posted.old.last times.old.items }
     ensures shares { OnOk result (shares.new ≡
-        (if is_some (record_of (Q.facts (Q.rules query.now)) index event.old) then with_index index shares.old else shares.old)) }
-    ensures times { let q = Q.facts (Q.rules query.now) in
+        (if is_some (record_of (Q.facts (Q.values query.now)) index event.old) then with_index index shares.old else shares.old)) }
+    ensures times { let q = Q.facts (Q.values query.now) in
         OnOk result (HoldSame times.new.items (times.old.items ++ times_in q 0 (option_to_list (record_of q index event.old)))) }
-    ensures posted { OnOk result (AllStandIn posted.new times.new.items) }
+    ensures posts { let q = Q.facts (Q.values query.now) in
+        OnOk result (HoldSame posted.new.times (posted.old.times ++ flat_map (q.posts 0) (option_to_list (record_of q index event.old)))) }
+    ensures posted { OnOk result (AllStandIn posted.new.last times.new.items) }
     ensures event { event.new ≡ event.old }
 {
     let Some(key) = query.key(0, event.time, &event.value) else {
@@ -96,20 +102,17 @@ fn add_time(time: Time, times: &mut Vec<Time>) -> Result<(), AllocError>
 }
 
 // Adds posts, unless they are those that were added last: neighbours in one window post the same.
-fn add_posts(
-    posts: PostList,
-    posted: &mut PostList,
-    times: &mut Vec<Time>,
-) -> Result<(), AllocError>
-    requires { AllStandIn posted.old times.old.items }
+fn add_posts(posts: PostList, posted: &mut Posted, times: &mut Vec<Time>) -> Result<(), AllocError>
+    requires { AllStandIn posted.old.last times.old.items }
     ensures times { OnOk result (HoldSame times.new.items (times.old.items ++ posts)) }
-    ensures posted { OnOk result (AllStandIn posted.new times.new.items) }
+    ensures posts { OnOk result (HoldSame posted.new.times (posted.old.times ++ posts)) }
+    ensures posted { OnOk result (AllStandIn posted.new.last times.new.items) }
 {
-    if posts.as_slice() == posted.as_slice() {
+    if posted.is_last(&posts) {
         return Ok(());
     }
     times.extend_from_slice(posts.as_slice())?;
-    *posted = posts;
+    posted.add(posts)?;
     Ok(())
 }
 

@@ -1,16 +1,19 @@
 //! A query with its events, its control records and its shape.
-ghost use Rattle.std.specs.Prelude.{◌≡◌, ◌<◌, IfOk, IsSome, Some};
+ghost use Rattle.std.specs.Prelude.{◌≡◌, ◌<◌, [], IfOk, IsSome, Some, length};
 ghost use Rattle.mp_model.specs.Legal.{EventsAreLegal};
-ghost use Rattle.mp_job.specs.Legal.{ControlsFit, JobIsLegal, ShapeIsLegal};
+ghost use Rattle.mp_model.specs.Tables.{table_of};
+ghost use Rattle.mp_bins.specs.Notes.{first_owner};
+ghost use Rattle.mp_job.specs.Legal.{ControlsFit, FirstsFit, JobIsLegal, ShapeIsLegal};
 ghost use Rattle.mp_job.specs.Parts.{job_of};
 ghost use Rattle.mp_job.specs.Records.{record_at, share_of};
-ghost use Rattle.mp_job.specs.Times.{times_of};
+ghost use Rattle.mp_job.specs.Times.{post_times_of, times_of};
 
 use crate::gather::gather;
 use crate::records::record_of;
 use crate::shares::{Share, empty_shares};
 use crate::times::{add_control_times, put_in_order};
-use mp_model::{Control, Event, Query, Rec, Shape, Time};
+use mp_bins::FirstOwners;
+use mp_model::{Control, Event, First, Query, Rec, Shape, Time};
 use std::alloc::{AllocError, Global};
 use std::marker::Model;
 
@@ -21,23 +24,26 @@ pub struct Job<Q: Query> {
     query: Q,
     events: Vec<Event>,
     controls: Vec<Control>,
-    shape: Shape,
+    // With how many workers, bins and stages it has.
+    owners: FirstOwners,
     // By the workers' numbers.
     shares: Vec<Share>,
     times: Vec<Time>,
+    post_times: usize,
 }
 
 impl<Q: Query> Model for Job<Q> {
     ghost use Rattle.mp_model.specs.Facts.{JobFacts};
+    ghost use Rattle.mp_model.specs.Tables.{table_of};
     ghost use Rattle.mp_job.specs.Parts.{HoldsParts, job_of};
 
     ghost Value = { JobFacts };
 
-    ghost view = { λ j. job_of (Q.rules j.query) j.events.items j.controls.items j.shape };
+    ghost view = { λ j. job_of (Q.values j.query) j.events.items j.controls.items j.owners.shape j.owners.firsts };
 
     ghost invariant = { λ j.
-        let job = job_of (Q.rules j.query) j.events.items j.controls.items j.shape in
-        HoldsParts (Q.facts (Q.rules j.query)) job j.shares.items j.times.items };
+        let job = job_of (Q.values j.query) j.events.items j.controls.items j.owners.shape j.owners.firsts in
+        HoldsParts (table_of Q.facts job) job j.shares.items j.times.items j.post_times };
 }
 
 impl<Q: Query> Job<Q> {
@@ -46,19 +52,40 @@ impl<Q: Query> Job<Q> {
     pub fn new(
         alloc: Global,
         query: Q,
-        mut events: Vec<Event>,
+        events: Vec<Event>,
         controls: Vec<Control>,
         shape: Shape,
     ) -> Result<Job<Q>, AllocError>
         requires shape { ShapeIsLegal shape }
-        requires stages { shape.stages ≡ Q.STAGES }
+        requires stages { shape.stages ≡ (Q.facts (Q.values query)).stages }
         requires events { EventsAreLegal events.items }
         requires controls { ControlsFit shape controls.items }
-        ensures { IfOk result (λ job. job ≡ job_of (Q.rules query) events.items controls.items shape) }
+        ensures { IfOk result (λ job. job ≡ job_of (Q.values query) events.items controls.items shape []) }
     {
+        Job::with_firsts(alloc, query, events, controls, shape, Vec::new(alloc))
+    }
+
+    /// The same, with bins whose first owners these are. `AllocError`: no memory.
+    pub fn with_firsts(
+        alloc: Global,
+        query: Q,
+        mut events: Vec<Event>,
+        controls: Vec<Control>,
+        shape: Shape,
+        firsts: Vec<First>,
+    ) -> Result<Job<Q>, AllocError>
+        requires shape { ShapeIsLegal shape }
+        requires stages { shape.stages ≡ (Q.facts (Q.values query)).stages }
+        requires events { EventsAreLegal events.items }
+        requires controls { ControlsFit shape controls.items }
+        requires firsts { FirstsFit shape firsts.items }
+        ensures { IfOk result (λ job. job ≡ job_of (Q.values query) events.items controls.items shape firsts.items) }
+    {
+        let owners = FirstOwners::new(alloc, shape, firsts.as_slice())?;
         let mut shares = empty_shares(alloc, shape.workers)?;
         let mut times = Vec::new(alloc);
-        gather(&query, &mut events, &mut shares, &mut times)?;
+        let mut posts = gather(alloc, &query, &mut events, &mut shares, &mut times)?;
+        put_in_order(&mut posts);
         add_control_times(&controls, &mut times)?;
         put_in_order(&mut times);
         times.shrink_to_fit();
@@ -66,15 +93,16 @@ impl<Q: Query> Job<Q> {
             query,
             events,
             controls,
-            shape,
+            owners,
             shares,
             times,
+            post_times: posts.len(),
         })
     }
 
     /// Its query.
     pub fn query(&self) -> &Q
-        ensures { Q.rules result.now ≡ self.now.rules }
+        ensures { Q.values result.now ≡ self.now.values }
     {
         &self.query
     }
@@ -93,27 +121,42 @@ impl<Q: Query> Job<Q> {
         self.controls.as_slice()
     }
 
+    /// The first owners that aren't the usual ones.
+    pub fn firsts(&self) -> &[First]
+        ensures { result.now ≡ self.now.firsts }
+    {
+        self.owners.firsts()
+    }
+
+    /// The first owner of a bin of a stage.
+    pub fn first_owner(&self, stage: u32, bin: u32) -> u32
+        ensures owner { result ≡ first_owner (record { shape = self.now.shape; firsts = self.now.firsts }) stage bin }
+        ensures worker { result < self.now.shape.workers }
+    {
+        self.owners.of(stage, bin)
+    }
+
     /// How many workers, bins and stages it has.
     pub fn shape(&self) -> Shape
         ensures shape { result ≡ self.now.shape }
-        ensures legal { JobIsLegal (Q.facts self.now.rules) self.now }
+        ensures legal { JobIsLegal (table_of Q.facts self.now) self.now }
     {
-        self.shape
+        self.owners.shape()
     }
 
     /// The share of a worker: the indices, ascending, of the events that make a record and whose index modulo the
     /// number of workers is the worker's (this project's profile).
     pub fn share(&self, worker: u32) -> &[u32]
         requires { worker < self.now.shape.workers }
-        ensures { result.now ≡ share_of (Q.facts self.now.rules) self.now.events self.now.shape.workers worker }
+        ensures { result.now ≡ share_of (table_of Q.facts self.now) self.now.events self.now.shape.workers worker }
     {
         self.shares[worker as usize].as_slice()
     }
 
     /// The record of the event of this index, which stands in some worker's share. `AllocError`: no memory.
     pub fn rec_at(&self, index: u32) -> Result<Rec, AllocError>
-        requires { IsSome (record_at (Q.facts self.now.rules) self.now.events index) }
-        ensures { IfOk result (λ rec. record_at (Q.facts self.now.rules) self.now.events index ≡ Some rec) }
+        requires { IsSome (record_at (table_of Q.facts self.now) self.now.events index) }
+        ensures { IfOk result (λ rec. record_at (table_of Q.facts self.now) self.now.events index ≡ Some rec) }
     {
         match record_of(&self.query, index, &self.events[index as usize])? {
             Some(rec) => Ok(rec),
@@ -123,8 +166,15 @@ impl<Q: Query> Job<Q> {
 
     /// The times of the records of stage 0, of their posts and of the control records, ascending and each once.
     pub fn times(&self) -> &[Time]
-        ensures { result.now ≡ times_of (Q.facts self.now.rules) self.now.events self.now.controls }
+        ensures { result.now ≡ times_of (table_of Q.facts self.now) self.now.events self.now.controls }
     {
         self.times.as_slice()
+    }
+
+    /// How many times the records of stage 0 post, each counted once.
+    pub fn count_of_post_times(&self) -> usize
+        ensures { result ≡ length (post_times_of (table_of Q.facts self.now) self.now.events) }
+    {
+        self.post_times
     }
 }

@@ -7,11 +7,12 @@
 mod gather;
 mod job;
 mod laws;
+mod posted;
 mod records;
 mod shares;
 mod times;
 
 pub use job::Job;
 pub use laws::{shares_hold_each_record_once, times_are_ascending};
-pub use mp_model::{Control, Event, Query, Rec, Shape, Time};
+pub use mp_model::{Control, Event, First, Query, Rec, Shape, Time};
 pub use times::put_in_order;

@@ -9,7 +9,7 @@ use std::alloc::AllocError;
 /// The record of the event of this index, if its value has a key in stage 0. `AllocError`: no memory for its value.
 pub fn record_of<Q: Query>(query: &Q, index: u32, event: &Event) -> Result<Option<Rec>, AllocError>
     requires { event.now.time ≤ last_time }
-    ensures { IfOk result (λ rec. rec ≡ record_of (Q.facts (Q.rules query.now)) index event.now) }
+    ensures { IfOk result (λ rec. rec ≡ record_of (Q.facts (Q.values query.now)) index event.now) }
 {
     match query.key(0, event.time, &event.value) {
         Some(key) => Ok(Some(Rec {

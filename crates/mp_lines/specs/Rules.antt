@@ -1,8 +1,7 @@
 -- What a line says.
 use Rattle.std.specs.Prelude.{ℕ, List}
 
--- of a line's fields: the checks that they fail, in order, where so many items stand before the line; and the items that
--- they say where they fail none
-pub record LineRules (Item Reason : Type 0) : Type 0 where
-  pub failures : ℕ → List (List ℕ) → List Reason
-  pub says : List (List ℕ) → List Item
+-- of a line's fields: the checks that they fail, in order, by what the lines before it say; and what all say with this line, where it fails none
+pub record LineRules (State Reason : Type 0) : Type 0 where
+  pub failures : State → List (List ℕ) → List Reason
+  pub after : State → List (List ℕ) → State

@@ -1,7 +1,7 @@
 -- The name that the search finds is the next one, and the test of a step is its condition.
-use Rattle.std.proofs.Common.{◌≡◌, ℕ, suc, ◌==◌, Bool, true, false, not, ◌&&◌, List, [], ◌∷◌, filter, length, None, Some, refl, sym, ap, ◌∙◌, subst, ⊎_elim}
+use Rattle.std.proofs.Common.{◌≡◌, ℕ, zero, suc, ◌<◌, ◌≤◌, ◌==◌, nat_lt, Bool, true, false, not, ◌&&◌, ◌||◌, List, [], ◌∷◌, filter, length, None, Some, refl, sym, ap, ◌∙◌, subst, ⊎_elim, arith}
 use Rattle.std.specs.List.{list_any}
-use Rattle.std.proofs.lemmas.Bool.{false≢true, eqb-true, eq-eqb, ltb-true, lt-ltb, and_parts, and_from, both_ways, false_from_ne_true, cases_Bool, not-true, not_from_false, cond-true, cond-false}
+use Rattle.std.proofs.lemmas.Bool.{false≢true, eqb-true, eq-eqb, ltb-true, lt-ltb, and_parts, and_from, both_ways, false_from_ne_true, cases_Bool, cases_lt, not-true, not_from_false, cond-true, cond-false}
 use Rattle.mp_names.specs.declared.names.Name.{Name}
 use Rattle.mp_names.specs.declared.names.Name.TheVariants.{Ctrl, Rec, Packet, Row, Group, Settled, Written}
 use Rattle.mp_names.specs.declared.names.Tag.{Tag}
@@ -9,18 +9,38 @@ use Rattle.mp_names.specs.declared.locations.Loc.TheVariants.{CtlMail, Mail, Sta
 use Rattle.mp_names.specs.declared.kinds.Kind.{Kind}
 use Rattle.mp_names.specs.declared.kinds.Kind.TheVariants.{Ingest, SendControl, Route, Receive, Extract, Settle, Apply, SendRow, Write, Exchange}
 use Rattle.mp_names.specs.Names.{has, In, is_ctrl, is_rec, is_row}
-use Rattle.mp_names.specs.Outlines.{Outline, OutlineIsSound, control_at, time_of, owner_before, sender, receiver, IsOwed, IsOwedBy, packets_of, ctrl_names, groups_of, share}
+use Rattle.mp_names.specs.Outlines.{Outline, OutlineIsSound, is_before_stop, control_at, time_of, owner_before, sender, receiver, IsOwed, IsOwedBy, packets_of, ctrl_names, groups_of, share}
 use Rattle.mp_names.specs.Logs.{is_given, is_noted, is_ctrl_of, is_pending}
 use Rattle.mp_names.specs.Frontiers.{is_held}
 use Rattle.mp_names.specs.Keeping.{IsHeld, IsUnsettled, IsWaiting, IsUnwritten}
 use Rattle.mp_names.proofs.Lists.{In_filter, filter_In, any_from, any_at}
-use Rattle.mp_names.proofs.Listed.{In_map, map_In, packet_In, packet_is, ctrl_In, ctrl_owed, record_owed, row_owed}
+use Rattle.mp_names.proofs.Listed.{In_map, map_In, before_stop, before_stop-from, packet_In, packet_is, ctrl_In, ctrl_owed, record_owed, row_owed}
 use Rattle.mp_machine.specs.Worlds.{Worker, World}
 use Rattle.mp_machine.specs.Messages.{first_message}
-use Rattle.mp_machine.specs.Steps.{IsDue, IsNext, IsReady, MayLeave, MaySettle, MayApply, MailAllows}
-use Rattle.mp_machine.specs.Tests.{has_passed, has_reached, is_due, least_where, is_ctrl_in, noted_times, taken_times, next_name, first_of, is_in_hand_before, is_left_over, may_leave, may_settle, may_apply, is_ready, mail_allows}
+use Rattle.mp_machine.specs.Steps.{IsControlDue, IsDue, IsNext, IsReady, MaySendControl, MayLeave, MaySettle, MayApply, MailAllows}
+use Rattle.mp_machine.specs.Tests.{has_passed, has_reached, all_below, goes_sooner, is_control_due, is_due, least_where, is_ctrl_in, noted_times, taken_times, next_name, first_of, is_in_hand_before, is_left_over, is_past, may_send_control, may_leave, may_settle, may_apply, is_ready, mail_allows}
 use Rattle.mp_machine.proofs.Searches.{some_same, found_least, least_found, next_prefix_of, prefix_next}
 use Rattle.mp_machine.proofs.Conditions.{passed, passed_back, reached, reached_back, in_hand, in_hand_back}
+
+-- a test that is asked for only where another holds
+
+wanted : (b c : Bool) → (b ≡ true → c ≡ true) → (not b || c) ≡ true
+wanted true c h = h refl
+wanted false c h = refl
+
+wanted_at : (b c : Bool) → (not b || c) ≡ true → b ≡ true → c ≡ true
+wanted_at true c h e = h
+wanted_at false c h e = absurd (false≢true e)
+
+all_from : (n : ℕ) (p : ℕ → Bool) → ((i : ℕ) → i < n → p i ≡ true) → all_below n p ≡ true
+all_from zero p h = refl
+all_from (suc n) p h = and_from (all_below n p) (p n) (all_from n p (λ i l. h i (omega arith))) (h n (omega arith))
+
+all_at : (n : ℕ) (p : ℕ → Bool) → all_below n p ≡ true → (i : ℕ) → i < n → p i ≡ true
+all_at zero p h i l = absurd (omega arith)
+all_at (suc n) p h i l =
+    let q = and_parts (all_below n p) (p n) h in
+    ⊎_elim (λ (k : i < n). all_at n p q.0 i k) (λ (k : n ≤ i). let e : n ≡ i = omega arith in subst (λ (m : ℕ). p m ≡ true) e q.1) (cases_lt i n)
 
 module _ (o : Outline) (ok : OutlineIsSound o) (w : ℕ) (worker : Worker) where
   -- what is held
@@ -40,6 +60,41 @@ module _ (o : Outline) (ok : OutlineIsSound o) (w : ℕ) (worker : Worker) where
 
   pub ctrl_back : (x : Name) → In x (ctrl_names o) → is_held o w worker.log x ≡ true → IsHeld o w worker.log is_ctrl x
   ctrl_back x i h = let a = ctrl_owed o x i in let p = held_parts x h in (a.1, a.0, p.0, p.1)
+
+  -- control records that are due
+
+  abbrev sooner_than : Name → Bool
+  sooner_than x = list_any (goes_sooner o w worker.log x) (ctrl_names o)
+
+  pub control_into : (x : Name) → IsControlDue o w worker.log x → In x (ctrl_names o) × (is_control_due o w worker.log x ≡ true)
+  control_into x h =
+      let i = ctrl_into x h.0 in (
+        i.0,
+        and_from (is_held o w worker.log x) (not o.paced || not (sooner_than x)) i.1
+            (wanted o.paced (not (sooner_than x)) (λ paced. not_from_false (sooner_than x) (false_from_ne_true (sooner_than x) (λ e.
+            let r = any_at (goes_sooner o w worker.log x) (ctrl_names o) e in
+            let p = and_parts (is_held o w worker.log r.0) (nat_lt (time_of o r.0) (time_of o x)) r.2 in
+            let l = ltb-true (time_of o r.0) (time_of o x) p.1 in
+            let k = h.1 paced r.0 (ctrl_back r.0 r.1 p.0) in
+            crossed (time_of o r.0) (time_of o x) l k)))),
+      )
+    where
+      crossed : (a b : ℕ) → a < b → b ≤ a → ⊥
+      crossed a b l k = omega arith
+
+  pub control_back : (x : Name) → In x (ctrl_names o) → is_control_due o w worker.log x ≡ true → IsControlDue o w worker.log x
+  control_back x i h =
+      let p = and_parts (is_held o w worker.log x) (not o.paced || not (sooner_than x)) h in (
+        ctrl_back x i p.0,
+        (λ paced y held.
+            let j = ctrl_into y held in
+            ⊎_elim
+            (λ (l : time_of o y < time_of o x).
+            absurd (both_ways (sooner_than x) (not-true (sooner_than x) (wanted_at o.paced (not (sooner_than x)) p.1 paced))
+            (any_from (goes_sooner o w worker.log x) y (ctrl_names o) j.0 (and_from (is_held o w worker.log y) (nat_lt (time_of o y) (time_of o x)) j.1 (lt-ltb (time_of o y) (time_of o x) l)))))
+            (λ (l : time_of o x ≤ time_of o y). l)
+            (cases_lt (time_of o y) (time_of o x))),
+      )
 
   pub rec_into : (j : ℕ) (x : Name) → IsHeld o w worker.log (is_rec j) x → In x (o.records j) × (is_held o w worker.log x ≡ true)
   rec_into j x h = (at x h.0 h.1, held_from (is_rec j) x h)
@@ -130,6 +185,20 @@ module _ (o : Outline) (ok : OutlineIsSound o) (w : ℕ) (worker : Worker) where
 
   -- what must be seen and held
 
+  control_ready : (x : Name) → may_send_control o worker x ≡ true → MaySendControl o worker x
+  control_ready x h paced j i lj li less =
+      let stages = wanted_at o.paced (all_below o.stages (λ j. all_below (length o.controls) (is_past o worker (time_of o x) j))) h paced in
+      let one = all_at (length o.controls) (is_past o worker (time_of o x) j) (all_at o.stages (λ j. all_below (length o.controls) (is_past o worker (time_of o x) j)) stages j lj) i li in
+      passed (worker.seen (Host j)) (control_at o i).time (wanted_at (nat_lt (control_at o i).time (time_of o x)) (has_passed (worker.seen (Host j)) (control_at o i).time) one (lt-ltb (control_at o i).time (time_of o x) less))
+
+  ready_control : (x : Name) → MaySendControl o worker x → may_send_control o worker x ≡ true
+  ready_control x h =
+      wanted o.paced (all_below o.stages (λ j. all_below (length o.controls) (is_past o worker (time_of o x) j))) (λ paced.
+      all_from o.stages (λ j. all_below (length o.controls) (is_past o worker (time_of o x) j)) (λ j lj.
+      all_from (length o.controls) (is_past o worker (time_of o x) j) (λ i li.
+      wanted (nat_lt (control_at o i).time (time_of o x)) (has_passed (worker.seen (Host j)) (control_at o i).time) (λ l.
+      passed_back (worker.seen (Host j)) (control_at o i).time (h paced j i lj li (ltb-true (control_at o i).time (time_of o x) l))))))
+
   settle_ready : (j : ℕ) (x : Name) → may_settle o w worker j x ≡ true → MaySettle o w worker j x
   settle_ready j (Settled i t) h =
       let p = and_parts (has_passed (worker.seen CtlMail) t) (not (list_any (is_left_over o w worker.log j t) (packets_of o))) h in
@@ -168,6 +237,7 @@ module _ (o : Outline) (ok : OutlineIsSound o) (w : ℕ) (worker : Worker) where
   ready_settle j _ h = absurd h
 
   pub ready : (kind : Kind) (x : Name) → is_ready o w worker kind x ≡ true → IsReady o w worker kind x
+  ready SendControl x h = control_ready x h
   ready (Route j) x h = passed (worker.seen CtlMail) (time_of o x) h
   ready (Extract j) x h = leave x h
     where
@@ -179,14 +249,17 @@ module _ (o : Outline) (ok : OutlineIsSound o) (w : ℕ) (worker : Worker) where
     where
       apply : (x : Name) → may_apply o w worker j x ≡ true → MayApply o w worker j x
       apply (Group i t k) h =
-          let p = and_parts (has_passed (worker.seen (Mail j)) t) (has_passed (worker.seen (State j)) t && is_in_hand_before o w worker.log j (o.bin_of k) (suc t)) h in
-          let q = and_parts (has_passed (worker.seen (State j)) t) (is_in_hand_before o w worker.log j (o.bin_of k) (suc t)) p.1 in
-          (passed (worker.seen (Mail j)) t p.0, passed (worker.seen (State j)) t q.0, in_hand o w worker.log j (o.bin_of k) (suc t) q.1)
+          let hand = is_in_hand_before o w worker.log j (o.bin_of k) (suc t) in
+          let p = and_parts (has_passed (worker.seen (Mail j)) t) (has_passed (worker.seen (State j)) t && (hand && is_before_stop o.until t)) h in
+          let q = and_parts (has_passed (worker.seen (State j)) t) (hand && is_before_stop o.until t) p.1 in
+          let r = and_parts hand (is_before_stop o.until t) q.1 in
+          (passed (worker.seen (Mail j)) t p.0, passed (worker.seen (State j)) t q.0, in_hand o w worker.log j (o.bin_of k) (suc t) r.0, before_stop o.until t r.1)
       apply _ h = absurd (false≢true h)
   ready Write x h = passed (worker.seen OutMail) (time_of o x) h
   ready _ x h = tt
 
   pub ready_back : (kind : Kind) (x : Name) → IsReady o w worker kind x → is_ready o w worker kind x ≡ true
+  ready_back SendControl x h = ready_control x h
   ready_back (Route j) x h = passed_back (worker.seen CtlMail) (time_of o x) h
   ready_back (Extract j) x h = leave x h
     where
@@ -198,8 +271,10 @@ module _ (o : Outline) (ok : OutlineIsSound o) (w : ℕ) (worker : Worker) where
     where
       apply : (x : Name) → MayApply o w worker j x → may_apply o w worker j x ≡ true
       apply (Group i t k) h =
-          and_from (has_passed (worker.seen (Mail j)) t) (has_passed (worker.seen (State j)) t && is_in_hand_before o w worker.log j (o.bin_of k) (suc t)) (passed_back (worker.seen (Mail j)) t h.0)
-          (and_from (has_passed (worker.seen (State j)) t) (is_in_hand_before o w worker.log j (o.bin_of k) (suc t)) (passed_back (worker.seen (State j)) t h.1) (in_hand_back o w worker.log j (o.bin_of k) (suc t) h.2))
+          let hand = is_in_hand_before o w worker.log j (o.bin_of k) (suc t) in
+          and_from (has_passed (worker.seen (Mail j)) t) (has_passed (worker.seen (State j)) t && (hand && is_before_stop o.until t)) (passed_back (worker.seen (Mail j)) t h.0)
+          (and_from (has_passed (worker.seen (State j)) t) (hand && is_before_stop o.until t) (passed_back (worker.seen (State j)) t h.1)
+          (and_from hand (is_before_stop o.until t) (in_hand_back o w worker.log j (o.bin_of k) (suc t) h.2) (before_stop-from o.until t h.3)))
       apply _ h = absurd h
   ready_back Write x h = passed_back (worker.seen OutMail) (time_of o x) h
   ready_back _ x h = refl
@@ -220,12 +295,12 @@ nothing x e = cc
 module _ (o : Outline) (ok : OutlineIsSound o) (depth : ℕ) (world : World) (w : ℕ) where
   pub next : (kind : Kind) (x : Name) → next_name o world w kind ≡ Some x → mail_allows o depth world.mailbox w kind x ≡ true → IsNext o w (world.worker w) kind x × MailAllows o depth world.mailbox w kind x
   next Ingest x e m = (next_prefix_of (world.worker w).log.ingested (share o w) x e, tt)
-  next SendControl x e m = (found_least (IsHeld o w (world.worker w).log is_ctrl) (is_held o w (world.worker w).log) (ctrl_names o) (ctrl_into o ok w (world.worker w)) (ctrl_back o ok w (world.worker w)) x e, ltb-true (length (world.mailbox w (receiver o x))) depth m)
+  next SendControl x e m = (found_least (IsControlDue o w (world.worker w).log) (is_control_due o w (world.worker w).log) (ctrl_names o) (control_into o ok w (world.worker w)) (control_back o ok w (world.worker w)) x e, ltb-true (length (world.mailbox w (receiver o x))) depth m)
   next (Route j) x e m = (found_least (IsHeld o w (world.worker w).log (is_rec j)) (is_held o w (world.worker w).log) (o.records j) (rec_into o ok w (world.worker w) j) (rec_back o ok w (world.worker w) j) x e, ltb-true (length (world.mailbox w (receiver o x))) depth m)
   next (Receive v) x e m = (tt, begins_first (world.mailbox v w) x e)
   next (Extract j) x e m = (found_least (IsDue o w (world.worker w) j) (is_due o w (world.worker w) j) (packets_of o) (due_into o ok w (world.worker w) j) (due_back o ok w (world.worker w) j) x e, ltb-true (length (world.mailbox w (receiver o x))) depth m)
   next (Settle j) x e m = (found_least (IsUnsettled o (world.worker w).log j) (λ y. not (has (world.worker w).log.settled y)) (noted_times o j (world.worker w).log) (settle_into o ok w (world.worker w) j) (settle_back o ok w (world.worker w) j) x e, tt)
-  next (Apply j) x e m = (found_least (IsWaiting o (world.worker w).log j) (is_pending o (world.worker w).log) (groups_of o j) (λ y h. h) (λ y i h. (i, h)) x e, tt)
+  next (Apply j) x e m = (found_least (IsWaiting o w (world.worker w).log j) (is_pending o w (world.worker w).log) (groups_of o j) (λ y h. h) (λ y i h. (i, h)) x e, tt)
   next SendRow x e m = (found_least (IsHeld o w (world.worker w).log is_row) (is_held o w (world.worker w).log) o.rows (row_into o ok w (world.worker w)) (row_back o ok w (world.worker w)) x e, ltb-true (length (world.mailbox w (receiver o x))) depth m)
   next Write x e m =
       ⊎_elim
@@ -243,12 +318,12 @@ module _ (o : Outline) (ok : OutlineIsSound o) (depth : ℕ) (world : World) (w 
 
   pub next_back : (kind : Kind) (x : Name) → IsNext o w (world.worker w) kind x → MailAllows o depth world.mailbox w kind x → (next_name o world w kind ≡ Some x) × (mail_allows o depth world.mailbox w kind x ≡ true)
   next_back Ingest x h m = (prefix_next (world.worker w).log.ingested (share o w) x h, refl)
-  next_back SendControl x h m = (least_found (IsHeld o w (world.worker w).log is_ctrl) (is_held o w (world.worker w).log) (ctrl_names o) (ctrl_into o ok w (world.worker w)) (ctrl_back o ok w (world.worker w)) x h, lt-ltb (length (world.mailbox w (receiver o x))) depth m)
+  next_back SendControl x h m = (least_found (IsControlDue o w (world.worker w).log) (is_control_due o w (world.worker w).log) (ctrl_names o) (control_into o ok w (world.worker w)) (control_back o ok w (world.worker w)) x h, lt-ltb (length (world.mailbox w (receiver o x))) depth m)
   next_back (Route j) x h m = (least_found (IsHeld o w (world.worker w).log (is_rec j)) (is_held o w (world.worker w).log) (o.records j) (rec_into o ok w (world.worker w) j) (rec_back o ok w (world.worker w) j) x h, lt-ltb (length (world.mailbox w (receiver o x))) depth m)
   next_back (Receive v) x h m = (ap (λ (messages : List (List Name)). first_of (first_message messages)) m.2, refl)
   next_back (Extract j) x h m = (least_found (IsDue o w (world.worker w) j) (is_due o w (world.worker w) j) (packets_of o) (due_into o ok w (world.worker w) j) (due_back o ok w (world.worker w) j) x h, lt-ltb (length (world.mailbox w (receiver o x))) depth m)
   next_back (Settle j) x h m = (least_found (IsUnsettled o (world.worker w).log j) (λ y. not (has (world.worker w).log.settled y)) (noted_times o j (world.worker w).log) (settle_into o ok w (world.worker w) j) (settle_back o ok w (world.worker w) j) x h, refl)
-  next_back (Apply j) x h m = (least_found (IsWaiting o (world.worker w).log j) (is_pending o (world.worker w).log) (groups_of o j) (λ y k. k) (λ y i k. (i, k)) x h, refl)
+  next_back (Apply j) x h m = (least_found (IsWaiting o w (world.worker w).log j) (is_pending o w (world.worker w).log) (groups_of o j) (λ y k. k) (λ y i k. (i, k)) x h, refl)
   next_back SendRow x h m = (least_found (IsHeld o w (world.worker w).log is_row) (is_held o w (world.worker w).log) o.rows (row_into o ok w (world.worker w)) (row_back o ok w (world.worker w)) x h, lt-ltb (length (world.mailbox w (receiver o x))) depth m)
   next_back Write x h m = (
     cond-true (w == 0) (least_where (λ y. not (has (world.worker w).log.settled y)) (taken_times o (world.worker w).log)) None (eq-eqb w 0 h.0) ∙ least_found (IsUnwritten (world.worker w).log) (λ y. not (has (world.worker w).log.settled y)) (taken_times o (world.worker w).log) (write_into o ok w (world.worker w)) (write_back o ok w (world.worker w)) x h.1,

@@ -72,23 +72,23 @@ module _ (o : Outline) (w : ℕ) where
 
 module _ (o : Outline) (ok : OutlineIsSound o) (w : ℕ) (l : w < o.workers) (worker : Worker) (good : LogIsLegal o w worker.log) (known : (at : Loc) (t : ℕ) → HasPassed (worker.seen at) t → IsClosedForOne o w worker.log at t) where
   -- the least group that waits is of the kind's stage
-  of_stage : (P : Name → Type 0) (j : ℕ) → ((t k : ℕ) → IsLeast (IsWaiting o worker.log j) (Group j t k) → MayApply o w worker j (Group j t k) → P (Group j t k)) → (x : Name) → IsLeast (IsWaiting o worker.log j) x → MayApply o w worker j x → P x
+  of_stage : (P : Name → Type 0) (j : ℕ) → ((t k : ℕ) → IsLeast (IsWaiting o w worker.log j) (Group j t k) → MayApply o w worker j (Group j t k) → P (Group j t k)) → (x : Name) → IsLeast (IsWaiting o w worker.log j) x → MayApply o w worker j x → P x
   of_stage P j f (Group i t k) h r =
       let e : i ≡ j = eqb-true i j (groups_are o ok j (Group i t k) h.0.0).1 in
-      subst (λ (n : ℕ). P (Group n t k)) (sym e) (f t k (subst (λ (n : ℕ). IsLeast (IsWaiting o worker.log j) (Group n t k)) e h) r)
+      subst (λ (n : ℕ). P (Group n t k)) (sym e) (f t k (subst (λ (n : ℕ). IsLeast (IsWaiting o w worker.log j) (Group n t k)) e h) r)
   of_stage P j f _ h r = absurd r
 
-  whole_then : (j : ℕ) (x : Name) → IsLeast (IsWaiting o worker.log j) x → MayApply o w worker j x → LogIsLegal o w (with_applied worker.log x)
+  whole_then : (j : ℕ) (x : Name) → IsLeast (IsWaiting o w worker.log j) x → MayApply o w worker j x → LogIsLegal o w (with_applied worker.log x)
   whole_then j x h r =
       of_stage (λ (y : Name). LogIsLegal o w (with_applied worker.log y)) j
-      (λ t k h r. group_keeps o ok w l worker.log good j t k h (known (Mail j) t r.0) (known (State j) t r.1))
+      (λ t k h r. group_keeps o ok w l worker.log good j t k h r.3 (known (Mail j) t r.0) (known (State j) t r.1))
       x h r
 
-  pub group_is_whole : (j i t k : ℕ) → IsLeast (IsWaiting o worker.log j) (Group i t k) → MayApply o w worker j (Group i t k) → GroupIsWhole o w worker.log i t k
+  pub group_is_whole : (j i t k : ℕ) → IsLeast (IsWaiting o w worker.log j) (Group i t k) → MayApply o w worker j (Group i t k) → GroupIsWhole o w worker.log i t k
   group_is_whole j i t k h r =
       let e : i ≡ j = eqb-true i j (groups_are o ok j (Group i t k) h.0.0).1 in
       subst (λ (n : ℕ). GroupIsWhole o w worker.log n t k) (sym e)
-      (whole o ok w worker.log good j t k (subst (λ (n : ℕ). IsLeast (IsWaiting o worker.log j) (Group n t k)) e h) (known (Mail j) t r.0) (known (State j) t r.1))
+      (whole o ok w worker.log good j t k (subst (λ (n : ℕ). IsLeast (IsWaiting o w worker.log j) (Group n t k)) e h) (known (Mail j) t r.0) (known (State j) t r.1))
 
   extracts : (j : ℕ) (x : Name) → IsDue o w worker j x → MayLeave o w worker j x → LogIsLegal o w (with_sent worker.log x)
   extracts j (Packet i b t) d r =
@@ -117,7 +117,7 @@ module _ (o : Outline) (ok : OutlineIsSound o) (w : ℕ) (l : w < o.workers) (wo
 
   pub step_keeps : (kind : Kind) (x : Name) (xs : List Name) → IsNext o w worker kind x → IsReady o w worker kind x → AreNamesOf o w worker.log kind x xs → ComesRightly o w worker.log kind xs → LogIsLegal o w (logged kind worker.log xs)
   step_keeps Ingest x xs n r a c = one_name (λ (l : List Name). LogIsLegal o w (logged Ingest worker.log l)) x xs a (ingested_keeps o w worker.log good x n)
-  step_keeps SendControl x xs n r a c = one_name (λ (l : List Name). LogIsLegal o w (logged SendControl worker.log l)) x xs a (held_keeps o w worker.log good is_ctrl x n.0)
+  step_keeps SendControl x xs n r a c = one_name (λ (l : List Name). LogIsLegal o w (logged SendControl worker.log l)) x xs a (held_keeps o w worker.log good is_ctrl x n.0.0)
   step_keeps (Route j) x xs n r a c = routes j x xs a
   step_keeps (Receive v) x xs n r a c = takes_keep o w xs worker.log good c.0 c.1
   step_keeps (Extract j) x xs n r a c = one_name (λ (l : List Name). LogIsLegal o w (logged (Extract j) worker.log l)) x xs a (extracts j x n.0 r)

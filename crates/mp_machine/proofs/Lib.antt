@@ -10,6 +10,8 @@ pub mod Worlds
 pub mod Single
 pub mod Holding
 pub mod Order
+pub mod Pacing
+pub mod Opening
 pub mod Feeders
 pub mod Stuck
 pub mod Full

@@ -1,25 +1,25 @@
 -- What holds in every run of the machine: for each sound outline, each depth of the mailboxes and each list of steps.
-use Rattle.std.specs.Prelude.{◌≡◌, ◌↔◌, ℕ, ◌+◌, ◌*◌, ◌<◌, ◌≤◌, ◌⊎◌, false, ◌==◌, All, List, [], ◌∷◌, ◌++◌, length, filter}
+use Rattle.std.specs.Prelude.{◌≡◌, ◌↔◌, ℕ, ◌+◌, ◌*◌, ◌<◌, ◌≤◌, ◌⊎◌, true, false, ◌==◌, All, List, [], ◌∷◌, ◌++◌, length, filter}
 use Rattle.std.specs.List.{Contains}
 use Rattle.mp_names.specs.declared.names.Name.{Name}
-use Rattle.mp_names.specs.declared.names.Name.TheVariants.{Packet, Row, Group, Written}
+use Rattle.mp_names.specs.declared.names.Name.TheVariants.{Ctrl, Packet, Row, Group, Written}
 use Rattle.mp_names.specs.declared.names.Tag.{Tag}
 use Rattle.mp_names.specs.declared.locations.Loc.{Loc}
-use Rattle.mp_names.specs.declared.locations.Loc.TheVariants.{OutMail}
+use Rattle.mp_names.specs.declared.locations.Loc.TheVariants.{Host, OutMail}
 use Rattle.mp_names.specs.declared.locations.Frontier.{Frontier}
 use Rattle.mp_names.specs.declared.kinds.Kind.{Kind}
 use Rattle.mp_names.specs.declared.kinds.Kind.TheVariants.{Receive, Extract, Apply}
 use Rattle.mp_names.specs.Names.{has, In, Distinct, is_group, is_settled, is_written}
-use Rattle.mp_names.specs.Outlines.{Outline, OutlineIsSound, owner_at, group_owner, IsMove, groups_of, control_times, answer_times, sender, receiver, IsOwedBy, IsOwedTo, share, name_count}
-use Rattle.mp_names.specs.Logs.{Log, LogIsLegal, LogGrows, InHandBefore, EarlierApplied, owned_groups}
+use Rattle.mp_names.specs.Outlines.{Outline, OutlineIsSound, IsBeforeStop, control_at, time_of, owner_at, group_owner, IsMove, groups_of, control_times, answer_times, sender, receiver, IsOwedBy, IsOwedTo, share, name_count}
+use Rattle.mp_names.specs.Logs.{Log, LogIsLegal, LogGrows, InHandBefore, EarlierApplied, owned_groups, is_opening_here}
 use Rattle.mp_names.specs.Frontiers.{IsFrontier, HasPassed, frontier_of, IsClosed, IsClosedForOne}
 use Rattle.mp_names.specs.Keeping.{GroupIsWhole}
 use Rattle.mp_machine.specs.Worlds.{Worker, World, posted_logs, start_of_machine}
 use Rattle.mp_machine.specs.Messages.{joined, IsMessage}
-use Rattle.mp_machine.specs.Steps.{KindFits, IsPlace, IsNext, IsReady, CanStep, CanExchange, AreNamesOf, names_of, logged, stepped, version_after, exchanged}
+use Rattle.mp_machine.specs.Steps.{KindFits, IsPlace, IsNext, IsReady, MaySendControl, CanStep, CanExchange, AreNamesOf, names_of, logged, stepped, version_after, exchanged}
 use Rattle.mp_machine.specs.Runs.{Did, Saw, NotNow, turn_of_machine, step_of_machine, world_after, run_of_machine, turns_of, made_count, IsFinished, WorkerIsFinished}
 use Rattle.mp_machine.specs.Places.{places}
-use Rattle.mp_machine.specs.Holding.{HasOneHolder, HasOnePacket}
+use Rattle.mp_machine.specs.Holding.{IsOnTheWay, HasOneHolder, HasOnePacket, Holds}
 
 -- Turns and conditions
 
@@ -65,6 +65,20 @@ PlacesAreListed = (o : Outline) (w : ℕ) (kind : Kind) → IsPlace o w kind →
 abbrev pub PlacesAreCounted : Type 0
 PlacesAreCounted = (o : Outline) → length (places o) ≡ o.workers * (4 * o.stages + o.workers + 5)
 
+-- The control record at k has the latest of the control times below t
+pub record IsLatestBelow (o : Outline) (t k : ℕ) : Type 0 where
+  pub listed : k < length o.controls
+  pub below : (control_at o k).time < t
+  pub last : (i : ℕ) → i < length o.controls → (control_at o i).time < t → (control_at o i).time ≤ (control_at o k).time
+
+-- where no control time is below that of a control record, it may go out
+abbrev pub FirstTimesMayGo : Type 0
+FirstTimesMayGo = (o : Outline) (worker : Worker) (x : Name) → ((i : ℕ) → i < length o.controls → time_of o x ≤ (control_at o i).time) → MaySendControl o worker x
+
+-- else it may in a paced job exactly where the host of every stage has passed the latest of them
+abbrev pub LatestTimeDecides : Type 0
+LatestTimeDecides = (o : Outline) (worker : Worker) (x : Name) (k : ℕ) → o.paced ≡ true → IsLatestBelow o (time_of o x) k → (MaySendControl o worker x ↔ ((j : ℕ) → j < o.stages → HasPassed (worker.seen (Host j)) (control_at o k).time))
+
 -- One worker
 
 -- of the names of a message that comes by mail the worker knows that they are owed to it, that it didn't take them before, and that each is there once
@@ -96,10 +110,10 @@ pub record LogIsFull (o : Outline) (w : ℕ) (log : Log) : Type 0 where
   pub settled : (j : ℕ) → j < o.stages → filter (is_settled j) log.settled ≡ control_times o j
   pub written : w ≡ 0 → filter is_written log.settled ≡ answer_times o
 
--- a legal log is full once its own part is closed everywhere, and on worker 0 every taken row is written
+-- a legal log is full once its own part is closed everywhere, up to the stop time if there is one, and on worker 0 every taken row is written
 abbrev pub ClosedLogsAreFull : Type 0
 ClosedLogsAreFull =
-    (o : Outline) (w : ℕ) (log : Log) → OutlineIsSound o → w < o.workers → LogIsLegal o w log → ((t : ℕ) → IsClosedForOne o w log OutMail t) → (w ≡ 0 → (t : ℕ) (g : Tag) → In (Row t g) log.took → In (Written t) log.settled) → LogIsFull o w log
+    (o : Outline) (w : ℕ) (log : Log) → OutlineIsSound o → w < o.workers → LogIsLegal o w log → ((t : ℕ) → IsBeforeStop o.until t → IsClosedForOne o w log OutMail t) → (w ≡ 0 → (t : ℕ) (g : Tag) → In (Row t g) log.took → In (Written t) log.settled) → LogIsFull o w log
 
 -- Runs
 
@@ -168,6 +182,11 @@ VersionsTell =
 abbrev pub BinsAreInOnePlace : Type 0
 BinsAreInOnePlace = InEveryRun (λ o depth world. (j b : ℕ) → j < o.stages → b < o.bins → HasOneHolder o world j b ⊎ HasOnePacket o world j b)
 
+-- a wake that the job has from the start goes with its bin: until its group is applied it is in hand of the worker that holds the bin, and of no other
+abbrev pub OpeningWakesGoWithBins : Type 0
+OpeningWakesGoWithBins =
+    InEveryRun (λ o depth world. (j u k w : ℕ) → w < o.workers → In (Group j u k) (o.opening j) → has (world.worker (group_owner o j u k)).log.applied (Group j u k) ≡ false → (is_opening_here o w (world.worker w).log j u k ≡ true ↔ Holds o world j (o.bin_of k) w))
+
 -- when a group is applied, it is its worker's with all that belongs to it, and no worker has applied it before
 abbrev pub GroupsAreAppliedWhole : Type 0
 GroupsAreAppliedWhole =
@@ -176,6 +195,10 @@ GroupsAreAppliedWhole =
 -- only the owner of a group applies it
 abbrev pub OwnersApply : Type 0
 OwnersApply = InEveryRun (λ o depth world. (w j t k : ℕ) → w < o.workers → In (Group j t k) (world.worker w).log.applied → group_owner o j t k ≡ w)
+
+-- no group from the stop time on is applied
+abbrev pub GroupsWaitAtTheStop : Type 0
+GroupsWaitAtTheStop = InEveryRun (λ o depth world. (w j t k : ℕ) → w < o.workers → In (Group j t k) (world.worker w).log.applied → IsBeforeStop o.until t)
 
 -- when a packet leaves, the bin is in hand, and every group of it below the packet's time that the sender owns is applied
 abbrev pub PacketsLeaveLast : Type 0
@@ -198,15 +221,26 @@ pub record BinsAreAppliedInOrder (o : Outline) (depth : ℕ) (world : World) : T
 abbrev pub UpdatesComeInOrder : Type 0
 UpdatesComeInOrder = InEveryRun BinsAreAppliedInOrder
 
+-- Pacing
+
+-- in a paced job, where a control record is sent, every packet of a time below its own is taken
+abbrev pub ControlsWaitForPackets : Type 0
+ControlsWaitForPackets =
+    InEveryRun (λ o depth world. o.paced ≡ true → (w i v j b t : ℕ) → w < o.workers → In (Ctrl i v) (world.worker w).log.sent → IsMove o j b t → t < (control_at o i).time → In (Packet j b t) (world.worker (owner_at o j b t)).log.took)
+
+-- in a paced job all packets that are sent and not taken have one time
+abbrev pub PacketsHaveOneTime : Type 0
+PacketsHaveOneTime = InEveryRun (λ o depth world. o.paced ≡ true → (j b t i c u : ℕ) → IsMove o j b t → IsMove o i c u → IsOnTheWay o world j b t → IsOnTheWay o world i c u → t ≡ u)
+
 -- The end
 
 -- where all is over, every log is full
 abbrev pub FinishedRunsAreFull : Type 0
 FinishedRunsAreFull = InEveryRun (λ o depth world. IsFinished o world → (w : ℕ) → w < o.workers → LogIsFull o w (world.worker w).log)
 
--- every group is applied, by its owner
+-- every group before the stop time is applied, by its owner
 abbrev pub FinishedRunsApplyAll : Type 0
-FinishedRunsApplyAll = InEveryRun (λ o depth world. IsFinished o world → (j t k : ℕ) → In (Group j t k) (groups_of o j) → In (Group j t k) (world.worker (group_owner o j t k)).log.applied)
+FinishedRunsApplyAll = InEveryRun (λ o depth world. IsFinished o world → (j t k : ℕ) → In (Group j t k) (groups_of o j) → IsBeforeStop o.until t → In (Group j t k) (world.worker (group_owner o j t k)).log.applied)
 
 -- a worker that knows that all is over has a full log
 abbrev pub FinishedWorkersAreFull : Type 0

@@ -5,12 +5,12 @@ use Rattle.mp_names.specs.declared.names.Name.{Name}
 use Rattle.mp_names.specs.declared.names.Name.TheVariants.{Row, Written}
 use Rattle.mp_names.specs.declared.names.Tag.{Tag}
 use Rattle.mp_names.specs.declared.locations.Loc.{Loc}
-use Rattle.mp_names.specs.declared.locations.Frontier.TheVariants.{Done}
+use Rattle.mp_names.specs.declared.locations.Frontier.{Frontier}
 use Rattle.mp_names.specs.declared.kinds.Kind.{Kind}
 use Rattle.mp_names.specs.declared.kinds.Kind.TheVariants.{Exchange}
 use Rattle.mp_names.specs.Names.{In}
 use Rattle.mp_names.specs.Outlines.{Outline}
-use Rattle.mp_names.specs.Frontiers.{IsFrontier}
+use Rattle.mp_names.specs.Frontiers.{IsFrontier, HasEnded}
 use Rattle.mp_names.specs.Locations.{IsLocation}
 use Rattle.mp_machine.specs.Worlds.{World, posted_logs, start_of_machine}
 use Rattle.mp_machine.specs.Steps.{names_of, stepped, exchanged, version_after}
@@ -64,12 +64,12 @@ is_made _ = true
 abbrev pub made_count : List Turn → ℕ
 made_count turns = count_by is_made turns
 
--- All is over: every frontier of the board is Done, and every answer row is written
+-- All is over: every frontier of the board has come to the end, and every answer row is written
 pub record IsFinished (o : Outline) (world : World) : Type 0 where
-  pub done : (at : Loc) → IsLocation o.stages at → IsFrontier o (posted_logs world) at Done
+  pub done : (at : Loc) → IsLocation o.stages at → (f : Frontier) × IsFrontier o (posted_logs world) at f × HasEnded o.until f
   pub written : (t : ℕ) (g : Tag) → In (Row t g) o.rows → In (Written t) (world.worker 0).log.settled
 
--- A worker knows that all is over: every frontier that it saw is Done, and worker 0 has written every row that it took
+-- A worker knows that all is over: every frontier that it saw has come to the end, and worker 0 has written every row that it took
 pub record WorkerIsFinished (o : Outline) (world : World) (w : ℕ) : Type 0 where
-  pub done : (at : Loc) → IsLocation o.stages at → (world.worker w).seen at ≡ Done
+  pub done : (at : Loc) → IsLocation o.stages at → HasEnded o.until ((world.worker w).seen at)
   pub written : w ≡ 0 → (t : ℕ) (g : Tag) → In (Row t g) (world.worker w).log.took → In (Written t) (world.worker w).log.settled

@@ -1,17 +1,18 @@
--- Three runs to compute with, each a worked example: its steps with the turns that they have, and what is seen on the way.
-use Rattle.std.specs.Prelude.{◌≡◌, ℕ, List, [], ◌∷◌, ◌++◌, map, pos}
-use Rattle.mp_names.specs.declared.names.Name.TheVariants.{Ctrl, Rec, Packet, Group, Settled}
+-- Runs to compute with, each a worked example: its steps with the turns that they have, and what is seen on the way.
+use Rattle.std.specs.Prelude.{◌≡◌, ℕ, ◌%◌, true, false, List, [], ◌∷◌, ◌++◌, map, None, pos}
+use Rattle.mp_names.specs.declared.names.Name.TheVariants.{Ctrl, Rec, Packet, Row, Group, Settled, Written}
 use Rattle.mp_names.specs.declared.locations.Loc.{Loc}
-use Rattle.mp_names.specs.declared.locations.Loc.TheVariants.{CtlMail, Source, Mail, State, Host}
+use Rattle.mp_names.specs.declared.locations.Loc.TheVariants.{CtlMail, Source, Mail, State, Host, OutMail}
 use Rattle.mp_names.specs.declared.locations.Frontier.{Frontier}
 use Rattle.mp_names.specs.declared.locations.Frontier.TheVariants.{At, Done}
 use Rattle.mp_names.specs.declared.kinds.Kind.{Kind}
-use Rattle.mp_names.specs.declared.kinds.Kind.TheVariants.{Ingest, SendControl, Route, Receive, Extract, Settle, Apply, Exchange}
+use Rattle.mp_names.specs.declared.kinds.Kind.TheVariants.{Ingest, SendControl, Route, Receive, Extract, Settle, Apply, SendRow, Write, Exchange}
 use Rattle.mp_names.specs.Outlines.{Outline}
 use Rattle.mp_names.specs.Frontiers.{count_at}
-use Rattle.mp_names.specs.Samples.{tag, by_stage, three_bids, two_bids, first_bid, second_bid, wake_moves}
+use Rattle.mp_names.specs.Samples.{tag, control, no_posts, no_wakes, by_stage, three_bids, two_bids, first_bid, second_bid, wake_moves, stopped_moves, wake_goes_on}
 use Rattle.mp_machine.specs.Worlds.{posted_logs, start_of_machine}
 use Rattle.mp_machine.specs.Runs.{Turn, Did, Saw, NotNow, run_of_machine, turns_of}
+use Rattle.mp_machine.specs.Places.{places}
 
 -- a step and the turn that it has
 pub record Played : Type 0 where
@@ -169,3 +170,136 @@ all_received = bundled ++ plays 0 (Receive 0) (Did (Rec 0 5 7 (tag 0 0)) 2) ∷ 
 pub record RecordsTravelTogether : Type 0 where
   pub turns : HasTurns four_bids all_received
   pub waiting : (run_of_machine four_bids 2 (steps_of bundled)).mailbox 0 0 ≡ (Rec 0 5 7 (tag 0 0) ∷ Rec 0 5 2 (tag 0 2) ∷ []) ∷ (Rec 0 5 7 (tag 0 3) ∷ []) ∷ []
+
+-- `paced_moves`: a bid at 5, whose bin moves to worker 1 at 10 and back at 20
+abbrev pub paced_moves : Outline
+paced_moves =
+    record {
+      workers = 2;
+      bins = 1;
+      stages = 1;
+      controls = control 10 0 0 1 ∷ control 20 0 0 0 ∷ [];
+      first_owner = λ j b. b % 2;
+      bin_of = λ k. 0;
+      records = by_stage (Rec 0 5 1 (tag 0 0) ∷ []) [];
+      posts = no_posts;
+      rows = Row 5 (tag 1 0) ∷ [];
+      opening = no_wakes;
+      bundle = 1;
+      paced = true;
+      until = None;
+    }
+
+-- the control record of 10 goes to both workers; that of 20 has to wait
+abbrev pub first_told : List Played
+first_told = plays 0 SendControl (Did (Ctrl 0 0) 1) ∷ plays 0 SendControl (Did (Ctrl 0 1) 1) ∷ plays 0 SendControl NotNow ∷ []
+
+-- in a job that isn't paced it needn't
+abbrev pub both_told : List Played
+both_told = plays 0 SendControl (Did (Ctrl 0 0) 1) ∷ plays 0 SendControl (Did (Ctrl 0 1) 1) ∷ plays 0 SendControl (Did (Ctrl 1 0) 1) ∷ []
+
+-- the records of 10 and 20 in the other order
+abbrev pub swapped_moves : Outline
+swapped_moves = record paced_moves { controls = control 20 0 0 0 ∷ control 10 0 0 1 ∷ [] }
+
+-- the bin leaves at 10, after the group of 5
+abbrev pub first_left : List Played
+first_left =
+    first_told
+    ++ plays 0 (Receive 0) (Did (Ctrl 0 0) 1)
+    ∷ plays 1 (Receive 0) (Did (Ctrl 0 1) 1)
+    ∷ plays 0 Ingest (Did (Rec 0 5 1 (tag 0 0)) 1)
+    ∷ plays 0 Exchange (Saw 1)
+    ∷ plays 1 Exchange (Saw 2)
+    ∷ plays 0 Exchange (Saw 2)
+    ∷ plays 0 (Route 0) (Did (Rec 0 5 1 (tag 0 0)) 1)
+    ∷ plays 0 (Receive 0) (Did (Rec 0 5 1 (tag 0 0)) 1)
+    ∷ plays 0 Exchange (Saw 3)
+    ∷ plays 0 (Apply 0) (Did (Group 0 5 1) 1)
+    ∷ plays 0 Exchange (Saw 4)
+    ∷ plays 0 (Extract 0) (Did (Packet 0 0 10) 1)
+    ∷ plays 0 (Settle 0) (Did (Settled 0 10) 1)
+    ∷ plays 1 (Settle 0) (Did (Settled 0 10) 1)
+    ∷ plays 0 Exchange (Saw 5)
+    ∷ plays 1 Exchange (Saw 6)
+    ∷ plays 0 Exchange (Saw 6)
+    ∷ plays 0 SendControl NotNow
+    ∷ []
+
+-- once worker 0 sees that it arrived, the control record of 20 goes out
+abbrev pub second_told : List Played
+second_told = first_left ++ plays 1 (Receive 0) (Did (Packet 0 0 10) 1) ∷ plays 1 Exchange (Saw 7) ∷ plays 0 SendControl NotNow ∷ plays 0 Exchange (Saw 7) ∷ plays 0 SendControl (Did (Ctrl 1 0) 1) ∷ []
+
+-- In this run a control record waits until the bin that moves before has arrived
+pub record PacedMovesWait : Type 0 where
+  pub turns : HasTurns paced_moves second_told
+  pub unpaced : HasTurns (record paced_moves { paced = false }) both_told
+  pub by_time : HasTurns swapped_moves (plays 0 SendControl (Did (Ctrl 1 0) 1) ∷ [])
+  pub host_waits : seen_after paced_moves first_left 0 (Host 0) ≡ At 10
+  pub host_passed : seen_after paced_moves second_told 0 (Host 0) ≡ At 20
+
+-- `stopped_handoff`: the same moves and steps as in `gated_handoff`, with a stop at 60. The wake goes along with the bin and isn't applied
+abbrev pub stopped : List Played
+stopped = taken ++ plays 1 (Apply 0) NotNow ∷ plays 0 Exchange (Saw 8) ∷ []
+
+-- In this run all is over with a group that waits
+pub record StopsAreKept : Type 0 where
+  pub turns : HasTurns stopped_moves stopped
+  pub host_waits : seen_after stopped_moves stopped 0 (Host 0) ≡ At 100
+  pub answer_waits : seen_after stopped_moves stopped 0 OutMail ≡ At 100
+  pub nothing_left : turns_of stopped_moves 2 (run_of_machine stopped_moves 2 (steps_of stopped)) (places stopped_moves) ≡ map (λ p. NotNow) (places stopped_moves)
+
+-- `opening_wake`: the job of `wake_moves`, taken up at 50. No event is left, but auction 1 is to be closed at 100, and its bin moves at 50
+
+-- the opening wake has to wait for the move, which is told, and the bin leaves
+abbrev pub opening_sent : List Played
+opening_sent =
+    plays 0 (Apply 0) NotNow
+    ∷ plays 1 (Apply 0) NotNow
+    ∷ plays 0 SendControl (Did (Ctrl 0 0) 1)
+    ∷ plays 0 SendControl (Did (Ctrl 0 1) 1)
+    ∷ plays 0 (Receive 0) (Did (Ctrl 0 0) 1)
+    ∷ plays 1 (Receive 0) (Did (Ctrl 0 1) 1)
+    ∷ plays 0 Exchange (Saw 1)
+    ∷ plays 1 Exchange (Saw 2)
+    ∷ plays 0 Exchange (Saw 2)
+    ∷ plays 0 (Extract 0) (Did (Packet 0 0 50) 1)
+    ∷ plays 0 (Settle 0) (Did (Settled 0 50) 1)
+    ∷ plays 1 (Settle 0) (Did (Settled 0 50) 1)
+    ∷ plays 0 Exchange (Saw 3)
+    ∷ plays 1 Exchange (Saw 4)
+    ∷ []
+
+-- worker 1 takes the packet, and applies the wake
+abbrev pub opening_applied : List Played
+opening_applied =
+    opening_sent
+    ++ plays 1 (Apply 0) NotNow
+    ∷ plays 1 (Receive 0) (Did (Packet 0 0 50) 1)
+    ∷ plays 1 Exchange (Saw 5)
+    ∷ plays 1 (Apply 0) (Did (Group 0 100 1) 1)
+    ∷ []
+
+-- the sale goes to worker 0, which applies it and writes its row
+abbrev pub opening_written : List Played
+opening_written =
+    opening_applied
+    ++ plays 1 (Route 1) (Did (Rec 1 100 10 (tag 1 0)) 1)
+    ∷ plays 1 Exchange (Saw 6)
+    ∷ plays 0 (Receive 1) (Did (Rec 1 100 10 (tag 1 0)) 1)
+    ∷ plays 0 Exchange (Saw 7)
+    ∷ plays 0 (Apply 1) (Did (Group 1 100 10) 1)
+    ∷ plays 0 SendRow (Did (Row 100 (tag 10 0)) 1)
+    ∷ plays 0 (Receive 0) (Did (Row 100 (tag 10 0)) 1)
+    ∷ plays 0 Exchange (Saw 8)
+    ∷ plays 0 Write (Did (Written 100) 1)
+    ∷ []
+
+-- In this run of a job without events a wake that it has from the start moves with its bin, and its row is written
+pub record OpeningWakeIsApplied : Type 0 where
+  pub turns : HasTurns wake_goes_on opening_written
+  pub host_at_first : seen_after wake_goes_on [] 0 (Host 0) ≡ At 50
+  pub counted : count_at wake_goes_on (posted_logs (start_of_machine wake_goes_on)) (Host 0) 100 ≡ pos 1
+  pub packet_waits : seen_after wake_goes_on opening_sent 1 (State 0) ≡ At 50
+  pub sale_waits : seen_after wake_goes_on opening_applied 1 (Mail 1) ≡ At 100
+  pub all_done : seen_after wake_goes_on opening_written 0 OutMail ≡ Done

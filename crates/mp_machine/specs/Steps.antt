@@ -1,12 +1,12 @@
 -- The ten kinds of step: of each the place, the names that it puts into its worker's log, the condition and the effect.
-use Rattle.std.specs.Prelude.{◌≡◌, ℕ, suc, ◌<◌, ◌⊎◌, cond, ◌&&◌, Bool, true, false, List, [], ◌∷◌, ◌++◌, length}
+use Rattle.std.specs.Prelude.{◌≡◌, ℕ, suc, ◌<◌, ◌≤◌, ◌⊎◌, cond, ◌&&◌, Bool, true, false, List, [], ◌∷◌, ◌++◌, length}
 use Rattle.mp_names.specs.declared.names.Name.{Name}
 use Rattle.mp_names.specs.declared.names.Name.TheVariants.{Packet, Group, Settled}
 use Rattle.mp_names.specs.declared.locations.Loc.TheVariants.{CtlMail, Mail, State, Host, OutMail}
 use Rattle.mp_names.specs.declared.kinds.Kind.{Kind}
 use Rattle.mp_names.specs.declared.kinds.Kind.TheVariants.{Ingest, SendControl, Route, Receive, Extract, Settle, Apply, SendRow, Write, Exchange}
 use Rattle.mp_names.specs.Names.{In, same_name, IsPrefix, IsLeast, is_ctrl, is_rec, is_row}
-use Rattle.mp_names.specs.Outlines.{Outline, time_of, receiver, IsOwedBy, share}
+use Rattle.mp_names.specs.Outlines.{Outline, IsBeforeStop, control_at, time_of, receiver, IsOwedBy, share}
 use Rattle.mp_names.specs.Logs.{Log, InHandBefore, InHand}
 use Rattle.mp_names.specs.Frontiers.{HasPassed, HasReached, frontier_of}
 use Rattle.mp_names.specs.Keeping.{IsHeld, IsUnsentPacket, IsUnsettled, IsWaiting, IsUnwritten}
@@ -29,23 +29,31 @@ IsPlace o w kind = (w < o.workers) × KindFits o kind
 
 -- Conditions
 
+-- a control record that the worker holds; in a paced job one of the least time, so that they go out by time
+abbrev pub IsControlDue : Outline → ℕ → Log → Name → Type 0
+IsControlDue o w log x = IsHeld o w log is_ctrl x × (o.paced ≡ true → (y : Name) → IsHeld o w log is_ctrl y → time_of o x ≤ time_of o y)
+
 -- a packet that the worker owes and hasn't sent, of a move that it knows: the control stream has passed the time
 abbrev pub IsDue : Outline → ℕ → Worker → ℕ → Name → Type 0
 IsDue o w worker j (Packet i b t) = IsUnsentPacket o w worker.log j (Packet i b t) × HasPassed (worker.seen CtlMail) t
 IsDue o w worker j _ = ⊥
 
--- the name that the step would put into the log, or the first of several: the next record of the share; the least control record, record or answer row that is held; the least packet that is due; the least time of noted control records that isn't settled; the least group that waits; the least time of taken answer rows that isn't written. Which names are received, the mailbox says. An exchange puts none
+-- the name that the step would put into the log, or the first of several: the next record of the share; the least control record that is due; the least record or answer row that is held; the least packet that is due; the least time of noted control records that isn't settled; the least group that waits; the least time of taken answer rows that isn't written. Which names are received, the mailbox says. An exchange puts none
 abbrev pub IsNext : Outline → ℕ → Worker → Kind → Name → Type 0
 IsNext o w worker Ingest x = IsPrefix (worker.log.ingested ++ x ∷ []) (share o w)
-IsNext o w worker SendControl x = IsLeast (IsHeld o w worker.log is_ctrl) x
+IsNext o w worker SendControl x = IsLeast (IsControlDue o w worker.log) x
 IsNext o w worker (Route j) x = IsLeast (IsHeld o w worker.log (is_rec j)) x
 IsNext o w worker (Receive v) x = Unit {0}
 IsNext o w worker (Extract j) x = IsLeast (IsDue o w worker j) x
 IsNext o w worker (Settle j) x = IsLeast (IsUnsettled o worker.log j) x
-IsNext o w worker (Apply j) x = IsLeast (IsWaiting o worker.log j) x
+IsNext o w worker (Apply j) x = IsLeast (IsWaiting o w worker.log j) x
 IsNext o w worker SendRow x = IsLeast (IsHeld o w worker.log is_row) x
 IsNext o w worker Write x = (w ≡ 0) × IsLeast (IsUnwritten worker.log) x
 IsNext o w worker Exchange x = ⊥
+
+-- a control record may go out: in a paced job all that moves at earlier times is known to have arrived, since the host of every stage has passed each control time below its own
+abbrev pub MaySendControl : Outline → Worker → Name → Type 0
+MaySendControl o worker x = o.paced ≡ true → (j i : ℕ) → j < o.stages → i < length o.controls → (control_at o i).time < time_of o x → HasPassed (worker.seen (Host j)) (control_at o i).time
 
 -- a packet may leave: all groups before its time are known to be applied, and the bin is in hand
 abbrev pub MayLeave : Outline → ℕ → Worker → ℕ → Name → Type 0
@@ -57,13 +65,14 @@ abbrev pub MaySettle : Outline → ℕ → Worker → ℕ → Name → Type 0
 MaySettle o w worker j (Settled i t) = HasPassed (worker.seen CtlMail) t × ((b : ℕ) → IsOwedBy o w (Packet j b t) → In (Packet j b t) worker.log.sent)
 MaySettle o w worker j _ = ⊥
 
--- a group may be applied: all records and all packets up to its time have come, and the bin is in hand
+-- a group may be applied: all records and all packets up to its time have come, the bin is in hand, and it is before the stop time
 abbrev pub MayApply : Outline → ℕ → Worker → ℕ → Name → Type 0
-MayApply o w worker j (Group i t k) = HasPassed (worker.seen (Mail j)) t × HasPassed (worker.seen (State j)) t × InHand o w worker.log j (o.bin_of k) t
+MayApply o w worker j (Group i t k) = HasPassed (worker.seen (Mail j)) t × HasPassed (worker.seen (State j)) t × InHand o w worker.log j (o.bin_of k) t × IsBeforeStop o.until t
 MayApply o w worker j _ = ⊥
 
 -- what the worker must have seen and hold for the step with this name
 abbrev pub IsReady : Outline → ℕ → Worker → Kind → Name → Type 0
+IsReady o w worker SendControl x = MaySendControl o worker x
 IsReady o w worker (Route j) x = HasPassed (worker.seen CtlMail) (time_of o x)
 IsReady o w worker (Extract j) x = MayLeave o w worker j x
 IsReady o w worker (Settle j) x = MaySettle o w worker j x

@@ -1,5 +1,5 @@
 -- The same conditions as tests, with the next name found by a search through lists.
-use Rattle.std.specs.Prelude.{ℕ, Bool, true, false, cond, not, ◌&&◌, ◌||◌, ◌==◌, nat_lt, nat_le, suc, List, [], ◌∷◌, filter, map, length, Option, None, Some}
+use Rattle.std.specs.Prelude.{ℕ, Bool, true, false, cond, not, ◌&&◌, ◌||◌, ◌==◌, nat_lt, nat_le, zero, suc, List, [], ◌∷◌, filter, map, length, Option, None, Some}
 use Rattle.std.specs.List.{list_any}
 use Rattle.mp_names.specs.declared.names.Name.{Name}
 use Rattle.mp_names.specs.declared.names.Name.TheVariants.{Ctrl, Packet, Group, Settled, Written}
@@ -9,7 +9,7 @@ use Rattle.mp_names.specs.declared.locations.Frontier.TheVariants.{At, Done}
 use Rattle.mp_names.specs.declared.kinds.Kind.{Kind}
 use Rattle.mp_names.specs.declared.kinds.Kind.TheVariants.{Ingest, SendControl, Route, Receive, Extract, Settle, Apply, SendRow, Write, Exchange}
 use Rattle.mp_names.specs.Names.{same_name, has, rank_of, is_before, is_row}
-use Rattle.mp_names.specs.Outlines.{Outline, control_at, time_of, owner_before, sender, receiver, packets_of, groups_of, ctrl_names, share}
+use Rattle.mp_names.specs.Outlines.{Outline, is_before_stop, control_at, time_of, owner_before, sender, receiver, packets_of, groups_of, ctrl_names, share}
 use Rattle.mp_names.specs.Logs.{Log, is_pending}
 use Rattle.mp_names.specs.Frontiers.{is_held}
 use Rattle.mp_machine.specs.Worlds.{Worker, World}
@@ -52,6 +52,18 @@ abbrev pub first_of : List Name → Option Name
 first_of [] = None
 first_of (x ∷ xs) = Some x
 
+-- the test holds of each number below n
+abbrev pub all_below : ℕ → (ℕ → Bool) → Bool
+all_below zero p = true
+all_below (suc n) p = all_below n p && p n
+
+-- a control record that is held, of an earlier time than x
+abbrev pub goes_sooner : Outline → ℕ → Log → Name → Name → Bool
+goes_sooner o w log x y = is_held o w log y && nat_lt (time_of o y) (time_of o x)
+
+abbrev pub is_control_due : Outline → ℕ → Log → Name → Bool
+is_control_due o w log x = is_held o w log x && (not o.paced || not (list_any (goes_sooner o w log x) (ctrl_names o)))
+
 abbrev pub is_due : Outline → ℕ → Worker → ℕ → Name → Bool
 is_due o w worker j (Packet i b t) = i == j && (owner_before o j b t == w && (not (has worker.log.sent (Packet j b t)) && has_passed (worker.seen CtlMail) t))
 is_due o w worker j _ = false
@@ -70,12 +82,12 @@ taken_times o log = map (λ x. Written (time_of o x)) (filter is_row log.took)
 
 abbrev pub next_name : Outline → World → ℕ → Kind → Option Name
 next_name o world w Ingest = next_of (world.worker w).log.ingested (share o w)
-next_name o world w SendControl = least_where (is_held o w (world.worker w).log) (ctrl_names o)
+next_name o world w SendControl = least_where (is_control_due o w (world.worker w).log) (ctrl_names o)
 next_name o world w (Route j) = least_where (is_held o w (world.worker w).log) (o.records j)
 next_name o world w (Receive v) = first_of (first_message (world.mailbox v w))
 next_name o world w (Extract j) = least_where (is_due o w (world.worker w) j) (packets_of o)
 next_name o world w (Settle j) = least_where (λ x. not (has (world.worker w).log.settled x)) (noted_times o j (world.worker w).log)
-next_name o world w (Apply j) = least_where (is_pending o (world.worker w).log) (groups_of o j)
+next_name o world w (Apply j) = least_where (is_pending o w (world.worker w).log) (groups_of o j)
 next_name o world w SendRow = least_where (is_held o w (world.worker w).log) o.rows
 next_name o world w Write = cond (w == 0) (least_where (λ x. not (has (world.worker w).log.settled x)) (taken_times o (world.worker w).log)) None
 next_name o world w Exchange = None
@@ -97,6 +109,13 @@ abbrev pub is_left_over : Outline → ℕ → Log → ℕ → ℕ → Name → B
 is_left_over o w log j t (Packet i b m) = i == j && (m == t && (sender o (Packet i b m) == w && not (has log.sent (Packet i b m))))
 is_left_over o w log j t _ = false
 
+-- the time of this control record isn't below t, or the host of stage j has passed it
+abbrev pub is_past : Outline → Worker → ℕ → ℕ → ℕ → Bool
+is_past o worker t j i = not (nat_lt (control_at o i).time t) || has_passed (worker.seen (Host j)) (control_at o i).time
+
+abbrev pub may_send_control : Outline → Worker → Name → Bool
+may_send_control o worker x = not o.paced || all_below o.stages (λ j. all_below (length o.controls) (is_past o worker (time_of o x) j))
+
 abbrev pub may_leave : Outline → ℕ → Worker → ℕ → Name → Bool
 may_leave o w worker j (Packet i b t) = has_reached (worker.seen (Host j)) t && is_in_hand_before o w worker.log j b t
 may_leave o w worker j _ = false
@@ -106,10 +125,11 @@ may_settle o w worker j (Settled i t) = has_passed (worker.seen CtlMail) t && no
 may_settle o w worker j _ = false
 
 abbrev pub may_apply : Outline → ℕ → Worker → ℕ → Name → Bool
-may_apply o w worker j (Group i t k) = has_passed (worker.seen (Mail j)) t && (has_passed (worker.seen (State j)) t && is_in_hand_before o w worker.log j (o.bin_of k) (suc t))
+may_apply o w worker j (Group i t k) = has_passed (worker.seen (Mail j)) t && (has_passed (worker.seen (State j)) t && (is_in_hand_before o w worker.log j (o.bin_of k) (suc t) && is_before_stop o.until t))
 may_apply o w worker j _ = false
 
 abbrev pub is_ready : Outline → ℕ → Worker → Kind → Name → Bool
+is_ready o w worker SendControl x = may_send_control o worker x
 is_ready o w worker (Route j) x = has_passed (worker.seen CtlMail) (time_of o x)
 is_ready o w worker (Extract j) x = may_leave o w worker j x
 is_ready o w worker (Settle j) x = may_settle o w worker j x

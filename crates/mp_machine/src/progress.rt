@@ -2,9 +2,9 @@
 
 ghost use Rattle.mp_machine.specs.Promises.{FinishedRunsAreFull, FinishedRunsApplyAll, FinishedWorkersAreFull, FinishedWorkersEndTheRun, NeverStuck, SomeoneCanStep, StepsAreBounded, StepsAreBoundedClosely};
 
-/// Where every frontier of the board is Done and every answer row is written, every log is full: all is
-/// sent and taken, and every group is applied. A worker that knows the end has a full log by that alone,
-/// and where every worker knows it, all is over.
+/// Where every frontier of the board is Done, or has reached the stop time if there is one, and every answer row is
+/// written, every log is full: all is sent and taken, and every group before the stop time is applied. A worker that
+/// knows the end has a full log by that alone, and where every worker knows it, all is over.
 pub fn finished_runs_are_full()
     ensures full { FinishedRunsAreFull }
     ensures applied { FinishedRunsApplyAll }

@@ -1,6 +1,6 @@
 //! What one step of the machine does, each law the contract of a function that does nothing.
 
-ghost use Rattle.mp_machine.specs.Promises.{DidTells, SawTells, NotNowTells, EffectsFollowTurns, StepsFollowConditions, OneNameAtMost, PlacesAreListed, PlacesAreCounted, StepsKeepLogsLegal, ClosedLogsAreFull};
+ghost use Rattle.mp_machine.specs.Promises.{DidTells, SawTells, NotNowTells, EffectsFollowTurns, StepsFollowConditions, FirstTimesMayGo, LatestTimeDecides, OneNameAtMost, PlacesAreListed, PlacesAreCounted, StepsKeepLogsLegal, ClosedLogsAreFull};
 
 /// A step is made exactly where its condition is true, with the name that the condition gives; where it
 /// is false nothing changes. So a run is determined by its list of steps.
@@ -11,6 +11,12 @@ pub fn turns_tell_conditions()
     ensures one_name { OneNameAtMost }
     ensures effect { EffectsFollowTurns }
     ensures made { StepsFollowConditions }
+{}
+
+/// In a paced job a control record waits for one of the earlier control times alone, the latest.
+pub fn latest_time_decides()
+    ensures first { FirstTimesMayGo }
+    ensures later { LatestTimeDecides }
 {}
 
 /// The places of the machine, by worker and then in the order in which a worker's round tries the kinds.

@@ -11,22 +11,22 @@ use Rattle.mp_model.specs.Legal.{EventIsLegal, EventsAreLegal, IsName}
 use Rattle.mp_draws.specs.Draws.{first_state, next_state}
 use Rattle.mp_make.specs.Made.{auction_at, bid_at, event_at, events_from, made_events, person_at, state_text, ten_of, time_by}
 
-either : {X : Type 0} (P : X → Type 0) (b : Bool) (x y : X) → P x → P y → P (cond b x y)
+pub either : {X : Type 0} (P : X → Type 0) (b : Bool) (x y : X) → P x → P y → P (cond b x y)
 either P true x y h k = h
 either P false x y h k = k
 
 early : (index draw : ℕ) → index < most_events → time_by index draw + 2001 ≤ greatest_time
 early index draw low =
     let part = mod-lt draw (let some : 0 < 20 = lit< tt in some) in
-    let room : 1252021 ≤ 2 ^ 47 = lit≤ tt in omega (arith, part, low, room)
+    let room : 5002021 ≤ 2 ^ 47 = lit≤ tt in omega (arith, part, low, room)
 
 small : (index : ℕ) → index < most_events → 2 * ten_of index + 10 ≤ greatest_id
-small index low = let room : 500010 ≤ 2 ^ 48 = lit≤ tt in omega (arith, div-le_self index 10, low, room)
+small index low = let room : 2000010 ≤ 2 ^ 48 = lit≤ tt in omega (arith, div-le_self index 10, low, room)
 
 few_digits : (n : ℕ) → n < most_events → length (decimal n) ≤ 20
 few_digits n low =
-    let one : 250000 ≤ 10 ^ 20 = lit≤ tt in
-    let two : 250000 ≤ 2 ^ 64 = lit≤ tt in
+    let one : 1000000 ≤ 10 ^ 20 = lit≤ tt in
+    let two : 1000000 ≤ 2 ^ 64 = lit≤ tt in
     length-decimal-le 20 n (lit< tt) (omega (arith, low, one)) (omega (arith, low, two))
 
 numbered : (letter n : ℕ) → n < most_events → IsName (letter ∷ decimal n)

@@ -1,6 +1,6 @@
 -- No time of a stage is too late: not those of records, posts, groups and outputs.
-use Rattle.std.proofs.Common.{ℕ, zero, suc, ◌≡◌, ◌<◌, ◌≤◌, ◌==◌, List, [], ◌∷◌, Option, Some, None, All, IfSome, map, slice_index_or, arith}
-use Rattle.std.specs.List.{enumerate_from, flat_map}
+use Rattle.std.proofs.Common.{ℕ, zero, suc, ◌≤◌, ◌==◌, List, [], ◌∷◌, ◌++◌, filter, Option, Some, None, All, IfSome, slice_index_or, arith}
+use Rattle.std.specs.List.{enumerate_from}
 use Rattle.std.specs.Option.{option_map}
 use Rattle.std.proofs.lemmas.List.Elements.{All-nil, All-cons, All-head, All-tail, All-append, All-filter, All-map, All-weaker}
 use Rattle.mp_names.specs.Limits.{last_time}
@@ -11,9 +11,9 @@ use Rattle.mp_model.specs.declared.value.Value.{Value}
 use Rattle.mp_model.specs.Ascending.{ascending}
 use Rattle.mp_model.specs.Entry.{Entry}
 use Rattle.mp_model.specs.Facts.{QueryFacts}
-use Rattle.mp_model.specs.Folds.{entries_of, entry_at, keys_of, of_key, outputs_along, outputs_at, outputs_of, stage_outputs, timeline, times_in}
+use Rattle.mp_model.specs.Folds.{entry_at, keys_in, of_key, outputs_along, outputs_at, outputs_of, stage_outputs, timeline, times_in, waking_of}
 use Rattle.mp_model.specs.Legal.{EventIsLegal, EventsAreLegal}
-use Rattle.mp_model.specs.QueryLaws.{LaterStagesPostNothing, PostsAreLater, RecordIsLegal, RisesWithin}
+use Rattle.mp_model.specs.QueryLaws.{LaterStagesPostNothing, PostsAreLater, RecordIsLegal, RisesWithin, WakesAreInTime}
 use Rattle.mp_model.specs.Stages.{record_of_output, stage_records}
 use Rattle.mp_model.proofs.LegalRecords.{input_records_legal}
 use Rattle.mp_model.proofs.Lists.{All-ascending, All-filter_map, All-flat_map}
@@ -43,13 +43,15 @@ output_in_time (Some k) o h = h
 abbrev pub IsInTime : {Cell : Type 0} → QueryFacts Cell → ℕ → Rec → Type 0
 IsInTime q j r = All (λ t. t ≤ last_time) (r.time ∷ q.posts j r)
 
-module _ {Cell : Type 0} (q : QueryFacts Cell) (j : ℕ) where
+module _ {Cell : Type 0} (q : QueryFacts Cell) (j : ℕ) (wakes : WakesAreInTime q j) where
   -- neither is then a group of a key
   pub groups_in_time : (k : ℕ) (rs : List Rec) → All (IsInTime q j) rs → All (λ e. e.time ≤ last_time) (timeline q j k rs)
   groups_in_time k rs h =
       let own = of_key k rs in
       let times = All-flat_map (λ (t : ℕ). t ≤ last_time) (λ r. r.time ∷ q.posts j r) own (All-filter (λ (r : Rec). r.key == k) (IsInTime q j) rs h) in
-      All-map (λ (e : Entry). e.time ≤ last_time) (entry_at q j k own) (ascending (times_in q j own)) (All-ascending (λ (t : ℕ). t ≤ last_time) (times_in q j own) times)
+      let first = All-map (λ (t : ℕ). t ≤ last_time) (λ (w : ℕ × ℕ). w.0) (filter (λ (w : ℕ × ℕ). w.1 == k) (q.waking j)) (All-filter (λ (w : ℕ × ℕ). w.1 == k) (λ (w : ℕ × ℕ). w.0 ≤ last_time) (q.waking j) wakes) in
+      let all = All-append (λ (t : ℕ). t ≤ last_time) (waking_of q j k) (times_in q j own) first times in
+      All-map (λ (e : Entry). e.time ≤ last_time) (entry_at q j k own) (ascending (waking_of q j k ++ times_in q j own)) (All-ascending (λ (t : ℕ). t ≤ last_time) (waking_of q j k ++ times_in q j own) all)
 
   along_in_time : (cell : Cell) (es : List Entry) → All (λ e. e.time ≤ last_time) es → All (λ o. o.time ≤ last_time) (outputs_along q j cell es)
   along_in_time cell [] h = All-nil (λ (o : Output). o.time ≤ last_time)
@@ -59,7 +61,7 @@ module _ {Cell : Type 0} (q : QueryFacts Cell) (j : ℕ) where
   -- nor an output of the stage
   pub outputs_in_time : (rs : List Rec) → All (IsInTime q j) rs → All (λ o. o.time ≤ last_time) (stage_outputs q j rs)
   outputs_in_time rs h =
-      All-flat_map (λ (o : Output). o.time ≤ last_time) (outputs_of q j rs) (keys_of rs) (λ i d low. along_in_time (q.fresh j) (timeline q j (slice_index_or (keys_of rs) i d) rs) (groups_in_time (slice_index_or (keys_of rs) i d) rs h))
+      All-flat_map (λ (o : Output). o.time ≤ last_time) (outputs_of q j rs) (keys_in q j rs) (λ i d low. along_in_time (q.opening j (slice_index_or (keys_in q j rs) i d)) (timeline q j (slice_index_or (keys_in q j rs) i d) rs) (groups_in_time (slice_index_or (keys_in q j rs) i d) rs h))
 
 module _ {Cell : Type 0} (q : QueryFacts Cell) (nothing : LaterStagesPostNothing q) (events : List Event) where
   -- where no output of a stage is too late, the records of the next are in time
@@ -68,12 +70,12 @@ module _ {Cell : Type 0} (q : QueryFacts Cell) (nothing : LaterStagesPostNothing
       let made = All-filter_map (λ (r : Rec). r.time ≤ last_time) (record_of_output q (suc j)) (stage_outputs q j (stage_records q events j)) (All-weaker (λ (o : Output). o.time ≤ last_time) (λ (o : Output). IfSome (record_of_output q (suc j) o) (λ (r : Rec). r.time ≤ last_time)) (λ o h. output_in_time (q.key (suc j) o.time o.value) o h) (stage_outputs q j (stage_records q events j)) given) in
       All-weaker (λ (r : Rec). r.time ≤ last_time) (IsInTime q (suc j)) (λ r h. rw (nothing j r) (All-cons (λ (t : ℕ). t ≤ last_time) r.time [] h (All-nil (λ (t : ℕ). t ≤ last_time)))) (stage_records q events (suc j)) made
 
-module _ {Cell : Type 0} (q : QueryFacts Cell) (later : PostsAreLater q) (nothing : LaterStagesPostNothing q) (events : List Event) (legal : EventsAreLegal events) where
+module _ {Cell : Type 0} (q : QueryFacts Cell) (later : PostsAreLater q) (nothing : LaterStagesPostNothing q) (wakes : (j : ℕ) → WakesAreInTime q j) (events : List Event) (legal : EventsAreLegal events) where
   -- each record of a stage and each of its posts is in time
   pub stage_in_time : (j : ℕ) → All (IsInTime q j) (stage_records q events j)
   stage_in_time zero =
       All-weaker RecordIsLegal (IsInTime q 0) (λ r h. All-cons (λ (t : ℕ). t ≤ last_time) r.time (q.posts 0 r) (omega (arith, h.in_time)) (rises_below r.time last_time (q.posts 0 r) (later r h))) (stage_records q events 0) (input_records_legal q events legal)
-  stage_in_time (suc j) = next_in_time q nothing events j (outputs_in_time q j (stage_records q events j) (stage_in_time j))
+  stage_in_time (suc j) = next_in_time q nothing events j (outputs_in_time q j (wakes j) (stage_records q events j) (stage_in_time j))
 
   -- no record of a stage is too late
   pub records_in_time : (j : ℕ) → All (λ r. r.time ≤ last_time) (stage_records q events j)
@@ -82,4 +84,4 @@ module _ {Cell : Type 0} (q : QueryFacts Cell) (later : PostsAreLater q) (nothin
 
   -- nor an output of one
   pub stage_outputs_in_time : (j : ℕ) → All (λ o. o.time ≤ last_time) (stage_outputs q j (stage_records q events j))
-  stage_outputs_in_time j = outputs_in_time q j (stage_records q events j) (stage_in_time j)
+  stage_outputs_in_time j = outputs_in_time q j (wakes j) (stage_records q events j) (stage_in_time j)

@@ -4,7 +4,6 @@ use Rattle.std.specs.List.{enumerate_from, filter_map}
 use Rattle.std.specs.Option.{option_map}
 use Rattle.std.proofs.lemmas.List.Elements.{All-nil, All-head, All-tail}
 use Rattle.mp_model.specs.declared.record.Event.{Event}
-use Rattle.mp_model.specs.declared.record.Rec.{Rec}
 use Rattle.mp_model.specs.Facts.{QueryFacts}
 use Rattle.mp_model.specs.Legal.{EventIsLegal, EventsAreLegal}
 use Rattle.mp_model.specs.QueryLaws.{RecordIsLegal}

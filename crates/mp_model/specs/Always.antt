@@ -5,6 +5,7 @@ use Rattle.mp_model.specs.Facts.{QueryFacts}
 use Rattle.mp_model.specs.Folds.{FitsAlong, timeline}
 use Rattle.mp_model.specs.QueryLaws.{SumsFit}
 use Rattle.mp_model.specs.Stages.{stage_records}
+use Rattle.mp_model.specs.Tables.{table_of}
 
 module _ {Cell : Type 0} where
   -- they fit at every cell and group
@@ -16,7 +17,8 @@ module _ {Cell : Type 0} where
   fits_along q always j cell [] = tt
   fits_along q always j cell (e ∷ es) = (always j cell e, fits_along q always j (q.step j cell e) es)
 
-  -- and whatever events a file says
-  pub always_fits : (q : QueryFacts Cell) → AlwaysFits q → SumsFit q
-  always_fits q always events legal j k below =
-      fits_along q always j (q.fresh j) (timeline q j k (stage_records q events j))
+  -- and whatever events a file says, and whatever state a job goes on from
+  pub always_fits : (facts : List ℕ → QueryFacts Cell) → ((vs : List ℕ) → AlwaysFits (facts vs)) → SumsFit facts
+  always_fits facts always job legal saved j k below =
+      let q = table_of facts job in
+      fits_along q (always job.values) j (q.opening j k) (timeline q j k (stage_records q job.events j))

@@ -6,5 +6,9 @@ pub mod Entry
 pub mod Facts
 pub mod Folds
 pub mod Legal
+pub mod Plain
 pub mod QueryLaws
+pub mod Rules
 pub mod Stages
+pub mod Tables
+pub mod TableLaws

@@ -33,4 +33,4 @@ module _ {Cell : Type 0} where
 
   -- in each stage the sums and counts of every key fit their types
   abbrev pub FoldsFit : QueryFacts Cell → List Event → Type 0
-  FoldsFit q events = (j k : ℕ) → j < q.stages → FitsAlong q j (q.fresh j) (timeline q j k (stage_records q events j))
+  FoldsFit q events = (j k : ℕ) → j < q.stages → FitsAlong q j (q.opening j k) (timeline q j k (stage_records q events j))

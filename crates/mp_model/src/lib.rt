@@ -6,19 +6,23 @@
 
 mod fields;
 mod group;
+mod laws;
 mod naming;
 mod posts;
 mod query;
 mod record;
+mod rules;
 mod text;
 mod value;
 
 pub use fields::{Field, Fields};
 pub use group::Group;
-pub use mp_names::{Control, Name, Shape, Tag, Time};
+pub use laws::tables_keep_laws;
+pub use mp_names::{Control, First, Name, Shape, Tag, Time};
 pub use naming::Naming;
 pub use posts::PostList;
 pub use query::Query;
 pub use record::{Event, Output, Place, Rec};
+pub use rules::{Rule, RuleList};
 pub use text::Text;
 pub use value::Value;

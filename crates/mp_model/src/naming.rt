@@ -10,7 +10,7 @@ pub trait Naming {
 }
 
 impl Naming for Brand {
-    ghost use Rattle.std.specs.Prelude.{[]};
+    ghost use Rattle.std.specs.Prelude.{[], None, false};
 
-    ghost job = { record { rules = []; events = []; controls = []; shape = record { workers = 1; bins = 1; stages = 1 } } };
+    ghost job = { record { values = []; events = []; controls = []; shape = record { workers = 1; bins = 1; stages = 1 }; firsts = []; paced = false; until = None; from = None } };
 }

@@ -9,6 +9,7 @@ ghost use Rattle.mp_outline.specs.JobOutline.{outline_of};
 ghost use Rattle.mp_msg.specs.Bodies.{IsContentOf, names_of_body};
 ghost use Rattle.mp_msg.specs.Bundles.{HasOneSender, IsBundle, names_in};
 ghost use Rattle.mp_msg.specs.Contents.{IsControlOf, IsPacketOf, IsRowOf};
+ghost use Rattle.mp_model.specs.Tables.{table_of};
 
 use crate::{BoxedState, Bundle, Names};
 use mp_mailbox::Named;
@@ -53,25 +54,27 @@ impl<Q: Query, J: Naming> Model for Msg<Q, J> {
     ghost use Rattle.std.specs.Prelude.{List};
     ghost use Rattle.mp_names.specs.declared.names.Name.{Name};
     ghost use Rattle.mp_msg.specs.Bodies.{IsContentOf, names_of_body};
+    ghost use Rattle.mp_model.specs.Tables.{table_of};
 
     ghost Value = { List Name };
 
     ghost view = { λ m. names_of_body m.body };
 
-    ghost invariant = { λ m. IsContentOf (Q.facts J.job.rules) J.job m.body };
+    ghost invariant = { λ m. IsContentOf (table_of Q.facts J.job) J.job m.body };
 }
 
 impl<Q: Query, J: Naming> Named for Msg<Q, J> {
     ghost use Rattle.mp_outline.specs.JobOutline.{outline_of};
     ghost use Rattle.mp_msg.specs.Bundles.{receiver_of, sender_of};
+    ghost use Rattle.mp_model.specs.Tables.{table_of};
 
     type Name = Name;
 
     ghost names = { λ m. m };
 
-    ghost from = { λ m. sender_of (outline_of (Q.facts J.job.rules) J.job) m };
+    ghost from = { λ m. sender_of (outline_of (table_of Q.facts J.job) J.job) m };
 
-    ghost to = { λ m. receiver_of (outline_of (Q.facts J.job.rules) J.job) m };
+    ghost to = { λ m. receiver_of (outline_of (table_of Q.facts J.job) J.job) m };
 }
 
 impl<Q: Query, J: Naming> Msg<Q, J> {
@@ -88,7 +91,7 @@ impl<Q: Query, J: Naming> Msg<Q, J> {
 
     /// A message that takes what a bin has just before a move to its new owner.
     pub fn packet(stage: u32, bin: u32, time: Time, state: BoxedState<Q::Cell>) -> Msg<Q, J>
-        requires { IsPacketOf (Q.facts J.job.rules) J.job stage bin time state }
+        requires { IsPacketOf (table_of Q.facts J.job) J.job stage bin time state }
         ensures { result ≡ PacketName stage bin time ∷ [] }
     {
         Msg {
@@ -104,7 +107,7 @@ impl<Q: Query, J: Naming> Msg<Q, J> {
 
     /// A message that holds records of the job.
     pub fn records(bundle: Bundle) -> Msg<Q, J>
-        requires { IsBundle (Q.facts J.job.rules) J.job bundle }
+        requires { IsBundle (table_of Q.facts J.job) J.job bundle }
         ensures { result ≡ names_in bundle }
     {
         Msg {
@@ -115,7 +118,7 @@ impl<Q: Query, J: Naming> Msg<Q, J> {
 
     /// A message that holds the answer row of this time and tag.
     pub fn row(time: Time, tag: Tag, fields: Fields) -> Msg<Q, J>
-        requires { IsRowOf (Q.facts J.job.rules) J.job time tag fields }
+        requires { IsRowOf (table_of Q.facts J.job) J.job time tag fields }
         ensures { result ≡ RowName time tag ∷ [] }
     {
         Msg {
@@ -129,9 +132,9 @@ impl<Q: Query, J: Naming> Msg<Q, J> {
     pub fn names(&self) -> Names
         ensures first { slice_get self.now 0 ≡ Some result.first }
         ensures count { result.count ≡ length self.now }
-        ensures message { IsMessage (outline_of (Q.facts J.job.rules) J.job) self.now }
-        ensures sender { HasOneSender (outline_of (Q.facts J.job.rules) J.job) self.now }
-        ensures owed { (x : Name) → In x self.now → IsOwed (outline_of (Q.facts J.job.rules) J.job) x }
+        ensures message { IsMessage (outline_of (table_of Q.facts J.job) J.job) self.now }
+        ensures sender { HasOneSender (outline_of (table_of Q.facts J.job) J.job) self.now }
+        ensures owed { (x : Name) → In x self.now → IsOwed (outline_of (table_of Q.facts J.job) J.job) x }
     {
         let first = match &self.body {
             Body::Recs(bundle) => return bundle.names(),
@@ -160,7 +163,7 @@ impl<Q: Query, J: Naming> Msg<Q, J> {
     /// What it holds: of the job, and under the message's names.
     pub fn into_body(self) -> Body<Q::Cell>
         ensures names { names_of_body result ≡ self }
-        ensures content { IsContentOf (Q.facts J.job.rules) J.job result }
+        ensures content { IsContentOf (table_of Q.facts J.job) J.job result }
     {
         let Msg { body, of: _ } = self;
         body

@@ -6,17 +6,17 @@ use Rattle.mp_names.specs.declared.names.Name.TheVariants.{Ctrl, Rec, Packet, Ro
 use Rattle.mp_names.specs.declared.locations.Loc.{Loc}
 use Rattle.mp_names.specs.declared.locations.Loc.TheVariants.{Ctl, CtlMail, Source, Route, Mail, Move, State, Host, OutRoute, OutMail}
 use Rattle.mp_names.specs.Names.{has, In, Distinct, IsPrefix, joined_below, is_group, is_settled, is_written}
-use Rattle.mp_names.specs.Outlines.{Outline, OutlineIsSound, time_of, group_owner, groups_of, control_times, answer_times, sender, receiver, IsOwed, owed_names, share, name_count}
+use Rattle.mp_names.specs.Outlines.{Outline, OutlineIsSound, IsBeforeStop, time_of, group_owner, groups_of, due_groups, HasControl, control_times, answer_times, sender, receiver, IsOwed, owed_names, share, name_count}
 use Rattle.mp_names.specs.Logs.{Log, LogIsLegal, LogsAreLegal, IsReadyGroup, IsReadyTime, is_owned, owned_groups}
 use Rattle.mp_names.specs.Locations.{reaches}
 use Rattle.mp_names.specs.Frontiers.{IsDoneBy, IsClosed}
 use Rattle.mp_names.specs.Laws.{names_in}
 use Rattle.mp_names.proofs.Lists.{In_left, In_right, In_append, In_prefix, filter_In, In_joined, joined_In, In_here, In_later, counted, count_inside, count_both-le, Distinct_append, Distinct_joined, Distinct_filter}
 use Rattle.mp_names.proofs.Orders.{ascending_once}
-use Rattle.mp_names.proofs.Listed.{groups_are, groups_ascend, control_times_ascend, control_time_is, answer_times_ascend, answer_time_is, record_owed, owed_once, owed_is, owed_In, edges, group_owner_is_worker}
+use Rattle.mp_names.proofs.Listed.{groups_are, due_group, due_groups_ascend, owed_before_stop, control_times_ascend, control_time_is, answer_times_ascend, answer_time_is, record_owed, owed_once, owed_is, owed_In, edges, group_owner_is_worker}
 use Rattle.mp_names.proofs.Reach.{path_from_table}
 use Rattle.mp_names.proofs.Mails.{total_below}
-use Rattle.mp_names.proofs.Steps.{ingested_own, applied_own}
+use Rattle.mp_names.proofs.Steps.{ingested_own, applied_due}
 
 -- one list in another
 
@@ -102,7 +102,7 @@ stage_of _ = 0
 
 module _ (o : Outline) (ok : OutlineIsSound o) where
   all_groups : List Name
-  all_groups = joined_below o.stages (groups_of o)
+  all_groups = joined_below o.stages (due_groups o)
 
   group_stage : (j : ℕ) (x : Name) → is_group j x ≡ true → stage_of x ≡ j
   unfolding stage_of
@@ -112,7 +112,7 @@ module _ (o : Outline) (ok : OutlineIsSound o) where
   groups_once : Distinct all_groups
   unfolding all_groups
   groups_once =
-      Distinct_joined o.stages (groups_of o) stage_of (λ j l. ascending_once (groups_of o j) (groups_ascend o j)) (λ j x l i. group_stage j x (groups_are o ok j x i).1)
+      Distinct_joined o.stages (due_groups o) stage_of (λ j l. ascending_once (due_groups o j) (due_groups_ascend o j)) (λ j x l i. group_stage j x (groups_are o ok j x (due_group o j x i).0).1)
 
   all_times : List Name
   all_times = joined_below o.stages (control_times o)
@@ -178,7 +178,7 @@ module _ (o : Outline) (ok : OutlineIsSound o) where
         test (Group j t k) i r = (
           is_group j,
           eq-eqb j j refl,
-          prefix_once (filter (is_group j) log.applied) (owned_groups o w j) (good.applied_in_order j r.0) (Distinct_filter (is_owned o w) (groups_of o j) (ascending_once (groups_of o j) (groups_ascend o j))),
+          prefix_once (filter (is_group j) log.applied) (owned_groups o w j) (good.applied_in_order j r.0) (Distinct_filter (is_owned o w) (due_groups o j) (ascending_once (due_groups o j) (due_groups_ascend o j))),
         )
         test _ i r = absurd r
 
@@ -212,7 +212,7 @@ module _ (o : Outline) (ok : OutlineIsSound o) where
     applied_within x i = form x i (good.applied_ready x i)
       where
         form : (x : Name) → In x log.applied → IsReadyGroup o w log x → In x all_groups × (home_of o x ≡ w)
-        form (Group j t k) i r = let q = applied_own o w log good j t k i in (joined_In o.stages (groups_of o) (Group j t k) j r.0 q.0, q.1)
+        form (Group j t k) i r = let q = applied_due o w log good j t k i in (joined_In o.stages (due_groups o) (Group j t k) j r.0 q.0, q.1)
         form _ i r = absurd r
 
   module _ (logs : ℕ → Log) (good : LogsAreLegal o logs) where
@@ -288,28 +288,28 @@ module _ (o : Outline) (ok : OutlineIsSound o) where
 
     -- where all is closed and written, each list is full
 
-    module _ (closed : (t : ℕ) → IsClosed o logs OutMail t) (written : (x : Name) → In x (answer_times o) → In x (logs 0).settled) where
-      done : (a : Loc) (t : ℕ) → reaches a OutMail ≡ true → (w : ℕ) → w < o.workers → IsDoneBy o w (logs w) a t
-      done a t r w l = closed t w l a t (path_from_table a OutMail r) (omega arith)
+    module _ (closed : (t : ℕ) → IsBeforeStop o.until t → IsClosed o logs OutMail t) (written : (x : Name) → In x (answer_times o) → In x (logs 0).settled) where
+      done : (a : Loc) (t : ℕ) → IsBeforeStop o.until t → reaches a OutMail ≡ true → (w : ℕ) → w < o.workers → IsDoneBy o w (logs w) a t
+      done a t b r w l = closed t b w l a t (path_from_table a OutMail r) (omega arith)
 
       sent_by : (x : Name) → IsOwed o x → In x (logs (sender o x)).sent
       sent_by x d = go x d (edges o ok x d).0
         where
           go : (x : Name) → IsOwed o x → sender o x < o.workers → In x (logs (sender o x)).sent
-          go (Ctrl i v) d l = done Ctl (time_of o (Ctrl i v)) refl 0 l (Ctrl i v) (d, refl) refl refl
-          go (Rec j t k g) d l = done (Route j) t refl (sender o (Rec j t k g)) l (Rec j t k g) (d, refl) (eq-eqb j j refl) refl
-          go (Packet j b t) d l = (done (Move j) t refl (sender o (Packet j b t)) l).1 (Packet j b t) (d, refl) (eq-eqb j j refl) refl
-          go (Row t g) d l = done OutRoute t refl (sender o (Row t g)) l (Row t g) (d, refl) refl refl
+          go (Ctrl i v) d l = done Ctl (time_of o (Ctrl i v)) (owed_before_stop o ok (Ctrl i v) d) refl 0 l (Ctrl i v) (d, refl) refl refl
+          go (Rec j t k g) d l = done (Route j) t (owed_before_stop o ok (Rec j t k g) d) refl (sender o (Rec j t k g)) l (Rec j t k g) (d, refl) (eq-eqb j j refl) refl
+          go (Packet j b t) d l = (done (Move j) t (owed_before_stop o ok (Packet j b t) d) refl (sender o (Packet j b t)) l).1 (Packet j b t) (d, refl) (eq-eqb j j refl) refl
+          go (Row t g) d l = done OutRoute t (owed_before_stop o ok (Row t g) d) refl (sender o (Row t g)) l (Row t g) (d, refl) refl refl
           go _ d l = absurd d
 
       taken_by : (x : Name) → IsOwed o x → In x (logs (receiver o x)).took
       taken_by x d = go x d (edges o ok x d).1
         where
           go : (x : Name) → IsOwed o x → receiver o x < o.workers → In x (logs (receiver o x)).took
-          go (Ctrl i v) d l = done CtlMail (time_of o (Ctrl i v)) refl v l (Ctrl i v) (d, refl) refl refl
-          go (Rec j t k g) d l = done (Mail j) t refl (receiver o (Rec j t k g)) l (Rec j t k g) (d, refl) (eq-eqb j j refl) refl
-          go (Packet j b t) d l = done (State j) t refl (receiver o (Packet j b t)) l (Packet j b t) (d, refl) (eq-eqb j j refl) refl
-          go (Row t g) d l = done OutMail t refl 0 l (Row t g) (d, refl) refl refl
+          go (Ctrl i v) d l = done CtlMail (time_of o (Ctrl i v)) (owed_before_stop o ok (Ctrl i v) d) refl v l (Ctrl i v) (d, refl) refl refl
+          go (Rec j t k g) d l = done (Mail j) t (owed_before_stop o ok (Rec j t k g) d) refl (receiver o (Rec j t k g)) l (Rec j t k g) (d, refl) (eq-eqb j j refl) refl
+          go (Packet j b t) d l = done (State j) t (owed_before_stop o ok (Packet j b t) d) refl (receiver o (Packet j b t)) l (Packet j b t) (d, refl) (eq-eqb j j refl) refl
+          go (Row t g) d l = done OutMail t (owed_before_stop o ok (Row t g) d) refl 0 l (Row t g) (d, refl) refl refl
           go _ d l = absurd d
 
       sent_full : (x : Name) → In x (owed_names o) → In x all_sent
@@ -325,26 +325,29 @@ module _ (o : Outline) (ok : OutlineIsSound o) where
       ingested_full x i =
           let w = sender o x in
           let l = (edges o ok x (record_owed o ok 0 x i)).0 in
-          joined_In o.workers (λ w. (logs w).ingested) x w l (done Source (time_of o x) refl w l x (filter_In (λ y. sender o y == w) x (o.records 0) i (eq-eqb w w refl)) refl)
+          joined_In o.workers (λ w. (logs w).ingested) x w l (done Source (time_of o x) (ok.records_stop 0 x i) refl w l x (filter_In (λ y. sender o y == w) x (o.records 0) i (eq-eqb w w refl)) refl)
 
       applied_full : (x : Name) → In x all_groups → In x all_applied
       unfolding all_groups all_applied
-      applied_full x i = let r = In_joined o.stages (groups_of o) x i in go x r.0 r.1 r.2
+      applied_full x i = let r = In_joined o.stages (due_groups o) x i in let d = due_group o r.0 x r.2 in go x r.0 r.1 d.0 d.1
         where
-          go : (x : Name) (j : ℕ) → j < o.stages → In x (groups_of o j) → In x (joined_below o.workers (λ w. (logs w).applied))
-          go (Group i t k) j l g =
+          go : (x : Name) (j : ℕ) → j < o.stages → In x (groups_of o j) → IsBeforeStop o.until (time_of o x) → In x (joined_below o.workers (λ w. (logs w).applied))
+          go (Group i t k) j l g b =
               let e = eqb-true i j (groups_are o ok j (Group i t k) g).1 in
               let w = group_owner o i t k in
               let m = group_owner_is_worker o ok i t k (subst (λ (n : ℕ). n < o.stages) (sym e) l) in
-              joined_In o.workers (λ w. (logs w).applied) (Group i t k) w m (done (Host j) t refl w m (Group i t k) g (eq-eqb w w refl) refl)
-          go x j l g = absurd (false≢true (groups_are o ok j x g).1)
+              joined_In o.workers (λ w. (logs w).applied) (Group i t k) w m (done (Host j) t b refl w m (Group i t k) g (eq-eqb w w refl) refl)
+          go x j l g b = absurd (false≢true (groups_are o ok j x g).1)
+
+      control_before_stop : (j t : ℕ) → HasControl o j t → IsBeforeStop o.until t
+      control_before_stop j t c = subst (IsBeforeStop o.until) c.3 (ok.controls_stop c.0 c.1)
 
       control_settled : (w : ℕ) → w < o.workers → (x : Name) → In x all_times → In x (logs w).settled
       unfolding all_times
       control_settled w l x i =
           let r = In_joined o.stages (control_times o) x i in
           let c = control_time_is o r.0 x r.2 in
-          subst (λ (y : Name). In y (logs w).settled) (sym c.1) ((done (Move r.0) c.0 refl w l).0 c.2)
+          subst (λ (y : Name). In y (logs w).settled) (sym c.1) ((done (Move r.0) c.0 (control_before_stop r.0 c.0 c.2) refl w l).0 c.2)
 
       settled_full : (w : ℕ) → w < o.workers → (x : Name) → In x (times_for w) → In x (logs w).settled
       unfolding times_for

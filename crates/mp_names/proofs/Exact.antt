@@ -1,14 +1,14 @@
 -- Frontiers are exact: one location after the other in the order of the dataflow, and at a host upward in time.
-use Rattle.std.proofs.Common.{ℤ, ◌≡◌, ℕ, zero, suc, ◌-◌, ◌<◌, ◌≤◌, ◌⊎◌, refl, ap, ⊎_elim, arith}
+use Rattle.std.proofs.Common.{ℤ, ◌≡◌, ℕ, zero, suc, ◌-◌, ◌<◌, ◌≤◌, ◌⊎◌, Option, None, Some, refl, sym, ap, subst, ⊎_elim, arith}
 use Rattle.std.proofs.lemmas.Bool.{cases_lt, cases_order}
 use Rattle.mp_names.specs.declared.locations.Loc.{Loc}
 use Rattle.mp_names.specs.declared.locations.Loc.TheVariants.{Ctl, CtlMail, Source, Route, Mail, Move, State, Host, OutRoute, OutMail}
 use Rattle.mp_names.specs.declared.locations.Frontier.{Frontier}
 use Rattle.mp_names.specs.declared.locations.Frontier.TheVariants.{At, Done}
-use Rattle.mp_names.specs.Outlines.{Outline, OutlineIsSound}
+use Rattle.mp_names.specs.Outlines.{Outline, OutlineIsSound, IsBeforeStop}
 use Rattle.mp_names.specs.Logs.{Log, LogsAreLegal}
 use Rattle.mp_names.specs.Locations.{Reaches}
-use Rattle.mp_names.specs.Frontiers.{count_at, IsQuiet, IsFrontierOf, IsFrontier, HasPassed, HasReached, IsClosed}
+use Rattle.mp_names.specs.Frontiers.{count_at, IsQuiet, IsFrontierOf, IsFrontier, HasPassed, HasReached, HasEnded, IsClosed}
 use Rattle.mp_names.proofs.Reach.{reach_on, ctl-ctl_mail, ctl_mail-move, source-route, route-mail, mail-host, move-state, move-host, state-host, host-route, host-out_route, out_route-out_mail}
 use Rattle.mp_names.proofs.Steps.{IsEven, IsDoneByAll, even_from_zero, zero_from_even, step_ctl, step_ctl_mail, step_source, step_route, step_mail, step_move, step_state, step_out_route, step_out_mail}
 use Rattle.mp_names.proofs.Hosts.{step_host}
@@ -152,3 +152,22 @@ passed_earlier Done t u h l = tt
 pub passed_below : (f : Frontier) (t u : ℕ) → HasReached f t → u < t → HasPassed f u
 passed_below (At v) t u h l = omega arith
 passed_below Done t u h l = tt
+
+pub reached_from : (f : Frontier) (u : ℕ) → ((s : ℕ) → s < u → HasPassed f s) → HasReached f u
+reached_from (At v) zero h = omega arith
+reached_from (At v) (suc u) h = let k = h u (omega arith) in omega arith
+reached_from Done u h = tt
+
+pub done_from_passed : (f : Frontier) → ((t : ℕ) → HasPassed f t) → f ≡ Done
+done_from_passed (At t) h = let l = h t in absurd (omega arith)
+done_from_passed Done h = refl
+
+-- a frontier has come to the end exactly where it has passed every time before the stop
+
+pub ended_from_passed : (stop : Option ℕ) (f : Frontier) → ((t : ℕ) → IsBeforeStop stop t → HasPassed f t) → HasEnded stop f
+ended_from_passed None f h = done_from_passed f (λ t. h t tt)
+ended_from_passed (Some s) f h = reached_from f s h
+
+pub passed_from_ended : (stop : Option ℕ) (f : Frontier) → HasEnded stop f → (t : ℕ) → IsBeforeStop stop t → HasPassed f t
+passed_from_ended None f e t b = subst (λ (g : Frontier). HasPassed g t) (sym e) tt
+passed_from_ended (Some s) f e t b = passed_below f s t e b

@@ -88,7 +88,7 @@ module _ (o : Outline) (logs : ℕ → Log) (ok : OutlineIsSound o) (good : Logs
       found _ d e = false≢true e
   even_none (State j) t none = none_moves (State j) t none (is_packet j) (λ x e. e)
   even_none (Host j) t none =
-      each_even o.workers (λ w. raised o w (logs w) (Host j) t) (λ w l. none_of (Host j) t none (is_pending o (logs w)) (groups_of o j) (λ x i e. (inr (j, i), (groups_are o ok j x i).1)))
+      each_even o.workers (λ w. raised o w (logs w) (Host j) t) (λ w l. none_of (Host j) t none (is_pending o w (logs w)) (groups_of o j) (λ x i e. (inr (j, i), (groups_are o ok j x i).1)))
   even_none OutRoute t none = each_even o.workers (λ w. raised o w (logs w) OutRoute t) (λ w l. none_of OutRoute t none (is_held o w (logs w)) o.rows (λ x i e. (inl (row_owed o ok x i), ok.rows_are x i)))
   even_none OutMail t none = none_moves OutMail t none is_row (λ x e. e)
 

@@ -6,14 +6,14 @@ use Rattle.mp_names.specs.declared.names.Name.TheVariants.{Ctrl, Rec, Packet, Ro
 use Rattle.mp_names.specs.declared.names.Tag.{Tag}
 use Rattle.mp_names.specs.declared.locations.Loc.TheVariants.{CtlMail, Mail, State, Host, OutMail}
 use Rattle.mp_names.specs.Names.{has, In, IsPrefix, is_group, is_settled, is_written, Less, IsLeast}
-use Rattle.mp_names.specs.Outlines.{Outline, OutlineIsSound, group_owner, groups_of, control_times, answer_times, HasControl, IsOwedBy, IsOwedTo, share}
+use Rattle.mp_names.specs.Outlines.{Outline, OutlineIsSound, IsBeforeStop, group_owner, groups_of, due_groups, control_times, answer_times, HasControl, IsOwedBy, IsOwedTo, share}
 use Rattle.mp_names.specs.Logs.{Log, empty_log, LogGrows, LogIsLegal, with_ingested, with_sent, with_took, with_applied, with_settled, is_given, IsGiven, IsReadyGroup, IsReadyTime, is_owned, owned_groups}
 use Rattle.mp_names.specs.Locations.{stays}
 use Rattle.mp_names.specs.Frontiers.{IsClosedForOne}
 use Rattle.mp_names.specs.Keeping.{IsHeld, IsUnsentPacket, IsUnsettled, IsWaiting, IsUnwritten, GroupIsWhole, NamesKeepLogsLegal}
 use Rattle.mp_names.proofs.Lists.{In_left, In_filter, filter_In, In_push, Distinct_push, prefix_refl, prefix_push}
 use Rattle.mp_names.proofs.Orders.{next_prefix, filter_ascends}
-use Rattle.mp_names.proofs.Listed.{groups_are, groups_ascend, control_times_ascend, control_time_In, control_time_is, answer_times_ascend, answer_time_In, answer_time_is}
+use Rattle.mp_names.proofs.Listed.{groups_are, due_group, group_due, due_groups_ascend, control_times_ascend, control_time_In, control_time_is, answer_times_ascend, answer_time_In, answer_time_is}
 use Rattle.mp_names.proofs.Reach.{state-host}
 use Rattle.mp_names.proofs.Steps.{given_own, noted_control, control_noted}
 use Rattle.mp_names.proofs.Hosts.{pending_new}
@@ -166,8 +166,8 @@ module _ (o : Outline) (w : ℕ) (log : Log) (good : LogIsLegal o w log) where
 module _ (o : Outline) (ok : OutlineIsSound o) (w : ℕ) (is_worker : w < o.workers) (log : Log) (good : LogIsLegal o w log) where
   -- the least group that waits
 
-  pub group_keeps : (j t k : ℕ) → IsLeast (IsWaiting o log j) (Group j t k) → IsClosedForOne o w log (Mail j) t → IsClosedForOne o w log (State j) t → LogIsLegal o w (with_applied log (Group j t k))
-  group_keeps j t k least mail state =
+  pub group_keeps : (j t k : ℕ) → IsLeast (IsWaiting o w log j) (Group j t k) → IsBeforeStop o.until t → IsClosedForOne o w log (Mail j) t → IsClosedForOne o w log (State j) t → LogIsLegal o w (with_applied log (Group j t k))
+  group_keeps j t k least early mail state =
       applied_keeps o w log good (Group j t k) next (stage, all.records_taken, all.bin_in_hand)
     where
       all : GroupIsWhole o w log j t k
@@ -179,8 +179,8 @@ module _ (o : Outline) (ok : OutlineIsSound o) (w : ℕ) (is_worker : w < o.work
       -- what the worker owns and is less is applied
       earlier : (y : Name) → In y (owned_groups o w j) → Less y (Group j t k) → In y (filter (is_group j) log.applied)
       earlier y h less =
-          let c = In_filter (is_owned o w) y (groups_of o j) h in
-          form y c.0 c.1 less
+          let c = In_filter (is_owned o w) y (due_groups o j) h in
+          form y (due_group o j y c.0).0 c.1 less
         where
           form : (y : Name) → In y (groups_of o j) → is_owned o w y ≡ true → Less y (Group j t k) → In y (filter (is_group j) log.applied)
           form (Group n s m) g mine less =
@@ -195,10 +195,10 @@ module _ (o : Outline) (ok : OutlineIsSound o) (w : ℕ) (is_worker : w < o.work
       here : IsPrefix (filter (is_group j) log.applied ++ Group j t k ∷ []) (owned_groups o w j)
       here =
           next_prefix (filter (is_group j) log.applied) (owned_groups o w j) (Group j t k)
-          (filter_ascends (is_owned o w) (groups_of o j) (groups_ascend o j))
+          (filter_ascends (is_owned o w) (due_groups o j) (due_groups_ascend o j))
           (good.applied_in_order j stage)
-          (filter_In (is_owned o w) (Group j t k) (groups_of o j) least.0.0 (eq-eqb (group_owner o j t k) w all.owned))
-          (false_from_ne_true (has (filter (is_group j) log.applied) (Group j t k)) (λ z. both_ways (has log.applied (Group j t k)) (pending_new o log j t k least.0.1) (In_filter (is_group j) (Group j t k) log.applied z).0))
+          (filter_In (is_owned o w) (Group j t k) (due_groups o j) (group_due o j (Group j t k) least.0.0 early) (eq-eqb (group_owner o j t k) w all.owned))
+          (false_from_ne_true (has (filter (is_group j) log.applied) (Group j t k)) (λ z. both_ways (has log.applied (Group j t k)) (pending_new o w log j t k least.0.1) (In_filter (is_group j) (Group j t k) log.applied z).0))
           earlier
 
       next : (n : ℕ) → n < o.stages → is_group n (Group j t k) ≡ true → IsPrefix (filter (is_group n) log.applied ++ Group j t k ∷ []) (owned_groups o w n)

@@ -1,19 +1,19 @@
 -- What stands in the lists of an outline: its groups, times, moves and the names that have to be sent.
-use Rattle.std.proofs.Common.{◌≡◌, ℕ, zero, suc, ◌-◌, ◌<◌, Bool, true, false, ◌==◌, List, [], ◌∷◌, ◌++◌, length, map, flat_map, refl, sym, ap, ◌∙◌, subst, inl, inr, ⊎_elim, arith, mod-lt}
+use Rattle.std.proofs.Common.{◌≡◌, ℕ, zero, suc, ◌-◌, ◌<◌, ◌≤◌, Bool, true, false, ◌==◌, List, [], ◌∷◌, ◌++◌, length, map, flat_map, Option, None, Some, refl, sym, ap, ◌∙◌, subst, inl, inr, ⊎_elim, arith, mod-lt}
 use Rattle.std.specs.List.{list_any}
-use Rattle.std.proofs.lemmas.Bool.{false≢true, eqb-true, eq-eqb, ne_eqb, or_cases, or_left, or_right, both_ways, false_from_ne_true, not-true, not_from_false}
+use Rattle.std.proofs.lemmas.Bool.{false≢true, eqb-true, eq-eqb, ltb-true, lt-ltb, ne_eqb, or_cases, or_left, or_right, both_ways, false_from_ne_true, not-true, not_from_false}
 use Rattle.mp_names.specs.declared.names.Name.{Name}
 use Rattle.mp_names.specs.declared.names.Name.TheVariants.{Ctrl, Rec, Packet, Row, Group, Settled, Written}
 use Rattle.mp_names.specs.declared.names.Tag.{Tag}
 use Rattle.mp_names.specs.declared.controls.Control.{Control}
 use Rattle.mp_names.specs.Names.{has, In, Distinct, joined_below, IsAscending, ascending, is_ctrl, is_row, is_group, is_settled}
 use Rattle.mp_names.specs.Controls.{control_of}
-use Rattle.mp_names.specs.Outlines.{Outline, OutlineIsSound, control_at, time_of, owner_before, owner_at, group_owner, IsMove, is_moving, packets_of, is_posted, groups_made, groups_of, HasControl, control_times, answer_times, sender, receiver, IsOwed, IsOwedBy, IsOwedTo, ctrl_names, owed_names, owed_by, owed_to}
-use Rattle.mp_names.specs.Laws.{IsCaused}
+use Rattle.mp_names.specs.Outlines.{Outline, OutlineIsSound, IsBeforeStop, is_before_stop, control_at, time_of, owner_before, owner_at, group_owner, IsMove, is_moving, packets_of, is_posted, groups_made, groups_of, due_groups, HasControl, control_times, answer_times, sender, receiver, IsOwed, IsOwedBy, IsOwedTo, ctrl_names, owed_names, owed_by, owed_to}
+use Rattle.mp_names.specs.Laws.{IsCaused, IsMade}
 use Rattle.mp_names.proofs.Lists.{In_here, In_later, In_cases, In_left, In_right, In_append, In_filter, filter_In, In_joined, joined_In, Distinct_append, Distinct_joined}
 use Rattle.mp_names.proofs.NameParts.{stage_in}
 use Rattle.mp_names.proofs.Orders.{ascending_ascends, In_ascending, ascending_In, ascending_once, filter_ascends}
-use Rattle.mp_names.proofs.Owners.{move_found, owner_is_worker, move_in_shape}
+use Rattle.mp_names.proofs.Owners.{move_found, owner_is_worker, move_has_control, move_in_shape}
 
 -- lists that are mapped
 
@@ -71,20 +71,52 @@ In_posted j k (v ∷ vs) x h =
     (λ (i : In x (map (λ v. Group j v k) vs)). let r = In_posted j k vs x i in (r.0, or_right (v == r.0) (list_any (λ w. w == r.0) vs) r.1, r.2))
     (In_cases x (Group j v k) (map (λ v. Group j v k) vs) h)
 
-pub record_group : (o : Outline) (j t k : ℕ) (g : Tag) → In (Rec j t k g) (o.records j) → In (Group j t k) (groups_of o j)
+pub opening_group : (o : Outline) (j : ℕ) (x : Name) → In x (o.opening j) → In x (groups_of o j)
 unfolding groups_of
-record_group o j t k g h =
-    ascending_In (Group j t k) (flat_map (groups_made o) (o.records j)) (flat_In (groups_made o) (o.records j) (Group j t k) (Rec j t k g) h (In_here (Group j t k) (map (λ u. Group j u k) (o.posts (Rec j t k g)))))
+opening_group o j x h = ascending_In x (o.opening j ++ flat_map (groups_made o) (o.records j)) (In_left x (o.opening j) (flat_map (groups_made o) (o.records j)) h)
+
+made_group : (o : Outline) (j : ℕ) (x r : Name) → In r (o.records j) → In x (groups_made o r) → In x (groups_of o j)
+unfolding groups_of
+made_group o j x r h i =
+    ascending_In x (o.opening j ++ flat_map (groups_made o) (o.records j)) (In_right x (o.opening j) (flat_map (groups_made o) (o.records j)) (flat_In (groups_made o) (o.records j) x r h i))
+
+pub record_group : (o : Outline) (j t k : ℕ) (g : Tag) → In (Rec j t k g) (o.records j) → In (Group j t k) (groups_of o j)
+record_group o j t k g h = made_group o j (Group j t k) (Rec j t k g) h (In_here (Group j t k) (map (λ u. Group j u k) (o.posts (Rec j t k g))))
 
 pub posted_group : (o : Outline) (j s k u : ℕ) (g : Tag) → In (Rec j s k g) (o.records j) → is_posted o (Rec j s k g) u ≡ true → In (Group j u k) (groups_of o j)
-unfolding groups_of
 posted_group o j s k u g h p =
-    ascending_In (Group j u k) (flat_map (groups_made o) (o.records j))
-    (flat_In (groups_made o) (o.records j) (Group j u k) (Rec j s k g) h (In_later (Group j u k) (Group j s k) (map (λ v. Group j v k) (o.posts (Rec j s k g))) (posted_In j k u (o.posts (Rec j s k g)) p)))
+    made_group o j (Group j u k) (Rec j s k g) h (In_later (Group j u k) (Group j s k) (map (λ v. Group j v k) (o.posts (Rec j s k g))) (posted_In j k u (o.posts (Rec j s k g)) p))
+
+-- the stop time
+
+pub before_stop : (stop : Option ℕ) (t : ℕ) → is_before_stop stop t ≡ true → IsBeforeStop stop t
+before_stop None t h = tt
+before_stop (Some s) t h = ltb-true t s h
+
+pub before_stop-from : (stop : Option ℕ) (t : ℕ) → IsBeforeStop stop t → is_before_stop stop t ≡ true
+before_stop-from None t h = refl
+before_stop-from (Some s) t h = lt-ltb t s h
+
+pub earlier_stop : (stop : Option ℕ) (s t : ℕ) → s ≤ t → IsBeforeStop stop t → IsBeforeStop stop s
+earlier_stop None s t l h = tt
+earlier_stop (Some u) s t l h = omega arith
+
+-- a group is due exactly where it is before the stop time
+
+pub due_group : (o : Outline) (j : ℕ) (x : Name) → In x (due_groups o j) → In x (groups_of o j) × IsBeforeStop o.until (time_of o x)
+due_group o j x h = let r = In_filter (λ y. is_before_stop o.until (time_of o y)) x (groups_of o j) h in (r.0, before_stop o.until (time_of o x) r.1)
+
+pub group_due : (o : Outline) (j : ℕ) (x : Name) → In x (groups_of o j) → IsBeforeStop o.until (time_of o x) → In x (due_groups o j)
+group_due o j x h b = filter_In (λ y. is_before_stop o.until (time_of o y)) x (groups_of o j) h (before_stop-from o.until (time_of o x) b)
+
+-- groups in order
 
 pub groups_ascend : (o : Outline) (j : ℕ) → IsAscending (groups_of o j)
 unfolding groups_of
-groups_ascend o j = ascending_ascends (flat_map (groups_made o) (o.records j))
+groups_ascend o j = ascending_ascends (o.opening j ++ flat_map (groups_made o) (o.records j))
+
+pub due_groups_ascend : (o : Outline) (j : ℕ) → IsAscending (due_groups o j)
+due_groups_ascend o j = filter_ascends (λ x. is_before_stop o.until (time_of o x)) (groups_of o j) (groups_ascend o j)
 
 abbrev IsCausedName : Outline → ℕ → Name → Type 0
 IsCausedName o j (Group i t k) = (i ≡ j) × (j < o.stages) × IsCaused o j t k
@@ -96,18 +128,27 @@ made_cause o ok j (Rec i s k g) x h m =
     let e = eqb-true i j f.1 in
     let h' = subst (λ (n : ℕ). In (Rec n s k g) (o.records j)) e h in
     ⊎_elim
-    (λ (q : Group i s k ≡ x). subst (IsCausedName o j) q (e, f.0, (s, g, h', inl refl)))
+    (λ (q : Group i s k ≡ x). subst (IsCausedName o j) q (e, f.0, inr (s, g, h', inl refl)))
     (λ (q : In x (map (λ u. Group i u k) (o.posts (Rec i s k g)))).
     let r = In_posted i k (o.posts (Rec i s k g)) x q in
-    subst (IsCausedName o j) r.2 (e, f.0, (s, g, h', inr (subst (λ (n : ℕ). is_posted o (Rec n s k g) r.0 ≡ true) e r.1))))
+    subst (IsCausedName o j) r.2 (e, f.0, inr (s, g, h', inr (subst (λ (n : ℕ). is_posted o (Rec n s k g) r.0 ≡ true) e r.1))))
     (In_cases x (Group i s k) (map (λ u. Group i u k) (o.posts (Rec i s k g))) m)
 made_cause o ok j _ x h m = absurd (false≢true m)
+
+opening_cause : (o : Outline) → OutlineIsSound o → (j : ℕ) (x : Name) → In x (o.opening j) → IsCausedName o j x
+opening_cause o ok j x h = form x h (ok.opening_are j x h)
+  where
+    form : (x : Name) → In x (o.opening j) → (j < o.stages) × (is_group j x ≡ true) → IsCausedName o j x
+    form (Group i t k) h f = let e = eqb-true i j f.1 in (e, f.0, inl (subst (λ (n : ℕ). In (Group n t k) (o.opening j)) e h))
+    form _ h f = absurd (false≢true f.1)
 
 group_cause_name : (o : Outline) → OutlineIsSound o → (j : ℕ) (x : Name) → In x (groups_of o j) → IsCausedName o j x
 unfolding groups_of
 group_cause_name o ok j x h =
-    let r = In_flat (groups_made o) (o.records j) x (In_ascending x (flat_map (groups_made o) (o.records j)) h) in
-    made_cause o ok j r.0 x r.1 r.2
+    ⊎_elim
+    (λ (i : In x (o.opening j)). opening_cause o ok j x i)
+    (λ (i : In x (flat_map (groups_made o) (o.records j))). let r = In_flat (groups_made o) (o.records j) x i in made_cause o ok j r.0 x r.1 r.2)
+    (In_append x (o.opening j) (flat_map (groups_made o) (o.records j)) (In_ascending x (o.opening j ++ flat_map (groups_made o) (o.records j)) h))
 
 pub group_cause : (o : Outline) → OutlineIsSound o → (j t k : ℕ) → In (Group j t k) (groups_of o j) → IsCaused o j t k
 group_cause o ok j t k h = (group_cause_name o ok j (Group j t k) h).2
@@ -354,9 +395,13 @@ owed_to_In o w x d = filter_In (λ y. receiver o y == w) x (owed_names o) (owed_
 pub cause_group : (o : Outline) (j t k : ℕ) → IsCaused o j t k → In (Group j t k) (groups_of o j)
 cause_group o j t k c =
     ⊎_elim
-    (λ (e : c.0 ≡ t). subst (λ (u : ℕ). In (Group j u k) (groups_of o j)) e (record_group o j c.0 k c.1 c.2))
-    (λ (e : is_posted o (Rec j c.0 k c.1) t ≡ true). posted_group o j c.0 k t c.1 c.2 e)
-    c.3
+    (λ (i : In (Group j t k) (o.opening j)). opening_group o j (Group j t k) i)
+    (λ (m : IsMade o j t k).
+    ⊎_elim
+    (λ (e : m.0 ≡ t). subst (λ (u : ℕ). In (Group j u k) (groups_of o j)) e (record_group o j m.0 k m.1 m.2))
+    (λ (e : is_posted o (Rec j m.0 k m.1) t ≡ true). posted_group o j m.0 k t m.1 m.2 e)
+    m.3)
+    c
 
 pub control_time_has : (o : Outline) (j t : ℕ) → In (Settled j t) (control_times o j) → HasControl o j t
 control_time_has o j t i =
@@ -373,3 +418,11 @@ answer_time_has o ok t i =
   where
     written_time : (t u : ℕ) → Written t ≡ Written u → t ≡ u
     written_time t u e = cc
+
+-- what has to be sent is before the stop time
+pub owed_before_stop : (o : Outline) → OutlineIsSound o → (x : Name) → IsOwed o x → IsBeforeStop o.until (time_of o x)
+owed_before_stop o ok (Ctrl i v) h = ok.controls_stop i h.0
+owed_before_stop o ok (Rec j t k g) h = ok.records_stop j (Rec j t k g) h.1
+owed_before_stop o ok (Packet j b t) h = let c = move_has_control o j b t h in subst (IsBeforeStop o.until) c.3 (ok.controls_stop c.0 c.1)
+owed_before_stop o ok (Row t g) h = ok.rows_stop (Row t g) h
+owed_before_stop o ok _ h = absurd h

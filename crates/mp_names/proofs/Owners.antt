@@ -1,10 +1,12 @@
 -- How an owner changes: only at a move, and a move has a control record; and what the list of control records says.
 use Rattle.std.proofs.Common.{◌≡◌, ℕ, zero, suc, ◌<◌, ◌≤◌, ◌⊎◌, Bool, true, false, cond, ◌&&◌, ◌==◌, nat_lt, List, [], ◌∷◌, length, Option, None, Some, refl, sym, ap, ◌∙◌, subst, inl, inr, ⊎_elim, arith}
 use Rattle.std.specs.Option.{option_map_or}
-use Rattle.std.proofs.lemmas.Bool.{cases_Bool, cases_eq, cases_lt, eqb-true, ltb-true, ltb-false, lt-ltb, le-ltb, both_ways}
+use Rattle.std.proofs.lemmas.Bool.{cases_Bool, cases_eq, cases_lt, and_parts, false_from_ne_true, eqb-true, ltb-true, ltb-false, lt-ltb, le-ltb, both_ways}
+use Rattle.mp_names.specs.declared.names.Name.{Name}
 use Rattle.mp_names.specs.declared.controls.Control.{Control}
+use Rattle.mp_names.specs.Names.{In}
 use Rattle.mp_names.specs.Controls.{control_of, is_below, later_of, last_below, IsLastBelow}
-use Rattle.mp_names.specs.Outlines.{Outline, OutlineIsSound, control_at, owner_before, IsMove, HasControl}
+use Rattle.mp_names.specs.Outlines.{Outline, OutlineIsSound, control_at, owner_before, owner_at, IsMove, HasControl}
 
 -- by the worker just before each time, `b`; the owner at t is `b (suc t)`
 abbrev pub Still : (ℕ → ℕ) → ℕ → ℕ → Type 0
@@ -251,3 +253,15 @@ owners_follow o j b t = (
   (λ i l. last_agrees o.controls (o.first_owner j b) j b t i (last_below o.controls j b t) (said o.controls j b t) l),
   (λ n. none_agrees o.controls (o.first_owner j b) j b t (last_below o.controls j b t) (said o.controls j b t) n),
 )
+
+-- where a job has opening wakes, each bin is still the first owner's at 0
+pub opening_owner : (o : Outline) → OutlineIsSound o → (j : ℕ) (x : Name) → In x (o.opening j) → (b : ℕ) → owner_at o j b 0 ≡ o.first_owner j b
+opening_owner o ok j x h b =
+    (owners_follow o j b 1).1 (λ i l.
+    let later = ok.opening_first j x h i l in
+    let c = control_at o i in
+    false_from_ne_true (is_below j b 1 c) (λ e.
+    let p = and_parts (c.stage == j) (c.bin == b && nat_lt c.time 1) e in
+    let r = and_parts (c.bin == b) (nat_lt c.time 1) p.1 in
+    let n : c.time < 1 = ltb-true c.time 1 r.1 in
+    omega arith))

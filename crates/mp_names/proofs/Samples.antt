@@ -4,11 +4,11 @@ use Rattle.std.proofs.lemmas.Bool.{false≢true, eqb-true, or_cases}
 use Rattle.mp_names.specs.declared.names.Name.{Name}
 use Rattle.mp_names.specs.declared.names.Name.TheVariants.{Rec, Row, Group}
 use Rattle.mp_names.specs.declared.names.Tag.{Tag}
-use Rattle.mp_names.specs.Names.{In, Distinct, is_rec, is_row, ascending}
-use Rattle.mp_names.specs.Outlines.{Outline, OutlineIsSound, control_at, time_of, owner_before, groups_of, is_posted, IsInShape, StandByIndex, index_of, IsOwedTo}
+use Rattle.mp_names.specs.Names.{In, Distinct, is_rec, is_row, is_group, ascending}
+use Rattle.mp_names.specs.Outlines.{Outline, OutlineIsSound, control_at, time_of, owner_before, packets_of, groups_of, owed_names, is_posted, IsInShape, StandByIndex, index_of, IsOwedTo}
 use Rattle.mp_names.specs.Logs.{LogIsLegal, LogsAreLegal, empty_log, with_ingested}
 use Rattle.mp_names.specs.Frontiers.{log_at}
-use Rattle.mp_names.specs.Samples.{tag, two_moves, two_bids, TwoMovesAreSound, first_bid, second_bid, posted_early}
+use Rattle.mp_names.specs.Samples.{tag, two_moves, stopped_moves, two_bids, wake_goes_on, TwoMovesAreSound, StoppedMovesAreSound, OpeningWakeGoesOn, first_bid, second_bid, posted_early}
 use Rattle.mp_names.proofs.Lists.{In_cases}
 use Rattle.mp_names.proofs.NameParts.{key_in}
 use Rattle.mp_names.proofs.Keeps.{empty_is_legal, ingested_keeps, held_keeps, took_keeps}
@@ -91,6 +91,11 @@ two_bids_sound =
       rows_are = each (λ x. is_row x ≡ true) (Row 5 (tag 4 0)) (Row 5 (tag 1 0) ∷ []) refl (each (λ x. is_row x ≡ true) (Row 5 (tag 1 0)) [] refl (none (λ x. is_row x ≡ true)));
       rows_once = (refl, (refl, tt));
       rows_given = λ t g h. two_bids_rows (Row t g) h;
+      controls_stop = λ i l. tt;
+      records_stop = λ j x i. tt;
+      rows_stop = λ x i. tt;
+      opening_are = λ j x h. absurd (false≢true h);
+      opening_first = λ j x h i l. absurd (false≢true h);
     }
 
 -- two_moves
@@ -171,6 +176,11 @@ two_moves_sound =
       rows_are = each (λ x. is_row x ≡ true) (Row 120 (tag 10 0)) [] refl (none (λ x. is_row x ≡ true));
       rows_once = (refl, tt);
       rows_given = λ t g h. two_moves_rows (Row t g) h;
+      controls_stop = λ i l. tt;
+      records_stop = λ j x i. tt;
+      rows_stop = λ x i. tt;
+      opening_are = λ j x h. absurd (false≢true h);
+      opening_first = λ j x h i l. absurd (false≢true h);
     }
 
 apart : (m n : ℕ) → m ≡ 0 → n ≡ 1 → m ≡ n → ⊥
@@ -186,6 +196,148 @@ two_moves_are_sound =
       second_move = λ e. apart 0 1 refl refl e;
       second_wake = refl;
     }
+
+-- wake_goes_on
+
+goes_on_controls : (i : ℕ) → i < 1 → IsInShape wake_goes_on (control_at wake_goes_on i)
+goes_on_controls zero l = (omega arith, omega arith, omega arith)
+goes_on_controls (suc i) l = absurd (omega arith)
+
+goes_on_later : (i : ℕ) → i < 1 → 0 < (control_at wake_goes_on i).time
+goes_on_later zero l = omega arith
+goes_on_later (suc i) l = absurd (omega arith)
+
+goes_on_are : (j : ℕ) (x : Name) → In x (wake_goes_on.records j) → (j < 2) × (is_rec j x ≡ true)
+goes_on_are zero = none (λ x. (0 < 2) × (is_rec 0 x ≡ true))
+goes_on_are (suc j) = two_moves_are (suc j)
+
+goes_on_once : (j : ℕ) → Distinct (wake_goes_on.records j)
+goes_on_once zero = tt
+goes_on_once (suc j) = two_moves_once (suc j)
+
+goes_on_tags : (j t k l : ℕ) (g : Tag) → In (Rec j t k g) (wake_goes_on.records j) → In (Rec j t l g) (wake_goes_on.records j) → k ≡ l
+goes_on_tags zero t k l g h i = absurd (false≢true h)
+goes_on_tags (suc j) t k l g h i = two_moves_tags (suc j) t k l g h i
+
+goes_on_opening : (j : ℕ) (x : Name) → In x (wake_goes_on.opening j) → (j < 2) × (is_group j x ≡ true)
+goes_on_opening zero = each (λ x. (0 < 2) × (is_group 0 x ≡ true)) (Group 0 100 1) [] (omega arith, refl) (none (λ x. (0 < 2) × (is_group 0 x ≡ true)))
+goes_on_opening (suc zero) = none (λ x. (1 < 2) × (is_group 1 x ≡ true))
+goes_on_opening (suc (suc j)) = none (λ x. (suc (suc j) < 2) × (is_group (suc (suc j)) x ≡ true))
+
+goes_on_given : (j : ℕ) (x : Name) → In x (wake_goes_on.records (suc j)) → RecordGiven wake_goes_on j x
+unfolding groups_of ascending
+goes_on_given zero = each (RecordGiven wake_goes_on 0) sale [] refl (none (RecordGiven wake_goes_on 0))
+goes_on_given (suc j) = none (RecordGiven wake_goes_on (suc j))
+
+goes_on_rows : (x : Name) → In x wake_goes_on.rows → RowGiven wake_goes_on 1 x
+unfolding groups_of ascending
+goes_on_rows = each (RowGiven wake_goes_on 1) (Row 100 (tag 10 0)) [] refl (none (RowGiven wake_goes_on 1))
+
+pub wake_goes_on_sound : OutlineIsSound wake_goes_on
+wake_goes_on_sound =
+    record {
+      some_worker = omega arith;
+      some_stage = omega arith;
+      some_bundle = omega arith;
+      controls_fit = goes_on_controls;
+      first_owners_fit = λ j b l k. mod-lt b (omega arith);
+      bins_fit = λ k. omega arith;
+      records_are = goes_on_are;
+      records_once = goes_on_once;
+      records_by_index = tt;
+      tags_tell = goes_on_tags;
+      posts_later = λ j x u i p. absurd (false≢true p);
+      records_given = λ j t k g h. goes_on_given j (Rec (suc j) t k g) h;
+      rows_are = each (λ x. is_row x ≡ true) (Row 100 (tag 10 0)) [] refl (none (λ x. is_row x ≡ true));
+      rows_once = (refl, tt);
+      rows_given = λ t g h. goes_on_rows (Row t g) h;
+      controls_stop = λ i l. tt;
+      records_stop = λ j x i. tt;
+      rows_stop = λ x i. tt;
+      opening_are = goes_on_opening;
+      opening_first = λ j x h i l. goes_on_later i l;
+    }
+
+pub opening_wake_goes_on : OpeningWakeGoesOn
+unfolding ascending owner_before packets_of groups_of owed_names
+opening_wake_goes_on =
+    record {
+      sound = wake_goes_on_sound;
+      move = λ e. apart 0 1 refl refl e;
+      woken = refl;
+      with_first_owner = refl;
+      with_no_other = refl;
+      at_first = refl;
+      once_sent = refl;
+      packet = refl;
+      once_taken = refl;
+      with_new_owner = refl;
+      frontier_at_first = refl;
+      frontier_once_sent = refl;
+      frontier_once_taken = refl;
+    }
+
+-- stopped_moves
+
+stopped_controls : (i : ℕ) → i < 1 → IsInShape stopped_moves (control_at stopped_moves i)
+stopped_controls zero l = (omega arith, omega arith, omega arith)
+stopped_controls (suc i) l = absurd (omega arith)
+
+stopped_by_index : StandByIndex (stopped_moves.records 0)
+stopped_by_index = (each (λ y. 0 < index_of y) next_record [] (omega arith) (none (λ y. 0 < index_of y)), (none (λ y. 1 < index_of y), tt))
+
+-- what holds of both records holds of every record
+stopped_each : (P : ℕ → Name → Type 0) → P 0 first_record → P 0 next_record → (j : ℕ) (x : Name) → In x (stopped_moves.records j) → P j x
+stopped_each P h k zero = each (P 0) first_record (next_record ∷ []) h (each (P 0) next_record [] k (none (P 0)))
+stopped_each P h k (suc zero) = none (P 1)
+stopped_each P h k (suc (suc j)) = none (P (suc (suc j)))
+
+stopped_once : (j : ℕ) → Distinct (stopped_moves.records j)
+stopped_once zero = (refl, (refl, tt))
+stopped_once (suc zero) = tt
+stopped_once (suc (suc j)) = tt
+
+stopped_tags : (j t k l : ℕ) (g : Tag) → In (Rec j t k g) (stopped_moves.records j) → In (Rec j t l g) (stopped_moves.records j) → k ≡ l
+stopped_tags zero t k l g h i = index_tells (stopped_moves.records 0) stopped_by_index 0 t k l g h i
+stopped_tags (suc zero) t k l g h i = absurd (false≢true h)
+stopped_tags (suc (suc j)) t k l g h i = absurd (false≢true h)
+
+stopped_later : (j t k : ℕ) (g : Tag) → In (Rec (suc j) t k g) (stopped_moves.records (suc j)) → ⊥
+stopped_later zero t k g h = false≢true h
+stopped_later (suc j) t k g h = false≢true h
+
+stopped_in_time : (i : ℕ) → i < 1 → (control_at stopped_moves i).time < 60
+stopped_in_time zero l = omega arith
+stopped_in_time (suc i) l = absurd (omega arith)
+
+stopped_sound : OutlineIsSound stopped_moves
+stopped_sound =
+    record {
+      some_worker = omega arith;
+      some_stage = omega arith;
+      some_bundle = omega arith;
+      controls_fit = stopped_controls;
+      first_owners_fit = λ j b l k. mod-lt b (omega arith);
+      bins_fit = λ k. omega arith;
+      records_are = stopped_each (λ j x. (j < 2) × (is_rec j x ≡ true)) (omega arith, refl) (omega arith, refl);
+      records_once = stopped_once;
+      records_by_index = stopped_by_index;
+      tags_tell = stopped_tags;
+      posts_later = λ j x u i p. stopped_each (λ j x. (u : ℕ) → is_posted stopped_moves x u ≡ true → time_of stopped_moves x < u) (λ u p. let e = posted_one 100 u p in omega arith) (λ u p. absurd (false≢true p)) j x i u p;
+      records_given = λ j t k g h. absurd (stopped_later j t k g h);
+      rows_are = none (λ x. is_row x ≡ true);
+      rows_once = tt;
+      rows_given = λ t g h. absurd (false≢true h);
+      controls_stop = stopped_in_time;
+      records_stop = stopped_each (λ j x. time_of stopped_moves x < 60) (omega arith) (omega arith);
+      rows_stop = none (λ x. time_of stopped_moves x < 60);
+      opening_are = λ j x h. absurd (false≢true h);
+      opening_first = λ j x h. absurd (false≢true h);
+    }
+
+pub stopped_moves_are_sound : StoppedMovesAreSound
+unfolding groups_of ascending
+stopped_moves_are_sound = record { sound = stopped_sound; wake = refl; listed = refl; not_due = refl }
 
 -- the logs of two_bids, made by steps
 

@@ -7,13 +7,13 @@ use Rattle.mp_names.specs.declared.names.Name.TheVariants.{Ctrl, Rec, Packet, Ro
 use Rattle.mp_names.specs.declared.locations.Loc.{Loc}
 use Rattle.mp_names.specs.declared.locations.Loc.TheVariants.{Ctl, CtlMail, Source, Route, Mail, Move, State, Host, OutRoute, OutMail}
 use Rattle.mp_names.specs.Names.{has, In, is_ctrl, is_rec, is_packet, is_row, is_group}
-use Rattle.mp_names.specs.Outlines.{Outline, OutlineIsSound, control_at, time_of, group_owner, groups_of, HasControl, sender, receiver, IsOwed, IsOwedBy, ctrl_names, share}
+use Rattle.mp_names.specs.Outlines.{Outline, OutlineIsSound, IsBeforeStop, control_at, time_of, group_owner, groups_of, due_groups, HasControl, sender, receiver, IsOwed, IsOwedBy, ctrl_names, share}
 use Rattle.mp_names.specs.Logs.{Log, LogIsLegal, LogsAreLegal, is_given, is_pending, is_ctrl_of, is_noted, is_owned, owned_groups}
 use Rattle.mp_names.specs.Frontiers.{number_at, is_held, contribution, sum_below, count_at, SentAll, TookAll, IsDoneBy}
 use Rattle.mp_names.proofs.Lists.{In_filter, filter_In, In_prefix, any_from, any_at, count_none, none_counted}
 use Rattle.mp_names.proofs.Mails.{total_below, taken_from_sum, sum_from_taken, each_zero, zero_each}
 use Rattle.mp_names.proofs.Owners.{move_has_control}
-use Rattle.mp_names.proofs.Listed.{ctrl_In, ctrl_owed, record_owed, row_owed, edges}
+use Rattle.mp_names.proofs.Listed.{due_group, ctrl_In, ctrl_owed, record_owed, row_owed, edges}
 
 -- the counts, as sums of natural numbers
 
@@ -25,7 +25,7 @@ raised o w log (Route j) t = number_at o (is_held o w log) t (o.records j)
 raised o w log (Mail j) t = number_at o (is_rec j) t log.sent
 raised o w log (Move j) t = cond (is_noted o log j t && not (has log.settled (Settled j t))) 1 0
 raised o w log (State j) t = number_at o (is_packet j) t log.sent
-raised o w log (Host j) t = number_at o (is_pending o log) t (groups_of o j)
+raised o w log (Host j) t = number_at o (is_pending o w log) t (groups_of o j)
 raised o w log OutRoute t = number_at o (is_held o w log) t o.rows
 raised o w log OutMail t = number_at o is_row t log.sent
 
@@ -129,12 +129,19 @@ ingested_own o w log good x h =
     let r = In_filter (λ y. sender o y == w) x (o.records 0) (In_prefix x log.ingested (share o w) good.ingested_in_order h) in
     (r.0, eqb-true (sender o x) w r.1)
 
-pub applied_own : (o : Outline) (w : ℕ) (log : Log) → LogIsLegal o w log → (j t k : ℕ) → In (Group j t k) log.applied → In (Group j t k) (groups_of o j) × (group_owner o j t k ≡ w)
-applied_own o w log good j t k h =
+pub applied_due : (o : Outline) (w : ℕ) (log : Log) → LogIsLegal o w log → (j t k : ℕ) → In (Group j t k) log.applied → In (Group j t k) (due_groups o j) × (group_owner o j t k ≡ w)
+applied_due o w log good j t k h =
     let l = (good.applied_ready (Group j t k) h).0 in
     let i = filter_In (is_group j) (Group j t k) log.applied h (eq-eqb j j refl) in
-    let r = In_filter (is_owned o w) (Group j t k) (groups_of o j) (In_prefix (Group j t k) (filter (is_group j) log.applied) (owned_groups o w j) (good.applied_in_order j l) i) in
+    let r = In_filter (is_owned o w) (Group j t k) (due_groups o j) (In_prefix (Group j t k) (filter (is_group j) log.applied) (owned_groups o w j) (good.applied_in_order j l) i) in
     (r.0, eqb-true (group_owner o j t k) w r.1)
+
+pub applied_own : (o : Outline) (w : ℕ) (log : Log) → LogIsLegal o w log → (j t k : ℕ) → In (Group j t k) log.applied → In (Group j t k) (groups_of o j) × (group_owner o j t k ≡ w)
+applied_own o w log good j t k h = let r = applied_due o w log good j t k h in ((due_group o j (Group j t k) r.0).0, r.1)
+
+-- only groups before the stop time are applied
+pub applied_before_stop : (o : Outline) (w : ℕ) (log : Log) → LogIsLegal o w log → (j t k : ℕ) → In (Group j t k) log.applied → IsBeforeStop o.until t
+applied_before_stop o w log good j t k h = (due_group o j (Group j t k) (applied_due o w log good j t k h).0).1
 
 pub given_own : (o : Outline) (w : ℕ) (log : Log) → LogIsLegal o w log → (x : Name) → is_given o w log x ≡ true → sender o x ≡ w
 given_own o w log good (Ctrl i v) h = sym (eqb-true w 0 h)

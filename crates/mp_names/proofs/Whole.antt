@@ -12,7 +12,7 @@ use Rattle.mp_names.specs.Keeping.{IsWaiting, GroupIsWhole}
 use Rattle.mp_names.proofs.Owners.{last_below_time}
 use Rattle.mp_names.proofs.Listed.{group_form}
 use Rattle.mp_names.proofs.Reach.{move-state}
-use Rattle.mp_names.proofs.Hosts.{pending_until, pending_mine, pending_new, wake_here, wake_woken, woken_at}
+use Rattle.mp_names.proofs.Hosts.{pending_until, pending_mine, pending_new, wake_here, wake_woken}
 
 -- the bin is in hand just before t, where its owner has taken all packets of earlier times
 pub in_hand_before : (o : Outline) (w : ℕ) (log : Log) (j b t : ℕ) → owner_before o j b t ≡ w → ((m : ℕ) → m < t → TookAll o w log (is_packet j) m) → InHandBefore o w log j b t
@@ -32,7 +32,7 @@ both false true f g = absurd (false≢true (g refl))
 both false false f g = refl
 
 module _
-    (o : Outline) (ok : OutlineIsSound o) (w : ℕ) (log : Log) (good : LogIsLegal o w log) (j t k : ℕ) (least : IsLeast (IsWaiting o log j) (Group j t k))
+    (o : Outline) (ok : OutlineIsSound o) (w : ℕ) (log : Log) (good : LogIsLegal o w log) (j t k : ℕ) (least : IsLeast (IsWaiting o w log j) (Group j t k))
     (mail : IsClosedForOne o w log (Mail j) t) (state : IsClosedForOne o w log (State j) t) where
   mails : (s : ℕ) → s ≤ t → IsDoneBy o w log (Mail j) s
   mails s l = mail (Mail j) s stays l
@@ -64,14 +64,10 @@ module _
       sooner : (u n s l : ℕ) → u < s → Less (Group j s l) (Group j t k) → Less (Group j u n) (Group j t k)
       sooner u n s l c less = inr (refl, inl (omega arith))
 
-  -- a wake of this group that was posted is here, and one that is here was posted
-  wake_known : has_wake o log j t k ≡ is_woken o j t k
+  -- a wake of this group that is woken is here, and one that is here wakes it
+  wake_known : has_wake o w log j t k ≡ is_woken o j t k
   wake_known =
-      both (has_wake o log j t k) (is_woken o j t k)
-      (wake_woken o log j t k)
-      (λ h.
-      let r = woken_at o ok j t k h in
-      wake_here o ok w log good j t mails states hosts k r.0 r.1 r.2 r.3 least.0.0 mine (pending_new o log j t k least.0.1))
+      both (has_wake o w log j t k) (is_woken o j t k) (wake_woken o w log j t k) (λ h. wake_here o ok w log good j t mails states hosts k h mine (pending_new o w log j t k least.0.1))
     where
       hosts : (s : ℕ) → s < t → IsDoneBy o w log (Host j) s
       hosts s l x i e f = group_form o ok (λ x. is_owned o w x ≡ true → In x log.applied) j s (λ n i e. applied_before (suc s) s n (omega arith) i (eqb-true (group_owner o j s n) w e) (inr (refl, inl l))) x i f e

@@ -1,5 +1,5 @@
 -- What the posted logs add up to, the frontiers that the sums show, and what it means that a location is closed.
-use Rattle.std.specs.Prelude.{◌≡◌, ℕ, zero, suc, ◌<◌, ◌≤◌, min, Bool, true, not, ◌&&◌, ◌==◌, cond, List, [], ◌∷◌, ◌++◌, filter, map, count_by, slice_index_or, ℤ, pos, ◌+ℤ◌, ◌-ℤ◌}
+use Rattle.std.specs.Prelude.{◌≡◌, ℕ, zero, suc, ◌<◌, ◌≤◌, min, Bool, true, not, ◌&&◌, ◌==◌, cond, List, [], ◌∷◌, ◌++◌, filter, map, count_by, slice_index_or, Option, None, Some, ℤ, pos, ◌+ℤ◌, ◌-ℤ◌}
 use Rattle.std.specs.List.{list_any}
 use Rattle.std.specs.Ordering.{int_eq}
 use Rattle.mp_names.specs.declared.names.Name.{Name}
@@ -36,7 +36,7 @@ contribution o w log (Route j) t = pos (number_at o (is_held o w log) t (o.recor
 contribution o w log (Mail j) t = sent_less_took o log (is_rec j) t
 contribution o w log (Move j) t = pos (cond (is_noted o log j t && not (has log.settled (Settled j t))) 1 0)
 contribution o w log (State j) t = sent_less_took o log (is_packet j) t
-contribution o w log (Host j) t = pos (number_at o (is_pending o log) t (groups_of o j))
+contribution o w log (Host j) t = pos (number_at o (is_pending o w log) t (groups_of o j))
 contribution o w log OutRoute t = pos (number_at o (is_held o w log) t o.rows)
 contribution o w log OutMail t = sent_less_took o log is_row t
 
@@ -75,6 +75,11 @@ HasPassed Done t = Unit {0}
 abbrev pub HasReached : Frontier → ℕ → Type 0
 HasReached (At u) t = t ≤ u
 HasReached Done t = Unit {0}
+
+-- the frontier has come to the end: it is Done or, where there is a stop time, has reached it
+abbrev pub HasEnded : Option ℕ → Frontier → Type 0
+HasEnded None f = f ≡ Done
+HasEnded (Some stop) f = HasReached f stop
 
 -- The frontier by a search
 

@@ -5,7 +5,7 @@ use Rattle.mp_names.specs.declared.names.Name.TheVariants.{Rec, Packet, Row, Gro
 use Rattle.mp_names.specs.declared.names.Tag.{Tag}
 use Rattle.mp_names.specs.declared.locations.Loc.TheVariants.{CtlMail, Mail, State, Host, OutMail}
 use Rattle.mp_names.specs.Names.{has, In, IsPrefix, Less, IsLeast}
-use Rattle.mp_names.specs.Outlines.{Outline, OutlineIsSound, group_owner, groups_of, is_woken, IsOwed, IsOwedBy, IsOwedTo, share}
+use Rattle.mp_names.specs.Outlines.{Outline, OutlineIsSound, IsBeforeStop, group_owner, groups_of, is_woken, IsOwed, IsOwedBy, IsOwedTo, share}
 use Rattle.mp_names.specs.Logs.{Log, LogIsLegal, with_ingested, with_sent, with_took, with_applied, with_settled, is_given, is_noted, has_wake, is_pending, InHand}
 use Rattle.mp_names.specs.Frontiers.{IsClosedForOne}
 
@@ -24,8 +24,8 @@ IsUnsettled o log j (Settled i t) = (i ≡ j) × (is_noted o log j t ≡ true) �
 IsUnsettled o log j _ = ⊥
 
 -- a group of the stage that waits
-abbrev pub IsWaiting : Outline → Log → ℕ → Name → Type 0
-IsWaiting o log j x = In x (groups_of o j) × (is_pending o log x ≡ true)
+abbrev pub IsWaiting : Outline → ℕ → Log → ℕ → Name → Type 0
+IsWaiting o w log j x = In x (groups_of o j) × (is_pending o w log x ≡ true)
 
 -- a time of which an answer row is taken, and that isn't written
 abbrev pub IsUnwritten : Log → Name → Type 0
@@ -37,7 +37,7 @@ pub record GroupIsWhole (o : Outline) (w : ℕ) (log : Log) (j t k : ℕ) : Type
   pub owned : group_owner o j t k ≡ w
   pub bin_in_hand : InHand o w log j (o.bin_of k) t
   pub records_taken : (g : Tag) → In (Rec j t k g) (o.records j) → In (Rec j t k g) log.took
-  pub wake_known : has_wake o log j t k ≡ is_woken o j t k
+  pub wake_known : has_wake o w log j t k ≡ is_woken o j t k
   pub earlier_applied : (u l : ℕ) → In (Group j u l) (groups_of o j) → group_owner o j u l ≡ w → Less (Group j u l) (Group j t k) → In (Group j u l) log.applied
   pub packets_sent : (m : ℕ) → m ≤ t → IsOwedBy o w (Packet j (o.bin_of k) m) → In (Packet j (o.bin_of k) m) log.sent
 
@@ -53,11 +53,11 @@ pub record NamesKeepLogsLegal (o : Outline) (w : ℕ) (log : Log) : Type 0 where
   pub extract : (j b t : ℕ) → IsUnsentPacket o w log j (Packet j b t) → ((u : ℕ) → u < t → IsClosedForOne o w log (Host j) u) → LogIsLegal o w (with_sent log (Packet j b t))
   -- the least time that isn't settled, where its packets are sent
   pub settle : (j t : ℕ) → IsLeast (IsUnsettled o log j) (Settled j t) → IsClosedForOne o w log CtlMail t → ((b : ℕ) → IsOwedBy o w (Packet j b t) → In (Packet j b t) log.sent) → LogIsLegal o w (with_settled log (Settled j t))
-  -- the least group that waits
-  pub apply : (j t k : ℕ) → IsLeast (IsWaiting o log j) (Group j t k) → IsClosedForOne o w log (Mail j) t → IsClosedForOne o w log (State j) t → LogIsLegal o w (with_applied log (Group j t k))
+  -- the least group that waits, before the stop time
+  pub apply : (j t k : ℕ) → IsLeast (IsWaiting o w log j) (Group j t k) → IsBeforeStop o.until t → IsClosedForOne o w log (Mail j) t → IsClosedForOne o w log (State j) t → LogIsLegal o w (with_applied log (Group j t k))
   -- the least time that isn't written
   pub write : (t : ℕ) → w ≡ 0 → IsLeast (IsUnwritten log) (Written t) → IsClosedForOne o w log OutMail t → LogIsLegal o w (with_settled log (Written t))
 
 -- the least group that waits is whole, where all that can come to it up to its time has come
 abbrev pub LeastGroupIsWhole : Type 0
-LeastGroupIsWhole = (o : Outline) (w : ℕ) (log : Log) → OutlineIsSound o → LogIsLegal o w log → (j t k : ℕ) → IsLeast (IsWaiting o log j) (Group j t k) → IsClosedForOne o w log (Mail j) t → IsClosedForOne o w log (State j) t → GroupIsWhole o w log j t k
+LeastGroupIsWhole = (o : Outline) (w : ℕ) (log : Log) → OutlineIsSound o → LogIsLegal o w log → (j t k : ℕ) → IsLeast (IsWaiting o w log j) (Group j t k) → IsClosedForOne o w log (Mail j) t → IsClosedForOne o w log (State j) t → GroupIsWhole o w log j t k

@@ -8,8 +8,8 @@ use Rattle.mp_names.specs.declared.locations.Loc.TheVariants.{OutMail}
 use Rattle.mp_names.specs.declared.locations.Frontier.{Frontier}
 use Rattle.mp_names.specs.Names.{In, Distinct, IsAscending}
 use Rattle.mp_names.specs.Controls.{is_below, IsLastBelow}
-use Rattle.mp_names.specs.Outlines.{Outline, OutlineIsSound, control_at, owner_before, IsMove, packets_of, is_posted, groups_of, HasControl, control_times, answer_times, IsOwed, IsOwedBy, IsOwedTo, owed_names, owed_by, owed_to, name_count}
-use Rattle.mp_names.specs.Logs.{Log, empty_log, LogIsLegal, LogGrows, LogsAreLegal, LogsGrow}
+use Rattle.mp_names.specs.Outlines.{Outline, OutlineIsSound, IsBeforeStop, control_at, owner_before, IsMove, packets_of, is_posted, groups_of, HasControl, control_times, answer_times, IsOwed, IsOwedBy, IsOwedTo, owed_names, owed_by, owed_to, name_count}
+use Rattle.mp_names.specs.Logs.{Log, empty_log, LogIsLegal, LogGrows, LogsAreLegal, LogsGrow, is_pending}
 use Rattle.mp_names.specs.Locations.{Reaches, reaches}
 use Rattle.mp_names.specs.Frontiers.{IsFrontier, HasPassed, frontier_of, IsClosed, IsClosedForOne}
 use Rattle.mp_names.specs.Keeping.{NamesKeepLogsLegal}
@@ -55,13 +55,21 @@ abbrev pub OwedNamesAreListed : Type 0
 OwedNamesAreListed =
     (o : Outline) → OutlineIsSound o → Distinct (owed_names o) × ((x : Name) → (In x (owed_names o) ↔ IsOwed o x)) × ((w : ℕ) (x : Name) → (In x (owed_by o w) ↔ IsOwedBy o w x)) × ((w : ℕ) (x : Name) → (In x (owed_to o w) ↔ IsOwedTo o w x))
 
--- why a group is there: a record of its key is of its time, or posts it
+-- a record of the key is of the time, or posts it
+abbrev pub IsMade : Outline → ℕ → ℕ → ℕ → Type 0
+IsMade o j t k = (s : ℕ) × (g : Tag) × In (Rec j s k g) (o.records j) × ((s ≡ t) ⊎ (is_posted o (Rec j s k g) t ≡ true))
+
+-- why a group is there: it is an opening wake, or a record makes it
 abbrev pub IsCaused : Outline → ℕ → ℕ → ℕ → Type 0
-IsCaused o j t k = (s : ℕ) × (g : Tag) × In (Rec j s k g) (o.records j) × ((s ≡ t) ⊎ (is_posted o (Rec j s k g) t ≡ true))
+IsCaused o j t k = In (Group j t k) (o.opening j) ⊎ IsMade o j t k
 
 -- the groups of a stage are listed, each once and in order
 abbrev pub GroupsAreListed : Type 0
 GroupsAreListed = (o : Outline) → OutlineIsSound o → (j : ℕ) → IsAscending (groups_of o j) × ((t k : ℕ) → (In (Group j t k) (groups_of o j) ↔ IsCaused o j t k))
+
+-- at the start the groups that wait are those of opening wakes, each with the first owner of its key's bin
+abbrev pub OpeningWakesAreInHand : Type 0
+OpeningWakesAreInHand = (o : Outline) (w j t k : ℕ) → ((is_pending o w empty_log (Group j t k) ≡ true) ↔ (In (Group j t k) (o.opening j) × (o.first_owner j (o.bin_of k) ≡ w)))
 
 -- the times of a stage's control records are listed, each once and in order
 abbrev pub ControlTimesAreListed : Type 0
@@ -93,7 +101,7 @@ names_in (suc n) logs = names_in n logs + log_size (logs n)
 abbrev pub LogsAreBounded : Type 0
 LogsAreBounded = (o : Outline) (logs : ℕ → Log) → OutlineIsSound o → LogsAreLegal o logs → names_in o.workers logs ≤ name_count o
 
--- where all is closed and every answer time is written they hold just so many
+-- where all is closed, up to the stop time if there is one, and every answer time is written they hold just so many
 abbrev pub FinishedLogsAreFull : Type 0
 FinishedLogsAreFull =
-    (o : Outline) (logs : ℕ → Log) → OutlineIsSound o → LogsAreLegal o logs → ((t : ℕ) → IsClosed o logs OutMail t) → ((x : Name) → In x (answer_times o) → In x (logs 0).settled) → names_in o.workers logs ≡ name_count o
+    (o : Outline) (logs : ℕ → Log) → OutlineIsSound o → LogsAreLegal o logs → ((t : ℕ) → IsBeforeStop o.until t → IsClosed o logs OutMail t) → ((x : Name) → In x (answer_times o) → In x (logs 0).settled) → names_in o.workers logs ≡ name_count o

@@ -3,7 +3,7 @@ use Rattle.std.specs.Prelude.{ℕ, ◌+◌, ◌^◌}
 
 -- how many events an event file may have
 abbrev pub most_events : ℕ
-most_events = 250000
+most_events = 1000000
 
 -- the greatest time of an event and of a control record, in units of the event file
 abbrev pub greatest_time : ℕ
@@ -31,15 +31,15 @@ most_controls = 65536
 
 -- how many stages a query may have
 abbrev pub most_stages : ℕ
-most_stages = 2
+most_stages = 4
 
 -- how many workers a job may have
 abbrev pub most_workers : ℕ
-most_workers = 16
+most_workers = 64
 
 -- how many bins the keys of a stage may be cut into
 abbrev pub most_bins : ℕ
-most_bins = 256
+most_bins = 4096
 
 -- how many messages a mailbox may hold
 abbrev pub deepest_mailbox : ℕ
@@ -56,7 +56,3 @@ greatest_seed = 2 ^ 48
 -- how many bytes a file that is read may have
 abbrev pub most_bytes : ℕ
 most_bytes = 2 ^ 28
-
--- of how many stages a worker can see the frontiers
-abbrev pub most_stages_seen : ℕ
-most_stages_seen = 4

@@ -5,7 +5,7 @@ use Rattle.mp_names.specs.declared.names.Name.{Name}
 use Rattle.mp_names.specs.declared.names.Name.TheVariants.{Ctrl, Rec, Packet, Row, Group, Settled, Written}
 use Rattle.mp_names.specs.declared.names.Tag.{Tag}
 use Rattle.mp_names.specs.Names.{has, In, Distinct, IsPrefix, is_group, is_settled, is_written}
-use Rattle.mp_names.specs.Outlines.{Outline, control_at, owner_before, group_owner, IsMove, is_posted, groups_of, control_times, answer_times, IsOwedBy, IsOwedTo, share}
+use Rattle.mp_names.specs.Outlines.{Outline, control_at, owner_before, group_owner, IsMove, is_posted, groups_of, due_groups, control_times, answer_times, IsOwedBy, IsOwedTo, share}
 
 -- each list in the order in which it grew; `settled` holds the `Settled` names, and on worker 0 the `Written` names
 pub record Log : Type 0 where
@@ -78,9 +78,14 @@ is_wake_here o log j u k (Rec i s l g) =
     l == k && (is_posted o (Rec i s l g) u && (has log.applied (Group j s k) && not (left_since log j (o.bin_of k) s) || list_any (brings_wake log j (o.bin_of k) s u) log.took))
 is_wake_here o log j u k _ = false
 
+-- the opening wake of the key at u is here: it counts as posted at 0, with the bin's first owner, so either this is that worker and the bin hasn't left since, or a packet brought it
+abbrev pub is_opening_here : Outline → ℕ → Log → ℕ → ℕ → ℕ → Bool
+is_opening_here o w log j u k =
+    has (o.opening j) (Group j u k) && (o.first_owner j (o.bin_of k) == w && not (left_since log j (o.bin_of k) 0) || list_any (brings_wake log j (o.bin_of k) 0 u) log.took)
+
 -- a wake of the key at u is here; until its group is applied it is a wake in hand
-abbrev pub has_wake : Outline → Log → ℕ → ℕ → ℕ → Bool
-has_wake o log j u k = list_any (is_wake_here o log j u k) (o.records j)
+abbrev pub has_wake : Outline → ℕ → Log → ℕ → ℕ → ℕ → Bool
+has_wake o w log j u k = is_opening_here o w log j u k || list_any (is_wake_here o log j u k) (o.records j)
 
 abbrev pub is_record_of : ℕ → ℕ → ℕ → Name → Bool
 is_record_of j u k (Rec i s l g) = i == j && (s == u && l == k)
@@ -91,9 +96,9 @@ abbrev pub has_record : Log → ℕ → ℕ → ℕ → Bool
 has_record log j u k = list_any (is_record_of j u k) log.took
 
 -- the group waits: it isn't applied, and a record of it is taken or its wake is here
-abbrev pub is_pending : Outline → Log → Name → Bool
-is_pending o log (Group j u k) = not (has log.applied (Group j u k)) && (has_record log j u k || has_wake o log j u k)
-is_pending o log _ = false
+abbrev pub is_pending : Outline → ℕ → Log → Name → Bool
+is_pending o w log (Group j u k) = not (has log.applied (Group j u k)) && (has_record log j u k || has_wake o w log j u k)
+is_pending o w log _ = false
 
 abbrev pub is_ctrl_of : Outline → ℕ → ℕ → Name → Bool
 is_ctrl_of o j t (Ctrl i v) = (control_at o i).stage == j && (control_at o i).time == t
@@ -129,9 +134,9 @@ abbrev pub is_owned : Outline → ℕ → Name → Bool
 is_owned o w (Group j t k) = group_owner o j t k == w
 is_owned o w _ = false
 
--- the groups of a stage that the worker owns, by time and key
+-- the groups of a stage that the worker owns and is to apply, by time and key
 abbrev pub owned_groups : Outline → ℕ → ℕ → List Name
-owned_groups o w j = filter (is_owned o w) (groups_of o j)
+owned_groups o w j = filter (is_owned o w) (due_groups o j)
 
 -- The log is legal by itself, whatever the logs of other workers are
 pub record LogIsLegal (o : Outline) (w : ℕ) (log : Log) : Type 0 where

@@ -1,12 +1,12 @@
 -- The outline of a job: all that the protocol needs to know of its query, events and control records.
-use Rattle.std.specs.Prelude.{◌≡◌, ℕ, zero, suc, ◌+◌, ◌-◌, ◌*◌, ◌%◌, ◌<◌, Bool, true, false, ◌&&◌, ◌==◌, List, [], ◌∷◌, ◌++◌, length, filter, map, flat_map}
+use Rattle.std.specs.Prelude.{◌≡◌, ℕ, zero, suc, ◌+◌, ◌-◌, ◌*◌, ◌%◌, ◌<◌, Bool, true, false, ◌&&◌, ◌==◌, nat_lt, List, [], ◌∷◌, ◌++◌, length, filter, map, flat_map, Option, None, Some, ◌||◌}
 use Rattle.std.specs.List.{list_any}
 use Rattle.mp_names.specs.declared.names.Name.{Name}
 use Rattle.mp_names.specs.declared.names.Name.TheVariants.{Ctrl, Rec, Packet, Row, Group, Settled, Written}
 use Rattle.mp_names.specs.declared.names.Tag.{Tag}
 use Rattle.mp_names.specs.declared.controls.Control.{Control}
 use Rattle.mp_names.specs.declared.controls.Move.{Move}
-use Rattle.mp_names.specs.Names.{In, Distinct, ascending, joined_below, is_rec, is_row, is_settled}
+use Rattle.mp_names.specs.Names.{has, In, Distinct, ascending, joined_below, is_rec, is_row, is_group, is_settled}
 use Rattle.mp_names.specs.Controls.{control_of, owner_below, is_change, packets_in, moves_in}
 
 -- all that is told of a job; its groups, moves, times and what has to be sent follow from it
@@ -20,7 +20,10 @@ pub record Outline : Type 0 where
   pub records : ℕ → List Name  -- the `Rec` names of a stage; those of stage 0 by index
   pub posts : Name → List ℕ  -- the later times at which a record wakes its key
   pub rows : List Name  -- the `Row` names
+  pub opening : ℕ → List Name  -- the `Group` names of a stage's opening wakes, which a job that goes on from a checkpoint has from the start
   pub bundle : ℕ  -- how many records travel in one message at most
+  pub paced : Bool  -- the control records of a time wait until all that moves at earlier times has arrived
+  pub until : Option ℕ  -- the stop time, if there is one: the groups of it and of later times wait for ever
 
 abbrev pub control_at : Outline → ℕ → Control
 control_at o i = control_of o.controls i
@@ -33,6 +36,15 @@ time_of o (Row t g) = t
 time_of o (Group j t k) = t
 time_of o (Settled j t) = t
 time_of o (Written t) = t
+
+-- the time is before the stop time, where there is one
+abbrev pub IsBeforeStop : Option ℕ → ℕ → Type 0
+IsBeforeStop None t = Unit {0}
+IsBeforeStop (Some stop) t = t < stop
+
+abbrev pub is_before_stop : Option ℕ → ℕ → Bool
+is_before_stop None t = true
+is_before_stop (Some stop) t = nat_lt t stop
 
 -- Owners and moves
 
@@ -74,18 +86,22 @@ abbrev pub groups_made : Outline → Name → List Name
 groups_made o (Rec j t k g) = Group j t k ∷ map (λ u. Group j u k) (o.posts (Rec j t k g))
 groups_made o _ = []
 
--- the groups of a stage, by time and key
+-- the groups of a stage, by time and key: those of its opening wakes, and those that its records make
 unfoldable pub groups_of : Outline → ℕ → List Name
-groups_of o j = ascending (flat_map (groups_made o) (o.records j))
+groups_of o j = ascending (o.opening j ++ flat_map (groups_made o) (o.records j))
+
+-- those that are to be applied: they are before the stop time
+abbrev pub due_groups : Outline → ℕ → List Name
+due_groups o j = filter (λ x. is_before_stop o.until (time_of o x)) (groups_of o j)
 
 -- a record of the key wakes it at this time
 abbrev pub wakes : Outline → ℕ → ℕ → Name → Bool
 wakes o t k (Rec i s l g) = l == k && is_posted o (Rec i s l g) t
 wakes o t k _ = false
 
--- the group of the key at this time is woken: a record of the key posts the time
+-- the group of the key at this time is woken: it is an opening wake, or a record of the key posts the time
 abbrev pub is_woken : Outline → ℕ → ℕ → ℕ → Bool
-is_woken o j t k = list_any (wakes o t k) (o.records j)
+is_woken o j t k = has (o.opening j) (Group j t k) || list_any (wakes o t k) (o.records j)
 
 -- some control record is of this stage and time
 abbrev pub HasControl : Outline → ℕ → ℕ → Type 0
@@ -150,12 +166,12 @@ owed_to o w = filter (λ x. receiver o x == w) (owed_names o)
 abbrev pub share : Outline → ℕ → List Name
 share o w = filter (λ x. sender o x == w) (o.records 0)
 
--- how many names the logs of a finished job hold: each owed name sent and taken, each record of stage 0 ingested, each group applied, each control time settled by each worker, each answer time written
+-- how many names the logs of a finished job hold: each owed name sent and taken, each record of stage 0 ingested, each group that is due applied, each control time settled by each worker, each answer time written
 unfoldable pub name_count : Outline → ℕ
 name_count o =
     2 * length (owed_names o)
     + length (o.records 0)
-    + length (joined_below o.stages (groups_of o))
+    + length (joined_below o.stages (due_groups o))
     + o.workers * length (joined_below o.stages (control_times o))
     + length (answer_times o)
 
@@ -194,3 +210,11 @@ pub record OutlineIsSound (o : Outline) : Type 0 where
   pub rows_are : (x : Name) → In x o.rows → is_row x ≡ true
   pub rows_once : Distinct o.rows
   pub rows_given : (t : ℕ) (g : Tag) → In (Row t g) o.rows → In (Group (o.stages - 1) t g.0) (groups_of o (o.stages - 1))
+  -- what has to be sent is before the stop time; what records post need not be
+  pub controls_stop : (i : ℕ) → i < length o.controls → IsBeforeStop o.until (control_at o i).time
+  pub records_stop : (j : ℕ) (x : Name) → In x (o.records j) → IsBeforeStop o.until (time_of o x)
+  pub rows_stop : (x : Name) → In x o.rows → IsBeforeStop o.until (time_of o x)
+  -- the opening wakes of a stage are groups of that stage, and the job has the stage
+  pub opening_are : (j : ℕ) (x : Name) → In x (o.opening j) → (j < o.stages) × (is_group j x ≡ true)
+  -- where a job has opening wakes, its control records are later than 0: at 0 each bin is still the first owner's
+  pub opening_first : (j : ℕ) (x : Name) → In x (o.opening j) → (i : ℕ) → i < length o.controls → 0 < (control_at o i).time

@@ -1,14 +1,14 @@
 -- Small jobs to compute with: each is the outline of a worked example.
-use Rattle.std.specs.Prelude.{◌≡◌, ℕ, zero, suc, ◌%◌, ◌==◌, cond, true, false, List, [], ◌∷◌, pos}
+use Rattle.std.specs.Prelude.{◌≡◌, ℕ, zero, suc, ◌%◌, ◌==◌, cond, true, false, List, [], ◌∷◌, None, Some, pos}
 use Rattle.mp_names.specs.declared.names.Name.{Name}
-use Rattle.mp_names.specs.declared.names.Name.TheVariants.{Ctrl, Rec, Packet, Row, Settled}
+use Rattle.mp_names.specs.declared.names.Name.TheVariants.{Ctrl, Rec, Packet, Row, Group, Settled}
 use Rattle.mp_names.specs.declared.names.Tag.{Tag}
 use Rattle.mp_names.specs.declared.controls.Control.{Control}
-use Rattle.mp_names.specs.declared.locations.Loc.TheVariants.{Source, Mail, State}
+use Rattle.mp_names.specs.declared.locations.Loc.TheVariants.{Source, Mail, State, Host}
 use Rattle.mp_names.specs.declared.locations.Frontier.TheVariants.{At, Done}
 use Rattle.mp_names.specs.Names.{has, In}
-use Rattle.mp_names.specs.Outlines.{Outline, OutlineIsSound, IsMove, is_woken, IsOwedTo}
-use Rattle.mp_names.specs.Logs.{Log, LogsAreLegal, empty_log}
+use Rattle.mp_names.specs.Outlines.{Outline, OutlineIsSound, IsMove, groups_of, due_groups, is_woken, IsOwedTo}
+use Rattle.mp_names.specs.Logs.{Log, LogsAreLegal, empty_log, is_pending}
 use Rattle.mp_names.specs.Frontiers.{count_at, log_at, frontier_of}
 
 abbrev pub tag : ℕ → ℕ → Tag
@@ -19,6 +19,9 @@ control t j b w = record { time = t; stage = j; bin = b; worker = w }
 
 abbrev pub no_posts : Name → List ℕ
 no_posts x = []
+
+abbrev pub no_wakes : ℕ → List Name
+no_wakes j = []
 
 -- one list for stage 0, one for stage 1
 abbrev pub by_stage : List Name → List Name → ℕ → List Name
@@ -39,7 +42,10 @@ three_bids =
       records = by_stage (Rec 0 5 7 (tag 0 0) ∷ Rec 0 3 7 (tag 0 1) ∷ Rec 0 5 2 (tag 0 2) ∷ []) [];
       posts = no_posts;
       rows = Row 5 (tag 7 0) ∷ Row 3 (tag 7 0) ∷ Row 5 (tag 2 0) ∷ [];
+      opening = no_wakes;
       bundle = 1;
+      paced = false;
+      until = None;
     }
 
 -- the records that post: an auction at 0, which closes at 100, and its sale, where that posts too
@@ -61,7 +67,10 @@ wake_moves =
       records = by_stage (Rec 0 0 1 (tag 0 0) ∷ Rec 0 5 1 (tag 0 1) ∷ []) (Rec 1 100 10 (tag 1 0) ∷ []);
       posts = closing 0;
       rows = Row 100 (tag 10 0) ∷ [];
+      opening = no_wakes;
       bundle = 1;
+      paced = false;
+      until = None;
     }
 
 -- the same with a wake in each stage, the second at 120, and a move of each stage's bin before its wake
@@ -81,6 +90,22 @@ pub record TwoMovesAreSound : Type 0 where
   pub second_move : IsMove two_moves 1 0 110
   pub second_wake : is_woken two_moves 1 120 10 ≡ true
 
+-- `wake_moves` with a stop at 60, after the move and before the wake: the auction is never closed, so nothing is sold
+abbrev pub stopped_moves : Outline
+stopped_moves =
+    record wake_moves {
+      records = by_stage (Rec 0 0 1 (tag 0 0) ∷ Rec 0 5 1 (tag 0 1) ∷ []) [];
+      rows = [];
+      until = Some 60;
+    }
+
+-- it is sound, and has a group that is woken and not due
+pub record StoppedMovesAreSound : Type 0 where
+  pub sound : OutlineIsSound stopped_moves
+  pub wake : is_woken stopped_moves 0 100 1 ≡ true
+  pub listed : In (Group 0 100 1) (groups_of stopped_moves 0)
+  pub not_due : has (due_groups stopped_moves 0) (Group 0 100 1) ≡ false
+
 -- `counts_cancel`: bids at 5 on auctions 4 and 1, whose bins are 1 and 2, and three workers. So the first record goes from worker 0 to worker 1, the second from worker 1 to worker 2
 abbrev pub two_bids : Outline
 two_bids =
@@ -94,7 +119,10 @@ two_bids =
       records = by_stage (Rec 0 5 4 (tag 0 0) ∷ Rec 0 5 1 (tag 0 1) ∷ []) [];
       posts = no_posts;
       rows = Row 5 (tag 4 0) ∷ Row 5 (tag 1 0) ∷ [];
+      opening = no_wakes;
       bundle = 1;
+      paced = false;
+      until = None;
     }
 
 abbrev pub first_bid : Name
@@ -152,3 +180,23 @@ pub record MovesHoldFrontiersBack : Type 0 where
   pub once_told : frontier_of wake_moves (log_at control_taken) (State 0) ≡ At 50
   pub once_sent : frontier_of wake_moves (log_at packet_sent) (State 0) ≡ At 50
   pub once_taken : frontier_of wake_moves (log_at packet_taken) (State 0) ≡ Done
+
+-- `wake_goes_on`: the job of `wake_moves`, taken up at 50 from what a run until then left. No event is left, but auction 1 is to be closed at 100, and its bin moves at 50
+abbrev pub wake_goes_on : Outline
+wake_goes_on = record wake_moves { records = by_stage [] (Rec 1 100 10 (tag 1 0) ∷ []); posts = no_posts; opening = by_stage (Group 0 100 1 ∷ []) [] }
+
+-- The opening wake is in hand of the bin's first owner from the start, and is counted there. While the packet of its bin is on its way no worker has it in hand, and the packet alone is counted; then it is in hand of the new owner
+pub record OpeningWakeGoesOn : Type 0 where
+  pub sound : OutlineIsSound wake_goes_on
+  pub move : IsMove wake_goes_on 0 0 50
+  pub woken : is_woken wake_goes_on 0 100 1 ≡ true
+  pub with_first_owner : is_pending wake_goes_on 0 empty_log (Group 0 100 1) ≡ true
+  pub with_no_other : is_pending wake_goes_on 1 empty_log (Group 0 100 1) ≡ false
+  pub at_first : count_at wake_goes_on (log_at []) (Host 0) 100 ≡ pos 1
+  pub once_sent : count_at wake_goes_on (log_at packet_sent) (Host 0) 100 ≡ pos 0
+  pub packet : count_at wake_goes_on (log_at packet_sent) (State 0) 50 ≡ pos 1
+  pub once_taken : count_at wake_goes_on (log_at packet_taken) (Host 0) 100 ≡ pos 1
+  pub with_new_owner : is_pending wake_goes_on 1 (log_at packet_taken 1) (Group 0 100 1) ≡ true
+  pub frontier_at_first : frontier_of wake_goes_on (log_at []) (Host 0) ≡ At 50
+  pub frontier_once_sent : frontier_of wake_goes_on (log_at packet_sent) (Host 0) ≡ At 50
+  pub frontier_once_taken : frontier_of wake_goes_on (log_at packet_taken) (Host 0) ≡ At 100

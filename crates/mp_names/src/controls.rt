@@ -4,11 +4,11 @@ use crate::Time;
 /// How many workers, bins and stages a job has, each at least 1.
 #[derive(Clone, Copy, PartialEq, Eq, Hash, Debug)]
 pub struct Shape {
-    /// From 1 to 16.
+    /// From 1 to 64.
     pub workers: u32,
-    /// Of the keys of each stage: a power of two from 1 to 256.
+    /// Of the keys of each stage: a power of two from 1 to 4096.
     pub bins: u32,
-    /// Of the query: 1 or 2.
+    /// Of the query, from 1 to 4.
     pub stages: u32,
 }
 
@@ -23,6 +23,17 @@ pub struct Control {
     /// From 0.
     pub bin: u32,
     /// The owner from this time on, from 0.
+    pub worker: u32,
+}
+
+/// The first owner of a bin, as a configuration says it.
+#[derive(Clone, Copy, PartialEq, Eq, Hash, Debug)]
+pub struct First {
+    /// From 0.
+    pub stage: u32,
+    /// From 0.
+    pub bin: u32,
+    /// The owner until a control record says otherwise, from 0.
     pub worker: u32,
 }
 

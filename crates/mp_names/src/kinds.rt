@@ -25,3 +25,12 @@ pub enum Kind {
     /// The log is posted, and the frontiers are seen.
     Exchange,
 }
+
+/// A step that a worker kept: its kind, and of an exchange the version of the board after it, else 0.
+#[derive(Clone, Copy, PartialEq, Eq, Debug)]
+pub struct Kept {
+    /// The kind of step.
+    pub kind: Kind,
+    /// The version.
+    pub version: u64,
+}

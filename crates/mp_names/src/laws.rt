@@ -2,10 +2,10 @@
 //! for every outline of a job and all logs.
 
 ghost use Rattle.std.specs.Prelude.{◌≡◌};
-ghost use Rattle.mp_names.specs.Laws.{FrontiersAreExact, FrontiersExist, FrontiersAreUnique, FrontiersNeverGoBack, FrontiersTellEachWorker, TableIsRight, OwnersFollowControls, MovesAreListed, OwedNamesAreListed, GroupsAreListed, ControlTimesAreListed, AnswerTimesAreListed, EmptyLogsAreLegal, LogsStayLegal, LogsAreBounded, FinishedLogsAreFull};
+ghost use Rattle.mp_names.specs.Laws.{FrontiersAreExact, FrontiersExist, FrontiersAreUnique, FrontiersNeverGoBack, FrontiersTellEachWorker, TableIsRight, OwnersFollowControls, MovesAreListed, OwedNamesAreListed, GroupsAreListed, OpeningWakesAreInHand, ControlTimesAreListed, AnswerTimesAreListed, EmptyLogsAreLegal, LogsStayLegal, LogsAreBounded, FinishedLogsAreFull};
 ghost use Rattle.mp_names.specs.Keeping.{LeastGroupIsWhole};
 ghost use Rattle.mp_names.specs.Outlines.{name_count};
-ghost use Rattle.mp_names.specs.Samples.{TwoMovesAreSound, CountsCancel, MovesHoldFrontiersBack, three_bids, wake_moves};
+ghost use Rattle.mp_names.specs.Samples.{TwoMovesAreSound, StoppedMovesAreSound, CountsCancel, MovesHoldFrontiersBack, three_bids, wake_moves, stopped_moves, OpeningWakeGoesOn, wake_goes_on};
 
 /// The frontier that the posted logs show has passed a time exactly where all work up to it is done,
 /// if each of them is legal by itself. Naiad's safety of the progress protocol, here for logs from
@@ -51,15 +51,23 @@ pub fn least_group_is_whole()
 {}
 
 /// There are outlines for the laws to speak of: one with a move in each of two stages, and a wake that
-/// each of them carries to the new owner.
+/// each of them carries to the new owner; and one with a stop time, where a wake waits for ever.
 pub fn sound_outlines_are_there()
-    ensures { TwoMovesAreSound }
+    ensures moves { TwoMovesAreSound }
+    ensures stopped { StoppedMovesAreSound }
 {}
 
 /// Counts of logs from different moments may cancel with a message on its way; the frontier still hasn't
 /// passed its time.
 pub fn counts_may_cancel()
     ensures { CountsCancel }
+{}
+
+/// A job that goes on from a checkpoint has wakes from the start: each is in hand of the first owner of its
+/// bin, and no other worker has it. One of them in a sound outline, which its bin's packet takes along.
+pub fn opening_wakes_are_in_hand()
+    ensures start { OpeningWakesAreInHand }
+    ensures goes_on { OpeningWakeGoesOn }
 {}
 
 /// A move holds the frontier of its packets back from the start: as a control record, then as a time that
@@ -69,10 +77,12 @@ pub fn moves_hold_frontiers_back()
 {}
 
 /// How many names the logs of a job hold: never more than its name count, and just so many once all is
-/// done; and that count for two of the worked examples.
+/// done; and that count for four of the worked examples.
 pub fn names_are_counted()
     ensures bounded { LogsAreBounded }
     ensures full { FinishedLogsAreFull }
     ensures three_bids { name_count three_bids ≡ 20 }
     ensures wake_moves_with_its_bin { name_count wake_moves ≡ 23 }
+    ensures stopped_moves { name_count stopped_moves ≡ 16 }
+    ensures wake_goes_on { name_count wake_goes_on ≡ 15 }
 {}

@@ -14,12 +14,12 @@ mod locations;
 mod names;
 mod pointstamps;
 
-pub use controls::{Control, Move, Shape};
-pub use kinds::Kind;
+pub use controls::{Control, First, Move, Shape};
+pub use kinds::{Kept, Kind};
 pub use laws::{
     counts_may_cancel, frontiers_are_exact, least_group_is_whole, locations_reach_along_paths,
-    logs_stay_legal, moves_hold_frontiers_back, names_are_counted, owners_follow_controls,
-    sound_outlines_are_there, work_is_listed,
+    logs_stay_legal, moves_hold_frontiers_back, names_are_counted, opening_wakes_are_in_hand,
+    owners_follow_controls, sound_outlines_are_there, work_is_listed,
 };
 pub use locations::{Frontier, Loc};
 pub use names::{Name, Tag};

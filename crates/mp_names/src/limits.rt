@@ -3,7 +3,7 @@
 use crate::Time;
 
 /// How many events an event file may have.
-pub const MAX_EVENTS: usize = 250_000;
+pub const MAX_EVENTS: usize = 1_000_000;
 
 /// The greatest time of an event, of a control record and of an auction's `expires`, in units of the event file: 2^47.
 pub const MAX_TIME: Time = 1 << 47;
@@ -25,13 +25,13 @@ pub const MAX_PRICE: u64 = 1_000_000_000_000;
 pub const MAX_CONTROLS: usize = 65_536;
 
 /// How many stages a query may have; it has one at least.
-pub const MAX_STAGES: u32 = 2;
+pub const MAX_STAGES: u32 = 4;
 
 /// How many workers a job may have; it has one at least.
-pub const MAX_WORKERS: u32 = 16;
+pub const MAX_WORKERS: u32 = 64;
 
 /// How many bins the keys of a stage may be cut into: a power of two, 1 at least.
-pub const MAX_BINS: u32 = 256;
+pub const MAX_BINS: u32 = 4096;
 
 /// How many messages a mailbox between two workers may hold; it holds one at least.
 pub const MAX_DEPTH: u32 = 1024;
@@ -44,6 +44,3 @@ pub const MAX_SEED: u64 = 1 << 48;
 
 /// How many bytes a file that is read may have: 2^28.
 pub const MAX_BYTES: u64 = 1 << 28;
-
-/// Of how many stages a worker can see the frontiers.
-pub const MAX_STAGES_SEEN: u32 = 4;

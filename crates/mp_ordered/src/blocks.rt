@@ -11,7 +11,7 @@ use crate::block::{
 };
 use crate::cut::Cut;
 use crate::front::{count_of, drop_front, end_of, retire_first};
-use crate::near::{Spot, last_near, last_searched};
+use crate::hinted::{Spot, last_hinted, last_searched};
 use crate::order::Order;
 use std::alloc::{AllocError, Global};
 use std::cell::Cell;
@@ -243,15 +243,15 @@ impl<T: Drop, O: Order<T>> OrderedBlocks<T, O> {
         last_searched(&self.blocks, cut, &Cell::new(Spot { block: 0, place: 0 }))
     }
 
-    /// The last item in front of a cut; `None` exactly where there is none. `near` is where an earlier look ended, or any
+    /// The last item in front of a cut; `None` exactly where there is none. `hint` is where an earlier look ended, or any
     /// spot. Where it still points to that item no others are searched; else they are, and then it points to the item.
-    pub fn last_in_front_near<C: Cut<T>>(&self, cut: &C, near: &Cell<Spot>) -> Option<&T>
+    pub fn last_in_front_hinted<C: Cut<T>>(&self, cut: &C, hint: &Cell<Spot>) -> Option<&T>
         requires { IsPartitionedBy (C.front cut.now) self.now.items }
         ensures some { IfSome result (λ x. slice_get self.now.items (prefix_len (C.front cut.now) self.now.items - 1) ≡ Some x.now) }
         ensures some_in_front { IfSome result (λ x. 0 < prefix_len (C.front cut.now) self.now.items) }
         ensures none { IfNone result (prefix_len (C.front cut.now) self.now.items ≡ 0) }
     {
-        last_near(&self.blocks, cut, near)
+        last_hinted(&self.blocks, cut, hint)
     }
 
     /// The first item behind a cut; `None` exactly where there is none.

@@ -7,10 +7,10 @@ mod block;
 mod blocks;
 mod cut;
 mod front;
-mod near;
+mod hinted;
 mod order;
 
 pub use blocks::OrderedBlocks;
 pub use cut::Cut;
-pub use near::Spot;
+pub use hinted::Spot;
 pub use order::Order;

@@ -9,6 +9,9 @@ pub mod Tags
 pub mod Outputs
 pub mod Records
 pub mod Posts
+pub mod Waking
+pub mod Ends
+pub mod Whole
 pub mod Stages
 pub mod Soundness
 pub mod Telling

@@ -1,15 +1,15 @@
 -- What stands among the outputs of a stage, and in which order.
-use Rattle.std.proofs.Common.{◌≡◌, ℕ, ◌<◌, ◌==◌, List, [], ◌∷◌, map, Contains, refl, sym, ap, ◌∙◌, subst, inl, inr, ⊎_elim, arith}
+use Rattle.std.proofs.Common.{◌≡◌, ◌⊎◌, ℕ, ◌<◌, ◌==◌, List, [], ◌∷◌, ◌++◌, map, Contains, refl, sym, ap, ◌∙◌, subst, inl, inr, ⊎_elim, arith}
 use Rattle.std.specs.List.{enumerate_from}
 use Rattle.std.proofs.lemmas.Bool.{eq-eqb, eqb-true}
-use Rattle.std.proofs.lemmas.List.Elements.{Contains-append_cases}
+use Rattle.std.proofs.lemmas.List.Elements.{Contains-append_cases, Contains-append_left, Contains-append_right}
 use Rattle.mp_model.specs.declared.record.Output.{Output}
 use Rattle.mp_model.specs.declared.record.Rec.{Rec}
 use Rattle.mp_model.specs.declared.value.Value.{Value}
 use Rattle.mp_model.specs.Ascending.{ascending}
 use Rattle.mp_model.specs.Entry.{Entry}
 use Rattle.mp_model.specs.Facts.{QueryFacts}
-use Rattle.mp_model.specs.Folds.{entry_at, keys_of, of_key, outputs_along, outputs_at, outputs_of, stage_outputs, timeline, times_in}
+use Rattle.mp_model.specs.Folds.{entry_at, keys_in, of_key, outputs_along, outputs_at, outputs_of, stage_outputs, timeline, times_in, waking_of}
 use Rattle.mp_job.proofs.Ascents.{ascending-Contains, Contains-ascending, Rises-ascending}
 use Rattle.mp_job.proofs.Members.{nothing_in_nil, Contains-filter, Contains-flat_map, Contains-here, Contains-later, Contains-map, filter-Contains, flat_map-Contains, map-Contains}
 use Rattle.mp_outline.specs.Laws.{OutputsInOrder}
@@ -37,36 +37,55 @@ outputs_in_order t k values =
 
 module _ {Cell : Type 0} (q : QueryFacts Cell) (j : ℕ) where
   -- a record of the key has this time, or posts it
-  abbrev pub HasGroup : List Rec → ℕ → ℕ → Type 0
-  HasGroup rs k t = (r : Rec) × Contains rs r × (r.key ≡ k) × Contains (r.time ∷ q.posts j r) t
+  abbrev pub IsMadeBy : List Rec → ℕ → ℕ → Type 0
+  IsMadeBy rs k t = (r : Rec) × Contains rs r × (r.key ≡ k) × Contains (r.time ∷ q.posts j r) t
 
-  -- a group on a timeline is that of its time, and a record made it
+  -- the key has a group at this time: it is to be woken then from the beginning, or a record makes it
+  abbrev pub HasGroup : List Rec → ℕ → ℕ → Type 0
+  HasGroup rs k t = Contains (waking_of q j k) t ⊎ IsMadeBy rs k t
+
+  -- a group on a timeline is that of its time, and it is there for a wake or a record
   pub group_is : (k : ℕ) (rs : List Rec) (e : Entry) → Contains (timeline q j k rs) e → (entry_at q j k (of_key k rs) e.time ≡ e) × HasGroup rs k e.time
   group_is k rs e h =
       let own = of_key k rs in
-      let times = times_in q j own in
+      let first = waking_of q j k in
+      let times = first ++ times_in q j own in
       let a = found (λ t. entry_at q j k own t ≡ e) (ascending times) (Contains-map (entry_at q j k own) (ascending times) e h) in
       let same : a.0 ≡ e.time = ap (λ (f : Entry). f.time) a.2 in
-      let b = found (λ r. Contains (r.time ∷ q.posts j r) a.0) own (Contains-flat_map (λ (r : Rec). r.time ∷ q.posts j r) own a.0 (Contains-ascending times a.0 a.1)) in
-      let c = Contains-filter (λ (r : Rec). r.key == k) rs b.0 b.1 in (
-        subst (λ (t : ℕ). entry_at q j k own t ≡ e) same a.2,
-        (b.0, c.0, eqb-true b.0.key k c.1, subst (λ (t : ℕ). Contains (b.0.time ∷ q.posts j b.0) t) same b.2),
-      )
+      let there : HasGroup rs k a.0 =
+      ⊎_elim
+      (λ (i : Contains first a.0). inl i)
+      (λ (i : Contains (times_in q j own) a.0).
+      let b = found (λ r. Contains (r.time ∷ q.posts j r) a.0) own (Contains-flat_map (λ (r : Rec). r.time ∷ q.posts j r) own a.0 i) in
+      let c = Contains-filter (λ (r : Rec). r.key == k) rs b.0 b.1 in
+      inr (b.0, c.0, eqb-true b.0.key k c.1, b.2))
+      (Contains-append_cases first (times_in q j own) a.0 (Contains-ascending times a.0 a.1))
+      in
+      (subst (λ (t : ℕ). entry_at q j k own t ≡ e) same a.2, subst (λ (t : ℕ). HasGroup rs k t) same there)
 
-  -- where a record makes it the group stands on the timeline
+  -- where it has a group that stands on the timeline
   pub group_stands : (k t : ℕ) (rs : List Rec) → HasGroup rs k t → Contains (timeline q j k rs) (entry_at q j k (of_key k rs) t)
   group_stands k t rs h =
       let own = of_key k rs in
-      let times = times_in q j own in
-      let there = filter-Contains (λ (r : Rec). r.key == k) rs h.0 h.1 (eq-eqb h.0.key k h.2) in
-      let of_records = flat_map-Contains (λ (r : Rec). r.time ∷ q.posts j r) own t (found_there (λ r. Contains (r.time ∷ q.posts j r) t) own h.0 there h.3) in
-      map-Contains (entry_at q j k own) (ascending times) (entry_at q j k own t) (found_there (λ s. entry_at q j k own s ≡ entry_at q j k own t) (ascending times) t (ascending-Contains times t of_records) refl)
+      let first = waking_of q j k in
+      let times = first ++ times_in q j own in
+      let there : Contains times t =
+      ⊎_elim
+      (λ (i : Contains first t). Contains-append_left first (times_in q j own) t i)
+      (λ (m : IsMadeBy rs k t).
+      let kept = filter-Contains (λ (r : Rec). r.key == k) rs m.0 m.1 (eq-eqb m.0.key k m.2) in
+      let of_records = flat_map-Contains (λ (r : Rec). r.time ∷ q.posts j r) own t (found_there (λ r. Contains (r.time ∷ q.posts j r) t) own m.0 kept m.3) in
+      Contains-append_right first (times_in q j own) t of_records)
+      h
+      in
+      map-Contains (entry_at q j k own) (ascending times) (entry_at q j k own t) (found_there (λ s. entry_at q j k own s ≡ entry_at q j k own t) (ascending times) t (ascending-Contains times t there) refl)
 
   -- the times of a timeline rise
   pub timeline_rises : (k : ℕ) (rs : List Rec) → Pairs (λ e f. e.time < f.time) (timeline q j k rs)
   timeline_rises k rs =
       let own = of_key k rs in
-      Pairs-map (λ (s t : ℕ). s < t) (λ (e f : Entry). e.time < f.time) (entry_at q j k own) (λ s t l. l) (ascending (times_in q j own)) (Pairs-Rises (ascending (times_in q j own)) (Rises-ascending (times_in q j own)))
+      let times = waking_of q j k ++ times_in q j own in
+      Pairs-map (λ (s t : ℕ). s < t) (λ (e f : Entry). e.time < f.time) (entry_at q j k own) (λ s t l. l) (ascending times) (Pairs-Rises (ascending times) (Rises-ascending times))
 
   -- The outputs of several groups
 
@@ -101,7 +120,7 @@ module _ {Cell : Type 0} (q : QueryFacts Cell) (j : ℕ) where
   -- an output of a key is one of a group of it
   of_key_is : (k : ℕ) (rs : List Rec) (o : Output) → Contains (outputs_of q j rs k) o → (o.tag.0 ≡ k) × HasGroup rs k o.time
   of_key_is k rs o h =
-      let a = along_are (q.fresh j) (timeline q j k rs) o h in
+      let a = along_are (q.opening j k) (timeline q j k rs) o h in
       let b = group_is k rs a.0 a.1 in
       (a.3 ∙ sym (ap (λ (e : Entry). e.key) b.0), subst (λ (t : ℕ). HasGroup rs k t) (sym a.2) b.1)
 
@@ -109,7 +128,7 @@ module _ {Cell : Type 0} (q : QueryFacts Cell) (j : ℕ) where
 
   pub output_is : (rs : List Rec) (o : Output) → Contains (stage_outputs q j rs) o → HasGroup rs o.tag.0 o.time
   output_is rs o h =
-      let a = found (λ k. Contains (outputs_of q j rs k) o) (keys_of rs) (Contains-flat_map (outputs_of q j rs) (keys_of rs) o h) in
+      let a = found (λ k. Contains (outputs_of q j rs k) o) (keys_in q j rs) (Contains-flat_map (outputs_of q j rs) (keys_in q j rs) o h) in
       let b = of_key_is a.0 rs o a.2 in
       subst (λ (k : ℕ). HasGroup rs k o.time) (sym b.0) b.1
 
@@ -124,6 +143,6 @@ module _ {Cell : Type 0} (q : QueryFacts Cell) (j : ℕ) where
       let a : o.tag.0 ≡ k = (of_key_is k rs o i).0 in
       let b : p.tag.0 ≡ l = (of_key_is l rs p m).0 in
       inl (omega arith))
-      (λ k. along_in_order (q.fresh j) (timeline q j k rs) (timeline_rises k rs))
-      (keys_of rs)
-      (Pairs-Rises (keys_of rs) (Rises-ascending (map (λ (r : Rec). r.key) rs)))
+      (λ k. along_in_order (q.opening j k) (timeline q j k rs) (timeline_rises k rs))
+      (keys_in q j rs)
+      (Pairs-Rises (keys_in q j rs) (Rises-ascending (map (λ (w : ℕ × ℕ). w.1) (q.waking j) ++ map (λ (r : Rec). r.key) rs)))

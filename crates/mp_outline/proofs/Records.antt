@@ -38,7 +38,7 @@ module _ {Cell : Type 0} (q : QueryFacts Cell) where
   tag_of_event : (i : ℕ) (e : Event) (r : Rec) → record_of q i e ≡ Some r → r.tag ≡ record { 0 = 0; 1 = i }
   tag_of_event i e r h = event_tag (q.key 0 e.time e.value) i e r h
 
-  parts_of_output : (j : ℕ) (o : Output) (r : Rec) → record_of_output q j o ≡ Some r → (r.time ≡ o.time) × (r.tag ≡ o.tag)
+  pub parts_of_output : (j : ℕ) (o : Output) (r : Rec) → record_of_output q j o ≡ Some r → (r.time ≡ o.time) × (r.tag ≡ o.tag)
   parts_of_output j o r h = output_parts (q.key j o.time o.value) o r h
 
 module _ {Cell : Type 0} (q : QueryFacts Cell) (events : List Event) where

@@ -1,23 +1,29 @@
 -- The outline of a legal job is sound.
-use Rattle.std.proofs.Common.{◌≡◌, ℕ, suc, ◌-◌, ◌*◌, ◌^◌, ◌<◌, nat_lt, true, [], length, map, Contains, refl, sym, ap, ◌∙◌, subst, arith, mod-lt, div-lt_iff_lt-mul, mul-lt-mul_of_pos_right, mul_comm}
-use Rattle.std.proofs.lemmas.Bool.{cond_both, eq-eqb}
+use Rattle.std.proofs.Common.{◌≡◌, ℕ, suc, ◌-◌, ◌*◌, ◌^◌, ◌<◌, ◌%◌, nat_lt, true, List, [], length, map, Contains, refl, sym, ap, ◌∙◌, subst, arith, mod-lt, div-lt_iff_lt-mul, mul-lt-mul_of_pos_right, mul_comm}
+use Rattle.std.proofs.lemmas.Bool.{and_parts, cond_both, eq-eqb}
 use Rattle.std.proofs.lemmas.Nat.{pow_pos}
 use Rattle.mp_names.specs.declared.names.Name.{Name}
 use Rattle.mp_names.specs.declared.names.Name.TheVariants.{Rec as RecName, Row as RowName, Group}
 use Rattle.mp_names.specs.declared.names.Tag.{Tag}
-use Rattle.mp_names.specs.Names.{Distinct, In, is_rec, is_row}
+use Rattle.mp_names.specs.Names.{Distinct, In, is_group, is_rec, is_row}
 use Rattle.mp_names.specs.Controls.{no_control}
-use Rattle.mp_names.specs.Outlines.{control_at, groups_of, is_posted, IsInShape, OutlineIsSound, StandByIndex, time_of}
+use Rattle.mp_names.specs.Outlines.{control_at, groups_of, is_before_stop, is_posted, IsBeforeStop, IsInShape, OutlineIsSound, StandByIndex, time_of}
+use Rattle.mp_names.proofs.Listed.{before_stop}
 use Rattle.mp_names.proofs.NameParts.{same_parts, same_row}
 use Rattle.mp_bins.specs.Bins.{bin_of_key, hash_of, IsBinCount}
+use Rattle.mp_bins.proofs.FirstTable.{among_is_worker}
 use Rattle.mp_model.specs.declared.record.Output.{Output}
 use Rattle.mp_model.specs.declared.record.Rec.{Rec}
 use Rattle.mp_model.specs.Facts.{JobFacts, QueryFacts}
 use Rattle.mp_model.specs.QueryLaws.{HasStages, LaterStagesPostNothing, PostsAreLater}
 use Rattle.mp_model.specs.Stages.{answer_rows, input_records, stage_records}
+use Rattle.mp_model.specs.Tables.{is_after_saved, opening_wakes}
+use Rattle.mp_model.proofs.SavedWakes.{counted_after_start}
 use Rattle.mp_job.specs.Legal.{JobIsLegal}
-use Rattle.mp_outline.specs.JobOutline.{name_of_record, name_of_row, outline_of, record_names, row_names}
+use Rattle.mp_job.proofs.Members.{nothing_in_nil}
+use Rattle.mp_outline.specs.JobOutline.{name_of_record, name_of_row, opening_names, outline_of, record_names, row_names}
 use Rattle.mp_outline.specs.Laws.{OutputsInOrder, RecordsInOrder}
+use Rattle.mp_outline.proofs.Ends.{output_stops, record_stops}
 use Rattle.mp_outline.proofs.Named.{In_named, named_by_index, named_once}
 use Rattle.mp_outline.proofs.Outputs.{output_is, stage_outputs_in_order}
 use Rattle.mp_outline.proofs.Pairs.{Pairs-weaker}
@@ -25,6 +31,7 @@ use Rattle.mp_outline.proofs.Posts.{post_is_later}
 use Rattle.mp_outline.proofs.Records.{ByIndex, given, inputs_by_index, records_in_order, same_record}
 use Rattle.mp_outline.proofs.Stages.{group_named, post_named, record_named}
 use Rattle.mp_outline.proofs.Tags.{tag_irreflexive}
+use Rattle.mp_outline.proofs.Waking.{wake_named}
 
 -- The bin of a key is one of the bins
 bin_is_inside : (k bins : ℕ) → IsBinCount bins → bin_of_key k bins < bins
@@ -119,6 +126,40 @@ module _ {Cell : Type 0} (q : QueryFacts Cell) (nothing : LaterStagesPostNothing
       let of_name = subst (λ (g : Tag). In (Group j t g.0) (groups_of o j)) c.1 (subst (λ (t : ℕ). In (Group j t p.tag.0) (groups_of o j)) c.0 group) in
       subst (λ (n : ℕ). In (Group (n - 1) t g.0) (groups_of o (n - 1))) (sym same) of_name
 
+module _ {Cell : Type 0} (q : QueryFacts Cell) (job : JobFacts) (legal : JobIsLegal q job) where
+  -- Times that count
+
+  control_counts : (i : ℕ) → i < length job.controls → let t = (control_at (outline_of q job) i).time in (is_after_saved job.from t ≡ true) × (is_before_stop job.until t ≡ true)
+  control_counts i l =
+      let t = (control_at (outline_of q job) i).time in
+      and_parts (is_after_saved job.from t) (is_before_stop job.until t) (legal.controls_count i no_control l)
+
+  controls_end : (i : ℕ) → i < length job.controls → IsBeforeStop job.until (control_at (outline_of q job) i).time
+  controls_end i l = before_stop job.until (control_at (outline_of q job) i).time (control_counts i l).1
+
+  names_end : (j : ℕ) (x : Name) → In x (record_names q job j) → IsBeforeStop job.until (time_of (outline_of q job) x)
+  names_end j x h =
+      let a = record_named q job j x h in
+      subst (λ (y : Name). IsBeforeStop job.until (time_of (outline_of q job) y)) a.2 (before_stop job.until a.0.time (record_stops q job legal.table j a.0 a.1))
+
+  rows_end : (x : Name) → In x (row_names q job) → IsBeforeStop job.until (time_of (outline_of q job) x)
+  rows_end x h =
+      let a = rows_named q job x h in
+      subst (λ (y : Name). IsBeforeStop job.until (time_of (outline_of q job) y)) a.2 (before_stop job.until a.0.time (output_stops q job legal.table (q.stages - 1) (stage_records q job.events (q.stages - 1)) a.0 a.1))
+
+  -- Opening wakes
+
+  wakes_are_groups : (j : ℕ) (x : Name) → In x (opening_names q job j) → (j < job.shape.stages) × (is_group j x ≡ true)
+  wakes_are_groups j x h =
+      let a = wake_named q job j x h in
+      (a.3, subst (λ (y : Name). is_group j y ≡ true) a.2 (eq-eqb j j refl))
+
+  controls_after_start : (j : ℕ) (x : Name) → In x (opening_names q job j) → (i : ℕ) → i < length job.controls → 0 < (control_at (outline_of q job) i).time
+  controls_after_start j x h i l =
+      let a = wake_named q job j x h in
+      let some : opening_wakes job.from j ≡ [] → ⊥ = λ e. nothing_in_nil a.0 (subst (λ (ws : List (ℕ × ℕ)). Contains ws a.0) (legal.table.waking j ∙ e) a.1) in
+      counted_after_start q job.from legal.saved j some (control_at (outline_of q job) i).time (control_counts i l).0
+
 module _ {Cell : Type 0} (q : QueryFacts Cell) (stages : HasStages q) (later : PostsAreLater q) (nothing : LaterStagesPostNothing q) (job : JobFacts) (legal : JobIsLegal q job) where
   post_after_name : (j : ℕ) (x : Name) (u : ℕ) → In x (record_names q job j) → is_posted (outline_of q job) x u ≡ true → time_of (outline_of q job) x < u
   post_after_name j x u h p =
@@ -136,7 +177,7 @@ module _ {Cell : Type 0} (q : QueryFacts Cell) (stages : HasStages q) (later : P
         some_stage = omega arith;
         some_bundle = omega arith;
         controls_fit = controls_in_shape q nothing job legal;
-        first_owners_fit = λ j b l m. mod-lt b legal.shape.some_worker;
+        first_owners_fit = λ j b l m. among_is_worker job.shape job.firsts legal.firsts.each j b (b % job.shape.workers) (mod-lt b legal.shape.some_worker);
         bins_fit = λ k. bin_is_inside k job.shape.bins legal.shape.bins;
         records_are = names_are q job;
         records_once = names_once q job;
@@ -147,4 +188,9 @@ module _ {Cell : Type 0} (q : QueryFacts Cell) (stages : HasStages q) (later : P
         rows_are = rows_are_rows q job;
         rows_once = rows_stand_once q job;
         rows_given = row_is_given q nothing job legal stages;
+        controls_stop = controls_end q job legal;
+        records_stop = names_end q job legal;
+        rows_stop = rows_end q job legal;
+        opening_are = wakes_are_groups q job legal;
+        opening_first = controls_after_start q job legal;
       }

@@ -7,7 +7,7 @@ use Rattle.mp_model.specs.declared.record.Output.{Output}
 use Rattle.mp_model.specs.declared.value.Value.{Value}
 use Rattle.mp_model.specs.Entry.{Entry}
 use Rattle.mp_model.specs.Facts.{QueryFacts}
-use Rattle.mp_model.specs.Folds.{keys_of, outputs_along, outputs_at, outputs_of, timeline}
+use Rattle.mp_model.specs.Folds.{keys_in, outputs_along, outputs_at, outputs_of, timeline}
 use Rattle.mp_model.specs.Stages.{answer_rows, stage_records}
 use Rattle.mp_model.proofs.Lists.{All-flat_map}
 use Rattle.mp_output.specs.Rows.{GivesRows, IsRow}
@@ -39,4 +39,5 @@ module _ {Cell : Type 0} (q : QueryFacts Cell) (gives : GivesRows q) where
   rows_alone events =
       let last = q.stages - 1 in
       let rs = stage_records q events last in
-      All-flat_map HoldsRow (outputs_of q last rs) (keys_of rs) (λ i d low. along_alone (q.fresh last) (timeline q last (slice_index_or (keys_of rs) i d) rs))
+      let keys = keys_in q last rs in
+      All-flat_map HoldsRow (outputs_of q last rs) keys (λ i d low. let k = slice_index_or keys i d in along_alone (q.opening last k) (timeline q last k rs))

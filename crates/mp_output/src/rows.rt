@@ -9,6 +9,7 @@ ghost use Rattle.mp_names.specs.Logs.{Log, empty_log, with_took};
 ghost use Rattle.mp_names.specs.Names.{IsLeast, has};
 ghost use Rattle.mp_stamps.specs.Seen.{seen_at};
 ghost use Rattle.mp_model.specs.declared.value.Value.TheVariants.{Row};
+ghost use Rattle.mp_model.specs.Tables.{table_of};
 ghost use Rattle.mp_outside.specs.Fault.{Rose};
 ghost use Rattle.mp_outside.specs.Sink.{OnlyAppends, grown};
 ghost use Rattle.mp_outline.specs.JobOutline.{outline_of};
@@ -52,12 +53,13 @@ impl<Q: Query, J: Naming> Model for Rows<Q, J> {
     ghost use Rattle.std.specs.Prelude.{All, Contains};
     ghost use Rattle.mp_model.specs.Stages.{answer_rows};
     ghost use Rattle.mp_output.specs.Unwritten.{Unwritten};
+    ghost use Rattle.mp_model.specs.Tables.{table_of};
 
     ghost Value = { Unwritten };
 
     ghost view = { λ r. record { rows = r.rows.items; room = r.rows.room } };
 
-    ghost invariant = { λ r. All (Contains (answer_rows (Q.facts J.job.rules) J.job.events)) r.rows.items };
+    ghost invariant = { λ r. All (Contains (answer_rows (table_of Q.facts J.job) J.job.events)) r.rows.items };
 }
 
 impl<Q: Query, J: Naming> Rows<Q, J> {
@@ -94,7 +96,7 @@ impl<Q: Query, J: Naming> Rows<Q, J> {
     /// Takes an answer row of the job to its place. `AllocError`: no memory, never where there is room, and nothing
     /// changes.
     pub fn receive(&mut self, time: Time, tag: Tag, fields: Fields) -> Result<(), AllocError>
-        requires { IsRowOf (Q.facts J.job.rules) J.job time tag fields }
+        requires { IsRowOf (table_of Q.facts J.job) J.job time tag fields }
         ensures received { OnOk result (self.new.rows
             ≡ put_in_order place_rank (record { time = time; tag = tag; value = Row fields }) self.old.rows) }
         ensures held { OnOk result ((log : Log) → HoldsUnwritten log self.old.rows
@@ -131,7 +133,7 @@ impl<Q: Query, J: Naming> Rows<Q, J> {
         ensures part { OnErr result ((t k : ℕ) × IsDue (seen_at seen.now OutMail) self.old.rows t
             × (k ≤ length (lines_of (rows_at t self.old.rows)))
             × (S.written sink.new ≡ grown (S.written sink.old) (take k (lines_of (rows_at t self.old.rows))))) }
-        ensures part_of_answer { OnErr result ((log : Log) (t : ℕ) → let q = Q.facts J.job.rules in
+        ensures part_of_answer { OnErr result ((log : Log) (t : ℕ) → let q = table_of Q.facts J.job in
             HoldsUnwritten log self.old.rows → IsDue (seen_at seen.now OutMail) self.old.rows t
             → IsLeast (IsUnwritten log) (Written t) × (IsClosedForOne (outline_of q J.job) 0 log OutMail t
             → lines_of (rows_at t self.old.rows) ≡ answer_at q J.job.events t)) }
@@ -143,7 +145,7 @@ impl<Q: Query, J: Naming> Rows<Q, J> {
             → WritesNext log t self.new.rows) }
         ensures none_passed { IfNothing result ((log : Log) (t : ℕ) → HoldsUnwritten log self.old.rows
             → IsLeast (IsUnwritten log) (Written t) → ¬ HasPassed (seen_at seen.now OutMail) t) }
-        ensures answer { IfTime result (λ t. (log : Log) → let q = Q.facts J.job.rules in
+        ensures answer { IfTime result (λ t. (log : Log) → let q = table_of Q.facts J.job in
             HoldsUnwritten log self.old.rows → IsClosedForOne (outline_of q J.job) 0 log OutMail t
             → lines_of (rows_at t self.old.rows) ≡ answer_at q J.job.events t) }
     {

@@ -1,6 +1,7 @@
 //! The rows that wait to be sent.
 ghost use Rattle.std.specs.Prelude.{◌≡◌, ◌≤◌, ◌<◌, ◌+◌, ◌∷◌, [], Contains, IfSome, IfNone, IsOk, OnErr, OnOk};
 ghost use Rattle.mp_model.specs.Stages.{answer_rows};
+ghost use Rattle.mp_model.specs.Tables.{table_of};
 ghost use Rattle.mp_ordered.specs.InOrder.{IsInOrder, put_in_order};
 ghost use Rattle.mp_output.specs.Unwritten.{place_rank};
 
@@ -22,12 +23,13 @@ impl<Q: Query, J: Naming> Model for Unsent<Q, J> {
     ghost use Rattle.std.specs.Prelude.{All, Contains};
     ghost use Rattle.mp_model.specs.Stages.{answer_rows};
     ghost use Rattle.mp_output.specs.Unwritten.{Unwritten};
+    ghost use Rattle.mp_model.specs.Tables.{table_of};
 
     ghost Value = { Unwritten };
 
     ghost view = { λ r. record { rows = r.rows.items; room = r.rows.room } };
 
-    ghost invariant = { λ r. All (Contains (answer_rows (Q.facts J.job.rules) J.job.events)) r.rows.items };
+    ghost invariant = { λ r. All (Contains (answer_rows (table_of Q.facts J.job) J.job.events)) r.rows.items };
 }
 
 impl<Q: Query, J: Naming> Unsent<Q, J> {
@@ -53,7 +55,7 @@ impl<Q: Query, J: Naming> Unsent<Q, J> {
     /// Holds an answer row of the job, at its place. `AllocError`: no memory, never where there is room. The row is then
     /// lost, and the other rows are as they were.
     pub fn hold(&mut self, row: Output) -> Result<(), AllocError>
-        requires { Contains (answer_rows (Q.facts J.job.rules) J.job.events) row }
+        requires { Contains (answer_rows (table_of Q.facts J.job) J.job.events) row }
         ensures put { OnOk result (self.new.rows ≡ put_in_order place_rank row self.old.rows) }
         ensures room { OnOk result (self.old.room ≤ self.new.room + 1) }
         ensures unchanged { OnErr result (self.new ≡ self.old) }
@@ -68,7 +70,7 @@ impl<Q: Query, J: Naming> Unsent<Q, J> {
         ensures some { IfSome result (λ x. self.old.rows ≡ x ∷ self.new.rows) }
         ensures back { IfSome result (λ x. put_in_order place_rank x self.new.rows ≡ self.old.rows) }
         ensures in_order { IfSome result (λ x. IsInOrder place_rank self.old.rows) }
-        ensures content { IfSome result (λ x. Contains (answer_rows (Q.facts J.job.rules) J.job.events) x) }
+        ensures content { IfSome result (λ x. Contains (answer_rows (table_of Q.facts J.job) J.job.events) x) }
         ensures room { IfSome result (λ x. self.new.room ≡ self.old.room + 1) }
         ensures none { IfNone result (self.old.rows ≡ []) }
         ensures unchanged { IfNone result (self.new ≡ self.old) }

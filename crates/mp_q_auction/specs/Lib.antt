@@ -4,4 +4,5 @@ pub mod Closed
 pub mod Laws
 pub mod Q4
 pub mod Q6
+pub mod SaleLaws
 pub mod Sales

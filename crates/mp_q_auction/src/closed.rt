@@ -4,38 +4,54 @@ ghost use Rattle.std.specs.Prelude.{◌≡◌, IfOk};
 ghost use Rattle.mp_q_auction.specs.Closed.{key_of, posts_of, row_of, sale_by};
 
 use crate::{Bidding, Sales};
-use mp_model::{Field, Fields, Group, PostList, Query, Rec, Time, Value};
+use mp_model::{Field, Fields, Group, PostList, Query, Rec, RuleList, Time, Value};
 use std::alloc::{AllocError, Global};
-use std::marker::PhantomData;
 
-/// The query that keeps `S` of the sales. It is public only as the type of `Q4` and `Q6`.
+/// The query that makes `S` of the sales. It is public only as the type of `Q4` and `Q6`.
 #[derive(Drop, Debug)]
 pub struct Closed<S> {
-    pub(crate) of: PhantomData<S>,
+    pub(crate) sales: S,
 }
 
-/// The cell of q4 and q6: in stage 0 the bidding of an auction, in stage 1 the sales to a category or to a seller. The
-/// other part stays as it was at first. It is public only as their `Cell`.
+/// The cell of q4 and q6: in stage 0 the bidding of an auction, in stage 1 what is kept of the sales to a category or to
+/// a seller. The other part stays as it was at first. It is public only as their `Cell`.
 #[derive(Drop, Debug)]
-pub struct AuctionCell<S> {
+pub struct AuctionCell<K> {
     bidding: Bidding,
-    sales: S,
+    sales: K,
 }
 
-impl<S: Sales + Send + Sync> Query for Closed<S> {
-    ghost use Rattle.std.specs.Prelude.{[], refl};
-    ghost use Rattle.mp_q_auction.specs.Closed.{closed_by};
-    ghost use Rattle.mp_q_auction.specs.Laws.{has_stages, posts_are_later, later_stages_post_nothing, outputs_have_keys, most_is_enough, fresh_stays_fresh};
+impl<S: Sales + Sync> Query for Closed<S>
+where
+    S::Kept: Send + Sync,
+{
+    ghost use Rattle.mp_q_auction.specs.Closed.{closed_by, text_of};
+    ghost use Rattle.mp_q_auction.specs.Laws.{begins_fresh, has_stages, posts_are_later, later_stages_post_nothing, most_is_enough, fresh_stays_fresh, texts_tell_cells};
 
-    type Cell = AuctionCell<S>;
+    type Cell = AuctionCell<S::Kept>;
 
-    const STAGES: u32 = 2;
+    ghost values = { λ q. S.values q.sales };
 
-    ghost STAGES = { 2 };
+    ghost rules = { λ q. S.rules q.sales };
 
-    ghost rules = { λ _. [] };
+    ghost facts = { λ vs. closed_by S.party (S.sales vs) };
 
-    ghost facts = { λ _. closed_by S.party S.sales };
+    ghost text_of = { λ j cell. text_of j cell };
+
+    fn stages(&self) -> u32 {
+        2
+    }
+
+    fn rules(&self) -> RuleList {
+        self.sales.rules()
+    }
+
+    fn with(self, given: &[u64]) -> Closed<S> {
+        let Closed { sales } = self;
+        Closed {
+            sales: sales.with(given),
+        }
+    }
 
     fn key(&self, stage: u32, _time: Time, value: &Value) -> Option<u64> {
         key(stage, value)
@@ -45,18 +61,18 @@ impl<S: Sales + Send + Sync> Query for Closed<S> {
         posts(stage, rec)
     }
 
-    fn fresh(&self, _alloc: Global, _stage: u32) -> AuctionCell<S> {
+    fn fresh(&self, alloc: Global, _stage: u32) -> AuctionCell<S::Kept> {
         AuctionCell {
             bidding: Bidding::new(),
-            sales: S::new(),
+            sales: self.sales.none(alloc),
         }
     }
 
-    fn is_fresh(&self, _stage: u32, cell: &AuctionCell<S>) -> bool {
-        cell.bidding.is_new() && cell.sales.is_new()
+    fn is_fresh(&self, _stage: u32, cell: &AuctionCell<S::Kept>) -> bool {
+        cell.bidding.is_new() && self.sales.is_none(&cell.sales)
     }
 
-    fn most(&self, _stage: u32, _cell: &AuctionCell<S>, _group: &Group) -> u64 {
+    fn most(&self, _stage: u32, _cell: &AuctionCell<S::Kept>, _group: &Group) -> u64 {
         1
     }
 
@@ -64,7 +80,7 @@ impl<S: Sales + Send + Sync> Query for Closed<S> {
         &self,
         alloc: Global,
         stage: u32,
-        cell: &mut AuctionCell<S>,
+        cell: &mut AuctionCell<S::Kept>,
         group: &Group,
     ) -> Result<Vec<Value>, AllocError> {
         if stage == 0 {
@@ -72,8 +88,8 @@ impl<S: Sales + Send + Sync> Query for Closed<S> {
             cell.bidding.apply(group);
             Ok(outputs)
         } else {
-            let sales = cell.sales.with(group.recs());
-            let outputs = row(alloc, group, sales.average())?
+            let sales = self.sales.after(alloc, &cell.sales, group.recs())?;
+            let outputs = row(alloc, group, self.sales.average(&sales))?
                 .into_iter()
                 .collect(alloc)?;
             cell.sales = sales;
@@ -81,21 +97,33 @@ impl<S: Sales + Send + Sync> Query for Closed<S> {
         }
     }
 
-    ghost stages_are = { λ rs. refl };
+    fn copy_cell(
+        &self,
+        alloc: Global,
+        _stage: u32,
+        cell: &AuctionCell<S::Kept>,
+    ) -> Result<AuctionCell<S::Kept>, AllocError> {
+        Ok(AuctionCell {
+            bidding: cell.bidding,
+            sales: self.sales.copy(alloc, &cell.sales)?,
+        })
+    }
 
-    ghost has_stages = { λ rs. has_stages S.party S.sales };
+    ghost has_stages = { λ vs. has_stages S.party (S.sales vs) };
 
-    ghost posts_are_later = { λ rs. posts_are_later S.party S.sales };
+    ghost posts_are_later = { λ vs. posts_are_later S.party (S.sales vs) };
 
-    ghost later_stages_post_nothing = { λ rs. later_stages_post_nothing S.party S.sales };
+    ghost later_stages_post_nothing = { λ vs. later_stages_post_nothing S.party (S.sales vs) };
 
-    ghost outputs_have_keys = { λ rs. outputs_have_keys S.party S.sales };
+    ghost most_is_enough = { λ vs. most_is_enough S.party (S.sales vs) };
 
-    ghost most_is_enough = { λ rs. most_is_enough S.party S.sales };
+    ghost fresh_stays_fresh = { λ vs. fresh_stays_fresh S.party (S.sales vs) (S.none_stay vs) };
 
-    ghost fresh_stays_fresh = { λ rs. fresh_stays_fresh S.party S.sales S.none_stay };
+    ghost begins_fresh = { λ vs. begins_fresh S.party (S.sales vs) };
 
-    ghost sums_fit = { λ rs. S.sums_fit };
+    ghost texts_tell_cells = { λ vs. texts_tell_cells S.party (S.sales vs) };
+
+    ghost sums_fit = { S.sums_fit };
 }
 
 /// The key of a value: in stage 0 the id of an auction and the auction of a bid, in stage 1 what a sale is of. Other

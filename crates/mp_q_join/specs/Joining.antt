@@ -73,3 +73,7 @@ home_of _ = None
 abbrev pub first_home : List Rec → Option Home
 first_home [] = None
 first_home (r ∷ rs) = if is_some (home_of r.value) then home_of r.value else first_home rs
+
+-- nothing is saved
+abbrev pub text_of : ℕ → PersonCell → List ℕ
+text_of j cell = []

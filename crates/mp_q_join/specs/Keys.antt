@@ -9,11 +9,11 @@ use Rattle.mp_model.specs.declared.value.Value.TheVariants.{Auction, Person}
 abbrev pub is_asked_for : List ℕ → Bool
 is_asked_for state = bytes_eq state (codes "OR") || bytes_eq state (codes "ID") || bytes_eq state (codes "CA")
 
--- the seller of an auction of category 10, and the id of a person of one of those states
-abbrev pub seller_asked_for : Value → Option ℕ
-seller_asked_for (Person id name city state) = if is_asked_for state then Some id else None
-seller_asked_for (Auction id seller category reserve expires) = if category == 10 then Some seller else None
-seller_asked_for _ = None
+-- the seller of an auction of the wanted category, and the id of a person of one of those states
+abbrev pub seller_asked_for : ℕ → Value → Option ℕ
+seller_asked_for wanted (Person id name city state) = if is_asked_for state then Some id else None
+seller_asked_for wanted (Auction id seller category reserve expires) = if category == wanted then Some seller else None
+seller_asked_for wanted _ = None
 
 -- the seller of an auction, and the id of a person
 abbrev pub seller_of : Value → Option ℕ
@@ -21,16 +21,16 @@ seller_of (Person id name city state) = Some id
 seller_of (Auction id seller category reserve expires) = Some seller
 seller_of _ = None
 
--- the end of the day of a time; a day has 43,200 units of time
-abbrev pub end_of_day : ℕ → ℕ
-end_of_day t = (t / 43200 + 1) * 43200
+-- the end of the day of a time, where a day has so many units of time
+abbrev pub end_of_day : ℕ → ℕ → ℕ
+end_of_day width t = (t / width + 1) * width
 
 -- the time that a value of a time posts: a person and an auction post the end of its day
-abbrev pub day_of_value : ℕ → Value → List ℕ
-day_of_value t (Person id name city state) = end_of_day t ∷ []
-day_of_value t (Auction id seller category reserve expires) = end_of_day t ∷ []
-day_of_value t _ = []
+abbrev pub day_of_value : ℕ → ℕ → Value → List ℕ
+day_of_value width t (Person id name city state) = end_of_day width t ∷ []
+day_of_value width t (Auction id seller category reserve expires) = end_of_day width t ∷ []
+day_of_value width t _ = []
 
 -- the time that a record posts; later stages post nothing
-abbrev pub posts_of : ℕ → Rec → List ℕ
-posts_of j r = if j == 0 then day_of_value r.time r.value else []
+abbrev pub posts_of : ℕ → ℕ → Rec → List ℕ
+posts_of width j r = if j == 0 then day_of_value width r.time r.value else []

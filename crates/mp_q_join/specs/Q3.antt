@@ -1,18 +1,36 @@
 -- What q3 is.
-use Rattle.std.specs.Prelude.{◌+◌, true, [], length}
+use Rattle.std.specs.Prelude.{ℕ, ◌+◌, true, false, List, [], ◌∷◌, codes, get_or, length}
+use Rattle.mp_names.specs.Limits.{greatest_id}
 use Rattle.mp_model.specs.Facts.{QueryFacts}
+use Rattle.mp_model.specs.Rules.{RuleFacts, settled}
 use Rattle.mp_q_join.specs.Joining.{PersonCell, after_records, fresh_cell, rows_along}
 use Rattle.mp_q_join.specs.Keys.{seller_asked_for}
 
--- the table of q3: a group has no more rows than it has records and auctions wait
-abbrev pub q3_facts : QueryFacts PersonCell
-q3_facts = record {
+-- its rule: the auctions of which category are asked for
+abbrev pub q3_rules : List RuleFacts
+q3_rules = record { name = codes "category"; least = 0; greatest = greatest_id; given = 10 } ∷ []
+
+-- the table with this category: a group has no more rows than it has records and auctions wait
+abbrev pub q3_with : ℕ → QueryFacts PersonCell
+q3_with wanted = record {
   stages = 1;
-  key = λ j t v. seller_asked_for v;
+  key = λ j t v. seller_asked_for wanted v;
   posts = λ j r. [];
   fresh = λ j. fresh_cell;
   step = λ j cell e. after_records cell e.recs;
   gives = λ j cell e. rows_along cell e.recs;
   most = λ j cell e. length e.recs + length cell.waiting;
   fits = λ j cell e. true;
+  allows = λ j k t cell. false;
+  cell_of = λ j text. fresh_cell;
+  opening = λ j k. fresh_cell;
+  waking = λ j. [];
 }
+
+-- the category among values, where they are allowed; else the given one
+abbrev pub category_in : List ℕ → ℕ
+category_in values = get_or (settled q3_rules values) 0 10
+
+-- the table with these values of the rule
+abbrev pub q3_facts : List ℕ → QueryFacts PersonCell
+q3_facts values = q3_with (category_in values)

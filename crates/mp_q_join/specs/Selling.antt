@@ -34,3 +34,7 @@ row_of key None sells = None
 -- a group has a row where it is woken
 abbrev pub row_in : Selling → Entry → Option Value
 row_in cell e = if e.woken then row_of e.key cell.name cell.sells else None
+
+-- nothing is saved
+abbrev pub text_of : ℕ → Selling → List ℕ
+text_of j cell = []

@@ -67,3 +67,15 @@ impl Home {
         Ok(Value::Row(fields))
     }
 }
+
+impl Clone for Home {
+    ghost is_clone = { λ home copy. copy ≡ home };
+
+    fn clone(&self) -> Result<Home, AllocError> {
+        Ok(Home {
+            name: self.name.clone()?,
+            city: self.city.clone()?,
+            state: self.state.clone()?,
+        })
+    }
+}

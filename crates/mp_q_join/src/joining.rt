@@ -41,6 +41,18 @@ impl Joining {
         self.home.is_none() && self.waiting.is_empty()
     }
 
+    /// The same person, and the same auctions. `AllocError`: no memory.
+    pub fn copy(&self, alloc: Global) -> Result<Joining, AllocError>
+        ensures { IfOk result (λ copy. copy ≡ self.now) }
+    {
+        let mut waiting = Vec::new(alloc);
+        waiting.extend_from_slice(self.waiting.as_slice())?;
+        Ok(Joining {
+            home: self.home.clone()?,
+            waiting,
+        })
+    }
+
     /// How many rows these records have at most: as many as there are of them, and auctions wait.
     pub fn most_rows(&self, recs: &[Rec]) -> u64
         ensures { result ≡ length recs.now + length self.now.waiting }

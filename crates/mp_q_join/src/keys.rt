@@ -5,9 +5,6 @@ ghost use Rattle.mp_q_join.specs.Keys.{end_of_day, is_asked_for, posts_of, selle
 
 use mp_model::{PostList, Rec, Text, Time, Value};
 
-/// q3 asks for the auctions of this category, by this project's profile.
-const CATEGORY: u64 = 10;
-
 /// The first of the states whose persons q3 asks for, by this project's profile.
 const OREGON: &[u8] = b"OR";
 
@@ -17,13 +14,10 @@ const IDAHO: &[u8] = b"ID";
 /// The third of those states.
 const CALIFORNIA: &[u8] = b"CA";
 
-/// How many units of time a day of q8 has, by this project's profile.
-const DAY: u64 = 43_200;
-
-/// The key of q3: the seller of an auction of category 10, and the id of a person of the state OR, ID or CA. Other
+/// The key of q3: the seller of an auction of this category, and the id of a person of the state OR, ID or CA. Other
 /// values make no record.
-pub fn seller_asked_for(value: &Value) -> Option<u64>
-    ensures { result ≡ seller_asked_for value.now }
+pub fn seller_asked_for(wanted: u64, value: &Value) -> Option<u64>
+    ensures { result ≡ seller_asked_for wanted value.now }
 {
     match value {
         Value::Person { id, state, .. } if is_asked_for(state) => Some(*id),
@@ -31,7 +25,7 @@ pub fn seller_asked_for(value: &Value) -> Option<u64>
             seller,
             category,
             ..
-        } if *category == CATEGORY => Some(*seller),
+        } if *category == wanted => Some(*seller),
         _ => None,
     }
 }
@@ -55,22 +49,27 @@ pub fn seller_of(value: &Value) -> Option<u64>
     }
 }
 
-/// The posts of q8: a person and an auction post the end of the day of their time. The time is at most 2^47 + 43,200.
-pub fn posts_of(stage: u32, rec: &Rec) -> PostList
-    requires { rec.now.time ≤ last_time }
-    ensures { result ≡ posts_of stage rec.now }
+/// The posts of q8: a person and an auction post the end of the day of their time. A day has 1 to 43,200 units of time, and
+/// the time is at most 2^47 + 43,200.
+pub fn posts_of(width: u64, stage: u32, rec: &Rec) -> PostList
+    requires some_width { 1 ≤ width }
+    requires short { width ≤ 43200 }
+    requires in_time { rec.now.time ≤ last_time }
+    ensures { result ≡ posts_of width stage rec.now }
 {
     let mut posts = PostList::new();
     if stage == 0 && matches!(&rec.value, Value::Person { .. } | Value::Auction { .. }) {
-        posts.push(end_of_day(rec.time));
+        posts.push(end_of_day(width, rec.time));
     }
     posts
 }
 
-/// The end of the day of a time, which is at most 2^47 + 43,200.
-fn end_of_day(time: Time) -> Time
-    requires { time ≤ last_time }
-    ensures { result ≡ end_of_day time }
+/// The end of the day of a time, which is at most 2^47 + 43,200. A day has 1 to 43,200 units of time.
+fn end_of_day(width: u64, time: Time) -> Time
+    requires some_width { 1 ≤ width }
+    requires short { width ≤ 43200 }
+    requires in_time { time ≤ last_time }
+    ensures { result ≡ end_of_day width time }
 {
-    (time / DAY + 1) * DAY
+    (time / width + 1) * width
 }

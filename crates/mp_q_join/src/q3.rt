@@ -1,30 +1,68 @@
-//! The query q3: the auctions of category 10 of the sellers of three states.
+//! The query q3: the auctions of category 10, or of another one, of the sellers of three states.
+ghost use Rattle.std.specs.Prelude.{◌≡◌, ◌≤◌};
+ghost use Rattle.mp_names.specs.Limits.{greatest_id};
+ghost use Rattle.mp_model.specs.Rules.{given_values};
+ghost use Rattle.mp_q_join.specs.Q3.{q3_rules};
+
 use crate::{Joining, keys};
-use mp_model::{Group, PostList, Query, Rec, Time, Value};
+use mp_model::{Group, PostList, Query, Rec, Rule, RuleList, Time, Value};
 use std::alloc::{AllocError, Global};
 
-/// The query q3: the auctions of category 10 of the sellers of three states. The subject is NEXMark's, the table this
+/// The query q3: the auctions of a category of the sellers of three states. The subject is NEXMark's, the table this
 /// project's profile.
 #[derive(Drop, Debug)]
-pub struct Q3 {}
+pub struct Q3 {
+    category: u64,
+    ghost within: { category ≤ greatest_id },
+}
+
+// The auctions of which category.
+const CATEGORY: Rule = Rule {
+    name: "category",
+    least: 0,
+    greatest: 1 << 48,
+    given: 10,
+};
+
+impl Q3 {
+    /// The query q3 of the given category, 10.
+    pub fn given() -> Q3
+        ensures { ⟦<Q3 as Query>⟧.values result ≡ given_values q3_rules }
+    {
+        Q3 { category: 10 }
+    }
+}
 
 impl Query for Q3 {
-    ghost use Rattle.std.specs.Prelude.{[], refl};
-    ghost use Rattle.mp_q_join.specs.Q3.{q3_facts};
-    ghost use Rattle.mp_q_join.specs.Laws.{q3_has_stages, q3_posts_are_later, q3_later_stages_post_nothing, q3_outputs_have_keys, q3_most_is_enough, q3_fresh_stays_fresh, q3_sums_fit};
+    ghost use Rattle.std.specs.Prelude.{[], ◌∷◌};
+    ghost use Rattle.mp_q_join.specs.Joining.{text_of};
+    ghost use Rattle.mp_q_join.specs.Q3.{category_in, q3_facts, q3_rules};
+    ghost use Rattle.mp_q_join.specs.Laws.{q3_has_stages, q3_posts_are_later, q3_later_stages_post_nothing, q3_most_is_enough, q3_fresh_stays_fresh, q3_begins_fresh, q3_texts_tell_cells, q3_sums_fit};
 
     type Cell = Joining;
 
-    const STAGES: u32 = 1;
+    ghost values = { λ q. q.category ∷ [] };
 
-    ghost STAGES = { 1 };
+    ghost rules = { λ _. q3_rules };
 
-    ghost rules = { λ _. [] };
+    ghost facts = { λ vs. q3_facts vs };
 
-    ghost facts = { λ _. q3_facts };
+    ghost text_of = { text_of };
+
+    fn stages(&self) -> u32 {
+        1
+    }
+
+    fn rules(&self) -> RuleList {
+        RuleList::one(CATEGORY)
+    }
+
+    fn with(self, given: &[u64]) -> Q3 {
+        Q3 { category: given[0] }
+    }
 
     fn key(&self, _stage: u32, _time: Time, value: &Value) -> Option<u64> {
-        keys::seller_asked_for(value)
+        keys::seller_asked_for(self.category, value)
     }
 
     fn posts(&self, _stage: u32, _rec: &Rec) -> PostList {
@@ -53,19 +91,23 @@ impl Query for Q3 {
         cell.apply(alloc, group.recs())
     }
 
-    ghost stages_are = { λ rs. refl };
+    fn copy_cell(&self, alloc: Global, _stage: u32, cell: &Joining) -> Result<Joining, AllocError> {
+        cell.copy(alloc)
+    }
 
-    ghost has_stages = { λ rs. q3_has_stages };
+    ghost has_stages = { λ vs. q3_has_stages (category_in vs) };
 
-    ghost posts_are_later = { λ rs. q3_posts_are_later };
+    ghost posts_are_later = { λ vs. q3_posts_are_later (category_in vs) };
 
-    ghost later_stages_post_nothing = { λ rs. q3_later_stages_post_nothing };
+    ghost later_stages_post_nothing = { λ vs. q3_later_stages_post_nothing (category_in vs) };
 
-    ghost outputs_have_keys = { λ rs. q3_outputs_have_keys };
+    ghost most_is_enough = { λ vs. q3_most_is_enough (category_in vs) };
 
-    ghost most_is_enough = { λ rs. q3_most_is_enough };
+    ghost fresh_stays_fresh = { λ vs. q3_fresh_stays_fresh (category_in vs) };
 
-    ghost fresh_stays_fresh = { λ rs. q3_fresh_stays_fresh };
+    ghost begins_fresh = { λ vs. q3_begins_fresh (category_in vs) };
 
-    ghost sums_fit = { λ rs. q3_sums_fit };
+    ghost texts_tell_cells = { λ vs. q3_texts_tell_cells (category_in vs) };
+
+    ghost sums_fit = { q3_sums_fit };
 }

@@ -1,34 +1,72 @@
 //! The query q8: the persons who sell on the day on which they came.
+ghost use Rattle.std.specs.Prelude.{◌≡◌, ◌≤◌};
+ghost use Rattle.mp_model.specs.Rules.{given_values};
+ghost use Rattle.mp_q_join.specs.Q8.{q8_rules};
+
 use crate::{Selling, keys};
-use mp_model::{Group, PostList, Query, Rec, Time, Value};
+use mp_model::{Group, PostList, Query, Rec, Rule, RuleList, Time, Value};
 use std::alloc::{AllocError, Global};
 
-/// The query q8: the persons who sell on the day on which they came. The subject is NEXMark's, the table this
-/// project's profile.
+/// The query q8: the persons who sell on the day on which they came. The subject is NEXMark's, the table and the length of a
+/// day this project's profile.
 #[derive(Drop, Debug)]
-pub struct Q8 {}
+pub struct Q8 {
+    width: u64,
+    ghost some_width: { 1 ≤ width },
+    ghost short: { width ≤ 43200 },
+}
+
+// How many units of time a day has.
+const WIDTH: Rule = Rule {
+    name: "width",
+    least: 1,
+    greatest: 43_200,
+    given: 43_200,
+};
+
+impl Q8 {
+    /// The query q8 of the given day, 43,200 units of time.
+    pub fn given() -> Q8
+        ensures { ⟦<Q8 as Query>⟧.values result ≡ given_values q8_rules }
+    {
+        Q8 { width: 43_200 }
+    }
+}
 
 impl Query for Q8 {
-    ghost use Rattle.std.specs.Prelude.{[], refl};
-    ghost use Rattle.mp_q_join.specs.Q8.{q8_facts};
-    ghost use Rattle.mp_q_join.specs.Laws.{q8_has_stages, q8_posts_are_later, q8_later_stages_post_nothing, q8_outputs_have_keys, q8_most_is_enough, q8_fresh_stays_fresh, q8_sums_fit};
+    ghost use Rattle.std.specs.Prelude.{[], ◌∷◌};
+    ghost use Rattle.mp_q_join.specs.Selling.{text_of};
+    ghost use Rattle.mp_q_join.specs.Q8.{q8_facts, q8_rules, width_in};
+    ghost use Rattle.mp_q_join.specs.Laws.{q8_has_stages, q8_posts_are_later, q8_later_stages_post_nothing, q8_most_is_enough, q8_fresh_stays_fresh, q8_begins_fresh, q8_texts_tell_cells, q8_sums_fit};
 
     type Cell = Selling;
 
-    const STAGES: u32 = 1;
+    ghost values = { λ q. q.width ∷ [] };
 
-    ghost STAGES = { 1 };
+    ghost rules = { λ _. q8_rules };
 
-    ghost rules = { λ _. [] };
+    ghost facts = { λ vs. q8_facts vs };
 
-    ghost facts = { λ _. q8_facts };
+    ghost text_of = { text_of };
+
+    fn stages(&self) -> u32 {
+        1
+    }
+
+    fn rules(&self) -> RuleList {
+        RuleList::one(WIDTH)
+    }
+
+    fn with(self, given: &[u64]) -> Q8 {
+        Q8 { width: given[0] }
+    }
 
     fn key(&self, _stage: u32, _time: Time, value: &Value) -> Option<u64> {
         keys::seller_of(value)
     }
 
     fn posts(&self, stage: u32, rec: &Rec) -> PostList {
-        keys::posts_of(stage, rec)
+        keys::posts_of(self.width, stage, rec)
     }
 
     fn fresh(&self, _alloc: Global, _stage: u32) -> Selling {
@@ -55,19 +93,28 @@ impl Query for Q8 {
         Ok(rows)
     }
 
-    ghost stages_are = { λ rs. refl };
+    fn copy_cell(
+        &self,
+        _alloc: Global,
+        _stage: u32,
+        cell: &Selling,
+    ) -> Result<Selling, AllocError> {
+        cell.copy()
+    }
 
-    ghost has_stages = { λ rs. q8_has_stages };
+    ghost has_stages = { λ vs. q8_has_stages (width_in vs) };
 
-    ghost posts_are_later = { λ rs. q8_posts_are_later };
+    ghost posts_are_later = { λ vs. q8_posts_are_later vs };
 
-    ghost later_stages_post_nothing = { λ rs. q8_later_stages_post_nothing };
+    ghost later_stages_post_nothing = { λ vs. q8_later_stages_post_nothing (width_in vs) };
 
-    ghost outputs_have_keys = { λ rs. q8_outputs_have_keys };
+    ghost most_is_enough = { λ vs. q8_most_is_enough (width_in vs) };
 
-    ghost most_is_enough = { λ rs. q8_most_is_enough };
+    ghost fresh_stays_fresh = { λ vs. q8_fresh_stays_fresh (width_in vs) };
 
-    ghost fresh_stays_fresh = { λ rs. q8_fresh_stays_fresh };
+    ghost begins_fresh = { λ vs. q8_begins_fresh (width_in vs) };
 
-    ghost sums_fit = { λ rs. q8_sums_fit };
+    ghost texts_tell_cells = { λ vs. q8_texts_tell_cells (width_in vs) };
+
+    ghost sums_fit = { q8_sums_fit };
 }

@@ -31,6 +31,16 @@ impl Selling {
         self.name.is_none() && !self.sells
     }
 
+    /// The same name, and whether it sells. `AllocError`: no memory.
+    pub fn copy(&self) -> Result<Selling, AllocError>
+        ensures { IfOk result (λ copy. copy ≡ self.now) }
+    {
+        Ok(Selling {
+            name: self.name.clone()?,
+            sells: self.sells,
+        })
+    }
+
     /// The row of a group: where it is woken and a person sells, the key and the name. `AllocError`: no memory.
     pub fn rows_in(&self, alloc: Global, group: &Group) -> Result<Vec<Value>, AllocError>
         ensures { IfOk result (λ v. v.items ≡ option_to_list (row_in self.now group.now)) }
@@ -75,10 +85,7 @@ impl Selling {
         if woken {
             return Ok(Selling::new());
         }
-        Ok(Selling {
-            name: self.name.clone()?,
-            sells: self.sells,
-        })
+        self.copy()
     }
 
     /// Takes a value: the name of the first person is kept, and an auction says that it sells. An allocation failure leaves

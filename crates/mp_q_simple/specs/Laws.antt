@@ -1,37 +1,72 @@
 -- The table that q1 and q2 have in common keeps the laws of a query, whatever row a bid has.
-use Rattle.std.specs.Prelude.{Option, refl}
+use Rattle.std.specs.Prelude.{ℕ, zero, suc, ◌≡◌, true, List, [], ◌∷◌, All, refl}
 use Rattle.std.proofs.Common.{ap, arith}
+use Rattle.std.proofs.lemmas.Bool.{and_from}
+use Rattle.std.proofs.lemmas.List.Elements.{All-head, All-tail}
 use Rattle.mp_model.specs.declared.record.Rec.{Rec}
 use Rattle.mp_model.specs.declared.value.Value.{Value}
-use Rattle.mp_model.specs.QueryLaws.{HasStages, PostsAreLater, LaterStagesPostNothing, OutputsHaveKeys, MostIsEnough, FreshStaysFresh, SumsFit}
-use Rattle.mp_model.specs.Always.{always_fits}
+use Rattle.mp_model.specs.Entry.{Entry}
+use Rattle.mp_model.specs.Facts.{JobFacts}
+use Rattle.mp_model.specs.Folds.{FitsAlong, timeline}
+use Rattle.mp_model.specs.Legal.{IsLegalAt}
+use Rattle.mp_model.specs.QueryLaws.{BeginsFresh, HasStages, PostsAreLater, LaterStagesPostNothing, MostIsEnough, FreshStaysFresh, RecordIsLegal, SumsFit, TextsTellCells}
+use Rattle.mp_model.specs.Stages.{input_records}
+use Rattle.mp_model.specs.Tables.{table_of}
+use Rattle.mp_model.proofs.GroupRecords.{group_records}
+use Rattle.mp_model.proofs.LegalRecords.{input_records_legal}
 use Rattle.mp_model.proofs.Tables.{length-filter_map}
-use Rattle.mp_q_simple.specs.Bids.{bids_by, rows_of}
+use Rattle.mp_q_simple.specs.declared.bids.Nothing.{Nothing}
+use Rattle.mp_q_simple.specs.Bids.{RowFacts, all_fit, bids_by, rows_of, text_of}
 
--- there is one stage
-pub has_stages : (row : Value → Option Value) → HasStages (bids_by row)
-has_stages row = (omega arith, omega arith)
+-- the numbers of the row of a value that a file can say fit
+abbrev pub LegalRowsFit : RowFacts → Type 0
+LegalRowsFit rows = (t : ℕ) (v : Value) → IsLegalAt t v → rows.fits v ≡ true
 
--- there are no posts
-pub posts_are_later : (row : Value → Option Value) → PostsAreLater (bids_by row)
-posts_are_later row r legal = tt
+module _ (rows : RowFacts) where
+  -- there is one stage
+  pub has_stages : HasStages (bids_by rows)
+  has_stages = (omega arith, omega arith)
 
--- nor in a later stage
-pub later_stages_post_nothing : (row : Value → Option Value) → LaterStagesPostNothing (bids_by row)
-later_stages_post_nothing row j r = refl
+  -- there are no posts
+  pub posts_are_later : PostsAreLater (bids_by rows)
+  posts_are_later r legal = tt
 
--- there is no next stage
-pub outputs_have_keys : (row : Value → Option Value) → OutputsHaveKeys (bids_by row)
-outputs_have_keys row j cell e later = absurd (omega arith)
+  -- nor in a later stage
+  pub later_stages_post_nothing : LaterStagesPostNothing (bids_by rows)
+  later_stages_post_nothing j r = refl
 
--- a record gives one row at most
-pub most_is_enough : (row : Value → Option Value) → MostIsEnough (bids_by row)
-most_is_enough row j cell e = length-filter_map (λ (r : Rec). row r.value) e.recs
+  -- a record gives one row at most
+  pub most_is_enough : MostIsEnough (bids_by rows)
+  most_is_enough j cell e = length-filter_map (λ (r : Rec). rows.row r.value) e.recs
 
--- without records there are no rows
-pub fresh_stays_fresh : (row : Value → Option Value) → FreshStaysFresh (bids_by row)
-fresh_stays_fresh row j e none = (refl, ap (rows_of row) none)
+  -- without records there are no rows
+  pub fresh_stays_fresh : FreshStaysFresh (bids_by rows)
+  fresh_stays_fresh j e none = (refl, ap (rows_of rows.row) none)
 
--- nothing is summed or counted
-pub sums_fit : (row : Value → Option Value) → SumsFit (bids_by row)
-sums_fit row = always_fits (bids_by row) (λ j cell e. refl)
+  -- each key begins with nothing
+  pub begins_fresh : BeginsFresh (bids_by rows)
+  begins_fresh = (refl, refl)
+
+  -- no cell may be saved
+  pub texts_tell_cells : TextsTellCells text_of (bids_by rows)
+  texts_tell_cells j k t cell allowed = refl
+
+  recs_fit : LegalRowsFit rows → (rs : List Rec) → All RecordIsLegal rs → all_fit rows.fits rs ≡ true
+  recs_fit legal_fit [] h = refl
+  recs_fit legal_fit (r ∷ rs) h =
+      and_from (rows.fits r.value) (all_fit rows.fits rs) (legal_fit r.time r.value (All-head RecordIsLegal r rs h).legal) (recs_fit legal_fit rs (All-tail RecordIsLegal r rs h))
+
+module _ (rows : List ℕ → RowFacts) (legal_fit : (vs : List ℕ) → LegalRowsFit (rows vs)) where
+  along : (job : JobFacts) (j : ℕ) (cell : Nothing) (es : List Entry) → All (λ e. All RecordIsLegal e.recs) es → FitsAlong (table_of (λ vs. bids_by (rows vs)) job) j cell es
+  along job j cell [] h = tt
+  along job j cell (e ∷ es) h =
+      let P = λ (e : Entry). All RecordIsLegal e.recs in
+      (recs_fit (rows job.values) (legal_fit job.values) e.recs (All-head P e es h), along job j cell es (All-tail P e es h))
+
+  -- the rows of what a file can say fit
+  pub sums_fit : SumsFit (λ vs. bids_by (rows vs))
+  sums_fit job legal saved zero k below =
+      let q = table_of (λ vs. bids_by (rows vs)) job in
+      let rs = input_records q job.events in
+      along job 0 (q.opening 0 k) (timeline q 0 k rs) (group_records q 0 RecordIsLegal k rs (input_records_legal q job.events legal))
+  sums_fit job legal saved (suc j) k below = absurd (omega arith)

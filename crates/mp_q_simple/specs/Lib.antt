@@ -3,3 +3,4 @@ pub mod Bids
 pub mod Laws
 pub mod Q1
 pub mod Q2
+pub mod Settled

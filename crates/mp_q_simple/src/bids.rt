@@ -1,19 +1,42 @@
 //! A query that keeps nothing of a key, and gives at most one row for each bid.
-ghost use Rattle.std.specs.Prelude.{◌≡◌, IfOk, Option};
+ghost use Rattle.std.specs.Prelude.{◌≡◌, ℕ, IfOk, List, Option, true};
 ghost use Rattle.mp_model.specs.declared.value.Value.{Value};
-ghost use Rattle.mp_q_simple.specs.Bids.{key_of, rows_of};
+ghost use Rattle.mp_model.specs.Rules.{RuleFacts, are_within, given_values, numbers_with};
+ghost use Rattle.mp_q_simple.specs.Bids.{RowFacts, all_fit, key_of, rows_of};
+ghost use Rattle.mp_q_simple.specs.Laws.{LegalRowsFit};
 
-use mp_model::{Group, PostList, Query, Rec, Time, Value};
+use mp_model::{Group, PostList, Query, Rec, RuleList, Time, Value};
 use std::alloc::{AllocError, Global};
 
 /// A rule that says which row a bid has.
 pub trait RowOf: Drop {
-    /// The row of a value.
-    ghost row_by: { Value → Option Value };
+    /// The values of its constants.
+    ghost values: { Self → List ℕ };
 
-    /// The row of a bid, if it has one. Other values have none. `AllocError`: no memory.
+    /// What a configuration may say of them.
+    ghost rules: { Self → List RuleFacts };
+
+    /// The rows with these values.
+    ghost rows: { List ℕ → RowFacts };
+
+    /// The row of a bid, if it has one. Other values have none. Its numbers fit. `AllocError`: no memory.
     fn row_of(&self, alloc: Global, value: &Value) -> Result<Option<Value>, AllocError>
-        ensures { IfOk result (λ row. row ≡ row_by value.now) };
+        requires { (rows (values self.now)).fits value.now ≡ true }
+        ensures { IfOk result (λ row. row ≡ (rows (values self.now)).row value.now) };
+
+    /// The constants that a configuration may set.
+    fn rules(&self) -> RuleList
+        ensures rules { result ≡ rules self.now }
+        ensures given { are_within (rules self.now) (given_values (rules self.now)) ≡ true };
+
+    /// The rule with these values of its constants.
+    fn with(self, given: &[u64]) -> Self
+        requires { are_within (rules self) given.now ≡ true }
+        ensures values { values result ≡ numbers_with (rules self) (values self) given.now }
+        ensures rules { rules result ≡ rules self };
+
+    /// The numbers of the row of a value that a file can say fit.
+    ghost legal_rows_fit: { (vs : List ℕ) → LegalRowsFit (rows vs) };
 }
 
 /// The query that gives the rows of bids, by this rule. It is public only as the type of `Q1` and `Q2`.
@@ -29,18 +52,33 @@ pub struct Nothing {}
 
 impl<R: RowOf + Sync> Query for Bids<R> {
     ghost use Rattle.std.specs.Prelude.{[], refl};
-    ghost use Rattle.mp_q_simple.specs.Bids.{bids_by};
-    ghost use Rattle.mp_q_simple.specs.Laws.{has_stages, posts_are_later, later_stages_post_nothing, outputs_have_keys, most_is_enough, fresh_stays_fresh, sums_fit};
+    ghost use Rattle.mp_q_simple.specs.Bids.{bids_by, text_of};
+    ghost use Rattle.mp_q_simple.specs.Laws.{begins_fresh, has_stages, posts_are_later, later_stages_post_nothing, most_is_enough, fresh_stays_fresh, sums_fit, texts_tell_cells};
 
     type Cell = Nothing;
 
-    const STAGES: u32 = 1;
+    ghost values = { λ q. R.values q.rule };
 
-    ghost STAGES = { 1 };
+    ghost rules = { λ q. R.rules q.rule };
 
-    ghost rules = { λ _. [] };
+    ghost facts = { λ vs. bids_by (R.rows vs) };
 
-    ghost facts = { λ _. bids_by R.row_by };
+    ghost text_of = { text_of };
+
+    fn stages(&self) -> u32 {
+        1
+    }
+
+    fn rules(&self) -> RuleList {
+        self.rule.rules()
+    }
+
+    fn with(self, given: &[u64]) -> Bids<R> {
+        let Bids { rule } = self;
+        Bids {
+            rule: rule.with(given),
+        }
+    }
 
     fn key(&self, _stage: u32, _time: Time, value: &Value) -> Option<u64> {
         auction_of(value)
@@ -72,21 +110,30 @@ impl<R: RowOf + Sync> Query for Bids<R> {
         rows_of(&self.rule, alloc, group.recs())
     }
 
-    ghost stages_are = { λ rs. refl };
+    fn copy_cell(
+        &self,
+        _alloc: Global,
+        _stage: u32,
+        _cell: &Nothing,
+    ) -> Result<Nothing, AllocError> {
+        Ok(Nothing {})
+    }
 
-    ghost has_stages = { λ rs. has_stages R.row_by };
+    ghost has_stages = { λ vs. has_stages (R.rows vs) };
 
-    ghost posts_are_later = { λ rs. posts_are_later R.row_by };
+    ghost posts_are_later = { λ vs. posts_are_later (R.rows vs) };
 
-    ghost later_stages_post_nothing = { λ rs. later_stages_post_nothing R.row_by };
+    ghost later_stages_post_nothing = { λ vs. later_stages_post_nothing (R.rows vs) };
 
-    ghost outputs_have_keys = { λ rs. outputs_have_keys R.row_by };
+    ghost most_is_enough = { λ vs. most_is_enough (R.rows vs) };
 
-    ghost most_is_enough = { λ rs. most_is_enough R.row_by };
+    ghost fresh_stays_fresh = { λ vs. fresh_stays_fresh (R.rows vs) };
 
-    ghost fresh_stays_fresh = { λ rs. fresh_stays_fresh R.row_by };
+    ghost begins_fresh = { λ vs. begins_fresh (R.rows vs) };
 
-    ghost sums_fit = { λ rs. sums_fit R.row_by };
+    ghost texts_tell_cells = { λ vs. texts_tell_cells (R.rows vs) };
+
+    ghost sums_fit = { sums_fit R.rows R.legal_rows_fit };
 }
 
 /// The auction of a bid. Other values make no record.
@@ -99,9 +146,10 @@ fn auction_of(value: &Value) -> Option<u64>
     }
 }
 
-/// The rows of these records, in order.
+/// The rows of these records, in order. Their numbers fit.
 fn rows_of<R: RowOf>(rule: &R, alloc: Global, recs: &[Rec]) -> Result<Vec<Value>, AllocError>
-    ensures { IfOk result (λ v. v.items ≡ rows_of R.row_by recs.now) }
+    requires { all_fit (R.rows (R.values rule.now)).fits recs.now ≡ true }
+    ensures { IfOk result (λ v. v.items ≡ rows_of (R.rows (R.values rule.now)).row recs.now) }
 {
     let mut rows = Vec::new(alloc);
     for rec in recs {

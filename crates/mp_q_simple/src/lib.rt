@@ -1,7 +1,7 @@
 //! Layer: the queries, and the answer on one thread.
 //!
-//! The queries that keep nothing of a key: q1, each bid with its price in euros, and q2, the bids on every 123rd
-//! auction.
+//! The queries that keep nothing of a key: q1, each bid with its price in euros, and q2, the bids on the
+//! multiples of a number.
 #![tactic(auto)]
 
 mod bids;
@@ -10,4 +10,4 @@ mod q2;
 
 pub use bids::{Bids, Nothing, RowOf};
 pub use q1::{InEuros, Q1};
-pub use q2::{OnEvery123rd, Q2};
+pub use q2::{OnMultiples, Q2};

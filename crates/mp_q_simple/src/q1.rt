@@ -1,29 +1,63 @@
 //! The query q1: each bid with its price in euros.
+ghost use Rattle.std.specs.Prelude.{◌≡◌, ◌≤◌};
+ghost use Rattle.mp_model.specs.Rules.{given_values};
+ghost use Rattle.mp_q_simple.specs.Q1.{q1_rules};
+
 use crate::{Bids, RowOf};
-use mp_model::{Field, Fields, Value};
+use mp_model::{Field, Fields, Query, Rule, RuleList, Value};
 use std::alloc::{AllocError, Global};
 
-/// So many euros are 100 dollars, by this project's profile.
-const EUROS: u128 = 89;
-
-/// So many dollars are 89 euros.
-const DOLLARS: u128 = 100;
-
-/// The query q1: each bid with its price in euros, rounded down. The subject is NEXMark's, the rate this project's
+/// The type of the query q1: each bid with its price in euros, rounded down. The subject is NEXMark's, the rate this project's
 /// profile.
-pub const Q1: Q1 = Bids { rule: InEuros {} };
-
-/// The type of the query q1.
 pub type Q1 = Bids<InEuros>;
 
-/// The rows of q1. It is public only as a part of `Q1`.
+/// The rows of q1: so many euros are so many dollars. It is public only as a part of `Q1`.
 #[derive(Drop, Debug)]
-pub struct InEuros {}
+pub struct InEuros {
+    num: u64,
+    den: u64,
+    ghost few_euros: { num ≤ 1000 },
+    ghost some_dollars: { 1 ≤ den },
+    ghost few_dollars: { den ≤ 1000 },
+}
+
+// How many euros.
+const NUM: Rule = Rule {
+    name: "num",
+    least: 0,
+    greatest: 1000,
+    given: 89,
+};
+
+// How many dollars.
+const DEN: Rule = Rule {
+    name: "den",
+    least: 1,
+    greatest: 1000,
+    given: 100,
+};
+
+impl Bids<InEuros> {
+    /// The query q1 at the given rate: 89 euros are 100 dollars.
+    pub fn given() -> Bids<InEuros>
+        ensures { ⟦<Bids<InEuros> as Query>⟧.values result ≡ given_values q1_rules }
+    {
+        Bids {
+            rule: InEuros { num: 89, den: 100 },
+        }
+    }
+}
 
 impl RowOf for InEuros {
-    ghost use Rattle.mp_q_simple.specs.Q1.{row};
+    ghost use Rattle.std.specs.Prelude.{[], ◌∷◌};
+    ghost use Rattle.mp_q_simple.specs.Q1.{q1_rules, rows_with};
+    ghost use Rattle.mp_q_simple.specs.Settled.{legal_rows_fit};
 
-    ghost row_by = { row };
+    ghost values = { λ r. r.num ∷ r.den ∷ [] };
+
+    ghost rules = { λ _. q1_rules };
+
+    ghost rows = { λ vs. rows_with vs };
 
     fn row_of(&self, alloc: Global, value: &Value) -> Result<Option<Value>, AllocError> {
         match value {
@@ -32,7 +66,7 @@ impl RowOf for InEuros {
                 bidder,
                 price,
             } => {
-                let euros = (*price as u128 * EUROS / DOLLARS) as u64;
+                let euros = (*price as u128 * self.num as u128 / self.den as u128) as u64;
                 let fields = [
                     Field::Number(*auction),
                     Field::Number(*bidder),
@@ -43,4 +77,17 @@ impl RowOf for InEuros {
             _ => Ok(None),
         }
     }
+
+    fn rules(&self) -> RuleList {
+        RuleList::two(NUM, DEN)
+    }
+
+    fn with(self, given: &[u64]) -> InEuros {
+        InEuros {
+            num: given[0],
+            den: given[1],
+        }
+    }
+
+    ghost legal_rows_fit = { λ vs. legal_rows_fit vs };
 }

@@ -1,5 +1,5 @@
 -- What is made of the bids of a window.
-use Rattle.std.specs.Prelude.{Option, Some, None, [], ◌∷◌, fold, if◌then◌else◌, nat_lt}
+use Rattle.std.specs.Prelude.{ℕ, Option, Some, None, List, [], ◌∷◌, fold, if◌then◌else◌, nat_lt}
 use Rattle.std.specs.Option.{option_map}
 use Rattle.mp_model.specs.declared.fields.Field.TheVariants.{Number}
 use Rattle.mp_model.specs.declared.value.Value.{Value}
@@ -32,3 +32,7 @@ row_with offer = Row (Number offer.auction ∷ Number offer.bidder ∷ Number of
 -- the row of the best offer, where the group ends a window
 abbrev pub row_of : Option Offer → Entry → Option Value
 row_of best e = if e.woken then option_map row_with best else None
+
+-- nothing is saved
+abbrev pub text_of : ℕ → Option Offer → List ℕ
+text_of j best = []

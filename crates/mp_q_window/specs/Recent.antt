@@ -1,5 +1,5 @@
 -- What is made of the times of the bids on an auction.
-use Rattle.std.specs.Prelude.{ℕ, ◌-◌, ◌++◌, ◌==◌, Option, Some, None, List, filter, if◌then◌else◌, length, nat_le}
+use Rattle.std.specs.Prelude.{ℕ, ◌-◌, ◌++◌, ◌==◌, Option, Some, None, List, [], filter, if◌then◌else◌, length, nat_le}
 use Rattle.std.specs.List.{filter_map}
 use Rattle.mp_model.specs.declared.record.Rec.{Rec}
 use Rattle.mp_model.specs.declared.value.Value.{Value}
@@ -19,18 +19,22 @@ times_of rs = filter_map (λ r. bid_time r.time r.value) rs
 abbrev pub since : ℕ → List ℕ → List ℕ
 since first times = filter (λ t. nat_le first t) times
 
--- the times that stay when the records of a group come: where it ends a window, those of its last 3000
-abbrev pub kept_by : List ℕ → Entry → List ℕ
-kept_by times e = if e.woken then since (e.time - 3000) times else times
+-- the times that stay when the records of a group come: where it ends a window, those of this span before its end
+abbrev pub kept_by : ℕ → List ℕ → Entry → List ℕ
+kept_by span times e = if e.woken then since (e.time - span) times else times
 
 -- the times after a group, whose bids come after those that stay
-abbrev pub after_group : List ℕ → Entry → List ℕ
-after_group times e = kept_by times e ++ times_of e.recs
+abbrev pub after_group : ℕ → List ℕ → Entry → List ℕ
+after_group span times e = kept_by span times e ++ times_of e.recs
 
 -- the count of an auction's bids, where it had some
 abbrev pub count_row : ℕ → ℕ → Option Value
 count_row auction count = if count == 0 then None else Some (Count auction count)
 
--- the count of the window that a group ends, which holds the times of its last 3600
-abbrev pub count_in : List ℕ → Entry → Option Value
-count_in times e = if e.woken then count_row e.key (length (since (e.time - 3600) times)) else None
+-- the count of the window that a group ends, which holds the times of this span before its end
+abbrev pub count_in : ℕ → List ℕ → Entry → Option Value
+count_in span times e = if e.woken then count_row e.key (length (since (e.time - span) times)) else None
+
+-- nothing is saved
+abbrev pub text_of : ℕ → List ℕ → List ℕ
+text_of j times = []

@@ -49,6 +49,13 @@ impl Best {
         self.best.is_none()
     }
 
+    /// The same offer, or none.
+    pub fn copy(&self) -> Best
+        ensures { result ≡ self.now }
+    {
+        Best { best: self.best }
+    }
+
     /// The row of the best offer, where this group ends a window. `AllocError`: no memory.
     pub fn row(&self, alloc: Global, group: &Group) -> Result<Option<Value>, AllocError>
         ensures { IfOk result (λ row. row ≡ row_of self.now group.now) }

@@ -1,39 +1,91 @@
 //! The query q5: the auctions with the most bids in each window.
 ghost use Rattle.std.specs.Prelude.{◌≡◌, ◌≤◌};
 ghost use Rattle.mp_names.specs.Limits.{last_time};
-ghost use Rattle.mp_q_window.specs.Q5.{key_of, posts_of};
+ghost use Rattle.mp_model.specs.Rules.{given_values};
+ghost use Rattle.mp_q_window.specs.Q5.{key_of, posts_of, q5_rules};
 
 use crate::{Recent, counts, windows};
-use mp_model::{Group, PostList, Query, Rec, Time, Value};
+use mp_model::{Group, PostList, Query, Rec, Rule, RuleList, Time, Value};
 use std::alloc::{AllocError, Global};
 
-/// The query q5: the auctions with the most bids in each window, which is 3600 long and ends at a multiple of 600.
-/// Stage 0 counts the bids on each auction, stage 1 keeps the greatest counts. The subject is NEXMark's, the table this
-/// project's profile.
+/// The query q5: the auctions with the most bids in each window, which is some slides long and ends at a multiple of a slide.
+/// Stage 0 counts the bids on each auction, stage 1 keeps the greatest counts. The subject is NEXMark's, the table and
+/// the lengths this project's profile.
 #[derive(Drop, Debug)]
-pub struct Q5 {}
+pub struct Q5 {
+    slide: u64,
+    slides: u64,
+    ghost some_slide: { 1 ≤ slide },
+    ghost short: { slide ≤ 7200 },
+    ghost some_slides: { 1 ≤ slides },
+    ghost few: { slides ≤ 6 },
+}
+
+// How many units of time a slide has.
+const SLIDE: Rule = Rule {
+    name: "slide",
+    least: 1,
+    greatest: 7200,
+    given: 600,
+};
+
+// How many slides a window has.
+const SLIDES: Rule = Rule {
+    name: "slides",
+    least: 1,
+    greatest: 6,
+    given: 6,
+};
+
+impl Q5 {
+    /// The query q5 of the given windows, six slides of 600 units of time.
+    pub fn given() -> Q5
+        ensures { ⟦<Q5 as Query>⟧.values result ≡ given_values q5_rules }
+    {
+        Q5 {
+            slide: 600,
+            slides: 6,
+        }
+    }
+}
 
 impl Query for Q5 {
-    ghost use Rattle.std.specs.Prelude.{[], refl};
-    ghost use Rattle.mp_q_window.specs.Q5.{q5_facts};
-    ghost use Rattle.mp_q_window.specs.Laws.Q5.{has_stages, posts_are_later, later_stages_post_nothing, outputs_have_keys, most_is_enough, fresh_stays_fresh, sums_fit};
+    ghost use Rattle.std.specs.Prelude.{[], ◌∷◌};
+    ghost use Rattle.mp_q_window.specs.Q5.{q5_facts, q5_rules, slide_in, slides_in};
+    ghost use Rattle.mp_q_window.specs.Recent.{text_of};
+    ghost use Rattle.mp_q_window.specs.Laws.Q5.{has_stages, posts_are_later, later_stages_post_nothing, most_is_enough, fresh_stays_fresh, begins_fresh, texts_tell_cells, sums_fit};
 
     type Cell = Recent;
 
-    const STAGES: u32 = 2;
+    ghost values = { λ q. q.slide ∷ q.slides ∷ [] };
 
-    ghost STAGES = { 2 };
+    ghost rules = { λ _. q5_rules };
 
-    ghost rules = { λ _. [] };
+    ghost facts = { λ vs. q5_facts vs };
 
-    ghost facts = { λ _. q5_facts };
+    ghost text_of = { text_of };
+
+    fn stages(&self) -> u32 {
+        2
+    }
+
+    fn rules(&self) -> RuleList {
+        RuleList::two(SLIDE, SLIDES)
+    }
+
+    fn with(self, given: &[u64]) -> Q5 {
+        Q5 {
+            slide: given[0],
+            slides: given[1],
+        }
+    }
 
     fn key(&self, stage: u32, time: Time, value: &Value) -> Option<u64> {
         key(stage, time, value)
     }
 
     fn posts(&self, stage: u32, rec: &Rec) -> PostList {
-        posts(stage, rec)
+        posts(self.slide, self.slides, stage, rec)
     }
 
     fn fresh(&self, alloc: Global, _stage: u32) -> Recent {
@@ -52,6 +104,7 @@ impl Query for Q5 {
         }
     }
 
+    #[tactic(auto, using(crate::proofs::Ends::length_fits))]
     fn step(
         &self,
         alloc: Global,
@@ -60,29 +113,35 @@ impl Query for Q5 {
         group: &Group,
     ) -> Result<Vec<Value>, AllocError> {
         if stage == 0 {
-            let outputs = cell.count(group).into_iter().collect(alloc)?;
-            cell.apply(group)?;
+            let length = self.slide * self.slides;
+            let kept = self.slide * (self.slides - 1);
+            let outputs = cell.count(length, group).into_iter().collect(alloc)?;
+            cell.apply(kept, group)?;
             Ok(outputs)
         } else {
             counts::rows(alloc, group.recs())
         }
     }
 
-    ghost stages_are = { λ rs. refl };
+    fn copy_cell(&self, alloc: Global, _stage: u32, cell: &Recent) -> Result<Recent, AllocError> {
+        cell.copy(alloc)
+    }
 
-    ghost has_stages = { λ rs. has_stages };
+    ghost has_stages = { λ vs. has_stages (slide_in vs) (slides_in vs) };
 
-    ghost posts_are_later = { λ rs. posts_are_later };
+    ghost posts_are_later = { λ vs. posts_are_later vs };
 
-    ghost later_stages_post_nothing = { λ rs. later_stages_post_nothing };
+    ghost later_stages_post_nothing = { λ vs. later_stages_post_nothing (slide_in vs) (slides_in vs) };
 
-    ghost outputs_have_keys = { λ rs. outputs_have_keys };
+    ghost most_is_enough = { λ vs. most_is_enough (slide_in vs) (slides_in vs) };
 
-    ghost most_is_enough = { λ rs. most_is_enough };
+    ghost fresh_stays_fresh = { λ vs. fresh_stays_fresh (slide_in vs) (slides_in vs) };
 
-    ghost fresh_stays_fresh = { λ rs. fresh_stays_fresh };
+    ghost begins_fresh = { λ vs. begins_fresh (slide_in vs) (slides_in vs) };
 
-    ghost sums_fit = { λ rs. sums_fit };
+    ghost texts_tell_cells = { λ vs. texts_tell_cells (slide_in vs) (slides_in vs) };
+
+    ghost sums_fit = { sums_fit };
 }
 
 /// The key of a value: in stage 0 the auction of a bid, in stage 1 the time of a count. Other values make no record.
@@ -96,13 +155,16 @@ fn key(stage: u32, time: Time, value: &Value) -> Option<u64>
     }
 }
 
-/// The ends of the windows that a bid is in.
-fn posts(stage: u32, rec: &Rec) -> PostList
-    requires { rec.now.time ≤ last_time }
-    ensures { result ≡ posts_of stage rec.now }
+/// The ends of the windows that a bid is in. A slide has 1 to 7200 units of time, a window six slides at most.
+fn posts(slide: u64, slides: u64, stage: u32, rec: &Rec) -> PostList
+    requires some_slide { 1 ≤ slide }
+    requires short { slide ≤ 7200 }
+    requires few { slides ≤ 6 }
+    requires in_time { rec.now.time ≤ last_time }
+    ensures { result ≡ posts_of slide slides stage rec.now }
 {
     match &rec.value {
-        Value::Bid { .. } if stage == 0 => windows::next_ends(rec.time),
+        Value::Bid { .. } if stage == 0 => windows::next_ends(slide, slides, rec.time),
         _ => PostList::new(),
     }
 }

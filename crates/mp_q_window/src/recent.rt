@@ -1,17 +1,11 @@
 //! The times of the bids on an auction that windows may still hold.
-ghost use Rattle.std.specs.Prelude.{◌≡◌, ◌↔◌, ◌≤◌, [], IsTrue, OnErr, OnOk, length, vec_len};
+ghost use Rattle.std.specs.Prelude.{◌≡◌, ◌↔◌, ◌≤◌, [], IfOk, IsTrue, OnErr, OnOk, length, vec_len};
 ghost use Rattle.std.specs.Vec.{vec_capacity};
 ghost use Rattle.mp_q_window.specs.Recent.{after_group, count_in, count_row, kept_by, since};
 
 use mp_model::{Group, Time, Value};
 use std::alloc::{AllocError, Global};
 use std::marker::Model;
-
-/// How long a window of q5 is, by this project's profile.
-const LENGTH: u64 = 3600;
-
-/// Times that are more than this before the end of a window are in no later window: the length without one slide.
-const KEPT: u64 = 3000;
 
 /// The times of the bids on an auction, in the order in which they came. Contracts see the list of them. It is public
 /// only as the `Cell` of q5.
@@ -45,27 +39,37 @@ impl Recent {
         self.times.is_empty()
     }
 
-    /// How many bids the auction had in the window that this group ends, where it ends one and there are some.
-    pub fn count(&self, group: &Group) -> Option<Value>
-        ensures { result ≡ count_in self.now group.now }
+    /// The same times. `AllocError`: no memory.
+    pub fn copy(&self, alloc: Global) -> Result<Recent, AllocError>
+        ensures { IfOk result (λ copy. copy ≡ self.now) }
+    {
+        let mut times = Vec::new(alloc);
+        times.extend_from_slice(self.times.as_slice())?;
+        Ok(Recent { times })
+    }
+
+    /// How many bids the auction had in the window that this group ends, where it ends one and there are some. A window
+    /// is this long.
+    pub fn count(&self, length: u64, group: &Group) -> Option<Value>
+        ensures { result ≡ count_in length self.now group.now }
     {
         if group.is_woken() {
-            let count = self.count_since(group.time().saturating_sub(LENGTH));
+            let count = self.count_since(group.time().saturating_sub(length));
             count_row(group.key(), count)
         } else {
             None
         }
     }
 
-    /// Takes the times of a group's bids. The end of a window drops the times that no later window holds.
+    /// Takes the times of a group's bids. The end of a window drops the times that are more than `kept` before it.
     /// `AllocError`: no memory, and nothing changes.
-    pub fn apply(&mut self, group: &Group) -> Result<(), AllocError>
-        ensures taken { OnOk result (self.new ≡ after_group self.old group.now) }
+    pub fn apply(&mut self, kept: u64, group: &Group) -> Result<(), AllocError>
+        ensures taken { OnOk result (self.new ≡ after_group kept self.old group.now) }
         ensures unchanged { OnErr result (self.new ≡ self.old) }
     {
         let recs = group.recs();
         self.times.reserve(recs.len())?;
-        drop_gone(&mut self.times, group);
+        drop_gone(&mut self.times, kept, group);
         for rec in recs {
             if let Value::Bid { .. } = &rec.value {
                 self.times.push_reserved(rec.time);
@@ -88,14 +92,14 @@ impl Recent {
     }
 }
 
-/// Drops the times that no later window holds, where a group ends a window.
-fn drop_gone(times: &mut Vec<Time>, group: &Group)
-    ensures times { times.new.items ≡ kept_by times.old.items group.now }
+/// Drops the times that are more than `kept` before the end of a window, where a group ends one.
+fn drop_gone(times: &mut Vec<Time>, kept: u64, group: &Group)
+    ensures times { times.new.items ≡ kept_by kept times.old.items group.now }
     ensures few { vec_len times.new ≤ vec_len times.old }
     ensures capacity { vec_capacity times.new ≡ vec_capacity times.old }
 {
     if group.is_woken() {
-        keep_since(times, group.time().saturating_sub(KEPT));
+        keep_since(times, group.time().saturating_sub(kept));
     }
 }
 

@@ -1,34 +1,35 @@
 //! The times at which windows end.
-ghost use Rattle.std.specs.Prelude.{◌≡◌, ◌≤◌, All};
+ghost use Rattle.std.specs.Prelude.{◌≡◌, ◌*◌, ◌≤◌, All};
 ghost use Rattle.mp_names.specs.Limits.{last_time};
 ghost use Rattle.mp_q_window.specs.Windows.{IsEndWithin, end_after, ends_after};
 
 use mp_model::{PostList, Time};
 
-/// Windows end at the multiples of this number, by this project's profile.
-const SLIDE: u64 = 600;
-
-/// How many ends follow a time within 3600, by this project's profile.
-const ENDS: u64 = 6;
-
-/// The first end of a window above a time, which is at most 600 above it.
-pub fn next_end(time: Time) -> Time
-    requires { time ≤ last_time }
-    ensures end { result ≡ end_after time }
-    ensures within { IsEndWithin 600 time result }
+/// The first end of a window above a time, where windows end at the multiples of their width: at most the width above it.
+/// The width is 1 to 43,200, and the time at most 2^47 + 43,200.
+pub fn next_end(width: u64, time: Time) -> Time
+    requires some_width { 1 ≤ width }
+    requires short { width ≤ 43200 }
+    requires in_time { time ≤ last_time }
+    ensures end { result ≡ end_after width time }
+    ensures within { IsEndWithin width width time result }
 {
-    (time / SLIDE + 1) * SLIDE
+    (time / width + 1) * width
 }
 
-/// The six ends of windows above a time and at most 3600 above it, in order.
-pub fn next_ends(time: Time) -> PostList
-    requires { time ≤ last_time }
-    ensures ends { result ≡ ends_after time }
-    ensures within { All (IsEndWithin 3600 time) result }
+/// The ends of the windows that hold a time, in order. Windows are so many slides long, 6 at most, and end at the multiples of
+/// a slide, which is 1 to 7200. The time is at most 2^47 + 43,200.
+pub fn next_ends(slide: u64, slides: u64, time: Time) -> PostList
+    requires some_slide { 1 ≤ slide }
+    requires short { slide ≤ 7200 }
+    requires few { slides ≤ 6 }
+    requires in_time { time ≤ last_time }
+    ensures ends { result ≡ ends_after slide slides time }
+    ensures within { All (IsEndWithin slide (slide * slides) time) result }
 {
     let mut ends = PostList::new();
-    for i in 0..ENDS {
-        ends.push((time / SLIDE + 1 + i) * SLIDE);
+    for i in 0..slides {
+        ends.push((time / slide + 1 + i) * slide);
     }
     ends
 }

@@ -4,10 +4,9 @@ use Rattle.std.proofs.lemmas.Bool.{both_ways, cases_Bool, eq-eqb, eqb-true, fals
 use Rattle.std.proofs.lemmas.List.{length-map}
 use Rattle.mp_names.specs.declared.controls.Control.{Control}
 use Rattle.mp_names.specs.declared.controls.Move.{Move}
-use Rattle.mp_names.specs.declared.controls.Shape.{Shape}
 use Rattle.mp_names.specs.Outlines.{moves_of as moves_in_outline}
 use Rattle.mp_model.specs.Facts.{JobFacts, QueryFacts}
-use Rattle.mp_outline.specs.JobOutline.{outline_of}
+use Rattle.mp_outline.specs.JobOutline.{layout_of, outline_of}
 use Rattle.mp_names.specs.declared.names.Name.{Name}
 use Rattle.mp_names.specs.declared.names.Name.TheVariants.{Packet}
 use Rattle.mp_names.specs.Controls.{control_of, is_change, move_in, moves_in, owner_below}
@@ -15,7 +14,7 @@ use Rattle.mp_names.specs.Names.{In, ascending}
 use Rattle.mp_names.proofs.Lists.{In_cases, In_here, In_later}
 use Rattle.mp_names.proofs.Orders.{In_ascending, ascending_In, ascending_ascends, ascending_unique}
 use Rattle.mp_bins.specs.declared.owners.Note.{Note}
-use Rattle.mp_bins.specs.Notes.{Notes, controls_in, first_owner, is_noted, moves_of, no_note, note_at, with_note}
+use Rattle.mp_bins.specs.Notes.{Layout, Notes, controls_in, first_owner, is_noted, moves_of, no_note, note_at, with_note}
 use Rattle.mp_bins.specs.Laws.{AreNotesOf, IsNoteOf}
 use Rattle.mp_bins.proofs.Placing.{noted_with}
 use Rattle.mp_bins.proofs.Searching.{control_at_note}
@@ -59,7 +58,7 @@ map_same f g e (x ∷ xs) = ap (λ (m : Move). m ∷ map f xs) (e x) ∙ ap (λ 
 
 module _ (controls : List Control) (notes : Notes) (are : AreNotesOf controls notes) (all : (i : ℕ) → i < length controls → is_noted notes.noted i ≡ true) where
   abbrev first : ℕ → ℕ → ℕ
-  first stage bin = first_owner notes.shape bin
+  first stage bin = first_owner notes.layout stage bin
 
   abbrev noted : List Control
   noted = controls_in notes.noted
@@ -117,9 +116,9 @@ module _ (controls : List Control) (notes : Notes) (are : AreNotesOf controls no
       ∙ ap (filter (is_change controls first)) same_names)
 
 -- these are the moves of the job
-pub moves_of_job : {Cell : Type 0} (q : QueryFacts Cell) (job : JobFacts) (notes : Notes) → AreNotesOf job.controls notes → ((i : ℕ) → i < length job.controls → is_noted notes.noted i ≡ true) → notes.shape ≡ job.shape → moves_of notes ≡ moves_in_outline (outline_of q job)
+pub moves_of_job : {Cell : Type 0} (q : QueryFacts Cell) (job : JobFacts) (notes : Notes) → AreNotesOf job.controls notes → ((i : ℕ) → i < length job.controls → is_noted notes.noted i ≡ true) → notes.layout ≡ layout_of job → moves_of notes ≡ moves_in_outline (outline_of q job)
 unfolding moves_in_outline
-moves_of_job q job notes are all shape = same_moves job.controls notes are all ∙ ap (λ (s : Shape). moves_in job.controls (λ stage bin. first_owner s bin)) shape
+moves_of_job q job notes are all layout = same_moves job.controls notes are all ∙ ap (λ (l : Layout). moves_in job.controls (λ stage bin. first_owner l stage bin)) layout
 
 -- with the next record noted too, the records so far are, and no others
 

@@ -6,6 +6,7 @@ ghost use Rattle.mp_outside.specs.Sink.{OnlyAppends, grown};
 ghost use Rattle.mp_output.specs.declared.refused.OutRefused.TheVariants.{WriteFault};
 ghost use Rattle.mp_report.specs.Report.{AreTalliesOf, IsReported, IsReportedInPart, move_lines, worker_lines};
 ghost use Rattle.mp_report.specs.Told.{groups_told, keys_told};
+ghost use Rattle.mp_model.specs.Tables.{table_of};
 
 use crate::lines::{line_of_move, line_of_worker};
 use crate::owners::moves_of;
@@ -29,10 +30,10 @@ pub fn write_report<Q: Query, S: Sink>(
     tallies: &[Tally],
     sink: &mut S,
 ) -> Result<(), OutRefused>
-    requires { AreTalliesOf (Q.facts job.now.rules) job.now tallies.now }
-    ensures whole { OnOk result (IsReported (Q.facts job.now.rules) job.now
+    requires { AreTalliesOf (table_of Q.facts job.now) job.now tallies.now }
+    ensures whole { OnOk result (IsReported (table_of Q.facts job.now) job.now
         (S.written sink.old) (S.written sink.new)) }
-    ensures part { OnErr result (IsReportedInPart (Q.facts job.now.rules) job.now
+    ensures part { OnErr result (IsReportedInPart (table_of Q.facts job.now) job.now
         (S.written sink.old) (S.written sink.new)) }
     ensures failed { result ≡ Err WriteFault → Rose (S.faults sink.old) (S.faults sink.new) }
     ensures no_fault { result ≢ Err WriteFault → S.faults sink.new ≡ S.faults sink.old }

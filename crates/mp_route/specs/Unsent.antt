@@ -48,5 +48,5 @@ module _ {Cell : Type 0} (q : QueryFacts Cell) (job : JobFacts) (w : ℕ) where
 module _ {Cell : Type 0} (q : QueryFacts Cell) (job : JobFacts) where
   -- every control record whose time the frontier of control records on their way has passed is noted: up to there the owners are the job's
   pub record OwnersAreKnown (notes : Notes) (seen : Seen) (stage : ℕ) : Type 0 where
-    pub shape : notes.shape ≡ job.shape
+    pub shape : notes.layout.shape ≡ job.shape
     pub owners : (t b : ℕ) → HasPassed (seen_at seen CtlMail) t → noted_owner notes stage b t ≡ owner_at (outline_of q job) stage b t

@@ -29,8 +29,8 @@ pub struct Along {
 
 /// What goes along with a record of a stage, by what is noted.
 pub fn along_with(rec: &Rec, stage: u32, owners: &Owners, bins: u32) -> Along
-    requires stage { stage < owners.now.shape.stages }
-    requires bins { IsBinCount bins × (bins ≡ owners.now.shape.bins) }
+    requires stage { stage < owners.now.layout.shape.stages }
+    requires bins { IsBinCount bins × (bins ≡ owners.now.layout.shape.bins) }
     ensures { result ≡ along_with owners.now stage bins rec.now }
 {
     let owner = owners.owner(stage, bin_of(rec.key, bins), rec.time);
@@ -51,8 +51,8 @@ struct Count {
 
 // Whether the bin of a record's key has the owner.
 fn goes_to(owners: &Owners, along: Along, rec: &Rec) -> bool
-    requires stage { along.stage < owners.now.shape.stages }
-    requires bins { IsBinCount along.bins × (along.bins ≡ owners.now.shape.bins) }
+    requires stage { along.stage < owners.now.layout.shape.stages }
+    requires bins { IsBinCount along.bins × (along.bins ≡ owners.now.layout.shape.bins) }
     ensures { result ≡ goes_to owners.now along rec.now }
 {
     let bin = bin_of(rec.key, along.bins);
@@ -61,8 +61,8 @@ fn goes_to(owners: &Owners, along: Along, rec: &Rec) -> bool
 
 // The same, where so many in front of it go. The first one does, so its owner isn't asked for.
 fn goes_next(owners: &Owners, along: Along, before: usize, rec: &Rec) -> bool
-    requires stage { along.stage < owners.now.shape.stages }
-    requires bins { IsBinCount along.bins × (along.bins ≡ owners.now.shape.bins) }
+    requires stage { along.stage < owners.now.layout.shape.stages }
+    requires bins { IsBinCount along.bins × (along.bins ≡ owners.now.layout.shape.bins) }
     requires first { before ≡ 0 → goes_to owners.now along rec.now ≡ true }
     ensures { result ≡ goes_to owners.now along rec.now }
 {
@@ -72,8 +72,8 @@ fn goes_next(owners: &Owners, along: Along, before: usize, rec: &Rec) -> bool
 // Counts the first records, as far as they are of the time and no more than travel in one message go. The first one goes.
 fn count_along(held: &OrderedBlocks<Rec, ByTag>, owners: &Owners, along: Along) -> Count
     requires first { FirstGoes owners.now along held.now.items }
-    requires stage { along.stage < owners.now.shape.stages }
-    requires bins { IsBinCount along.bins × (along.bins ≡ owners.now.shape.bins) }
+    requires stage { along.stage < owners.now.layout.shape.stages }
+    requires bins { IsBinCount along.bins × (along.bins ≡ owners.now.layout.shape.bins) }
     ensures count { IsCount owners.now along 64 held.now.items result.looked result.chosen }
     ensures in_order { IsInOrder tag_rank held.now.items }
 {
@@ -99,8 +99,8 @@ fn count_along(held: &OrderedBlocks<Rec, ByTag>, owners: &Owners, along: Along) 
 fn count_in(block: &VecDeque<Rec>, owners: &Owners, along: Along, before: usize) -> Count
     requires few { before ≤ 64 }
     requires first { before ≡ 0 → FirstGoes owners.now along block.now.items }
-    requires stage { along.stage < owners.now.shape.stages }
-    requires bins { IsBinCount along.bins × (along.bins ≡ owners.now.shape.bins) }
+    requires stage { along.stage < owners.now.layout.shape.stages }
+    requires bins { IsBinCount along.bins × (along.bins ≡ owners.now.layout.shape.bins) }
     ensures inside { result.looked ≤ length block.now.items }
     ensures time { All (λ r. is_at along r ≡ true) (take result.looked block.now.items) }
     ensures chosen { result.chosen ≡ before + length (going owners.now along result.looked block.now.items) }
@@ -134,8 +134,8 @@ pub fn take_along(
     along: Along,
 ) -> Result<Vec<Rec>, AllocError>
     requires first { FirstGoes owners.now along held.old.items }
-    requires stage { along.stage < owners.now.shape.stages }
-    requires bins { IsBinCount along.bins × (along.bins ≡ owners.now.shape.bins) }
+    requires stage { along.stage < owners.now.layout.shape.stages }
+    requires bins { IsBinCount along.bins × (along.bins ≡ owners.now.layout.shape.bins) }
     ensures taken { IfOk result (λ v. TakesAlong owners.now along 64 held.old v.items held.new) }
     ensures unchanged { OnErr result (held.new ≡ held.old) }
 {
@@ -177,8 +177,8 @@ fn take_first(
     gone: &mut Vec<Rec>,
     kept: &mut Vec<Rec>,
 )
-    requires stage { along.stage < owners.now.shape.stages }
-    requires bins { IsBinCount along.bins × (along.bins ≡ owners.now.shape.bins) }
+    requires stage { along.stage < owners.now.layout.shape.stages }
+    requires bins { IsBinCount along.bins × (along.bins ≡ owners.now.layout.shape.bins) }
     requires inside { looked ≤ length held.old.items }
     requires none { (gone.old.items ≡ []) × (kept.old.items ≡ []) }
     requires for_gone { length (going owners.now along looked held.old.items) ≤ vec_capacity gone.old }

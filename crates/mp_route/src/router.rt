@@ -10,6 +10,7 @@ ghost use Rattle.mp_msg.specs.Contents.{IsRecordOf};
 ghost use Rattle.mp_route.specs.Routed.{IsFree, IsLeastHeld, tag_rank};
 ghost use Rattle.mp_route.specs.Sending.{IfNoneSent, IfSent, IsBundleOf};
 ghost use Rattle.mp_route.specs.Unsent.{HoldsAllBut, HoldsOneMore, HoldsUnsent, MayGo, OwnersAreKnown, with_all_sent};
+ghost use Rattle.mp_model.specs.Tables.{table_of};
 
 use crate::along::{along_with, take_along};
 use crate::by_tag::ByTag;
@@ -36,13 +37,14 @@ impl<Q: Query, J: Naming> Model for Router<Q, J> {
     ghost use Rattle.std.specs.Prelude.{◌<◌, All};
     ghost use Rattle.mp_msg.specs.Contents.{IsRecordOf};
     ghost use Rattle.mp_route.specs.Routed.{Routed};
+    ghost use Rattle.mp_model.specs.Tables.{table_of};
 
     ghost Value = { Routed };
 
     ghost view = { λ r. record { stage = r.stage; held = r.held.items; room = r.held.room } };
 
     ghost invariant = { λ r.
-        (r.stage < J.job.shape.stages) × All (IsRecordOf (Q.facts J.job.rules) J.job r.stage) r.held.items };
+        (r.stage < J.job.shape.stages) × All (IsRecordOf (table_of Q.facts J.job) J.job r.stage) r.held.items };
 }
 
 impl<Q: Query, J: Naming> Router<Q, J> {
@@ -51,7 +53,7 @@ impl<Q: Query, J: Naming> Router<Q, J> {
         requires { stage < J.job.shape.stages }
         ensures stage { result.stage ≡ stage }
         ensures held { result.held ≡ [] }
-        ensures unsent { (w : ℕ) → HoldsUnsent (Q.facts J.job.rules) J.job w empty_log result }
+        ensures unsent { (w : ℕ) → HoldsUnsent (table_of Q.facts J.job) J.job w empty_log result }
     {
         Router {
             stage,
@@ -73,17 +75,17 @@ impl<Q: Query, J: Naming> Router<Q, J> {
     /// Holds a record of the stage, at its place by time and tag. `AllocError`: no memory, never where there is room.
     /// The record is then lost, and the router is as it was.
     pub fn hold(&mut self, rec: Rec) -> Result<(), AllocError>
-        requires { IsRecordOf (Q.facts J.job.rules) J.job self.old.stage rec }
+        requires { IsRecordOf (table_of Q.facts J.job) J.job self.old.stage rec }
         ensures held { OnOk result (self.new.held ≡ put_in_order tag_rank rec self.old.held) }
         ensures stage { self.new.stage ≡ self.old.stage }
         ensures room { OnOk result (self.old.room ≤ self.new.room + 1) }
         ensures unchanged { OnErr result (self.new ≡ self.old) }
         ensures never_refused_with_room { 0 < self.old.room → IsOk result }
-        ensures unsent { OnOk result ((w : ℕ) (old new : Log) → let q = Q.facts J.job.rules in
+        ensures unsent { OnOk result ((w : ℕ) (old new : Log) → let q = table_of Q.facts J.job in
             HoldsUnsent q J.job w old self.old
             → HoldsOneMore q J.job w old new self.old.stage (name_of_record self.old.stage rec)
             → HoldsUnsent q J.job w new self.new) }
-        ensures in_turn { OnOk result ((w : ℕ) (log : Log) (rest : List Name) → let q = Q.facts J.job.rules in
+        ensures in_turn { OnOk result ((w : ℕ) (log : Log) (rest : List Name) → let q = table_of Q.facts J.job in
             HoldsAllBut q J.job w log (name_of_record self.old.stage rec ∷ rest) self.old
             → HoldsAllBut q J.job w log rest self.new) }
     {
@@ -97,9 +99,9 @@ impl<Q: Query, J: Naming> Router<Q, J> {
         ensures none { IfNone result ((x : Name) → IsFree self.now seen.now x → ⊥) }
         ensures least { IfSome result (λ x. IsLeastHeld self.now x) }
         ensures in_order { IsInOrder tag_rank self.now.held }
-        ensures may_go { IfSome result (λ x. (w : ℕ) (log : Log) → let q = Q.facts J.job.rules in
+        ensures may_go { IfSome result (λ x. (w : ℕ) (log : Log) → let q = table_of Q.facts J.job in
             HoldsUnsent q J.job w log self.now → MayGo q J.job w log self.now.stage seen.now x) }
-        ensures none_may { IfNone result ((w : ℕ) (log : Log) (x : Name) → let q = Q.facts J.job.rules in
+        ensures none_may { IfNone result ((w : ℕ) (log : Log) (x : Name) → let q = table_of Q.facts J.job in
             HoldsUnsent q J.job w log self.now → MayGo q J.job w log self.now.stage seen.now x → ⊥) }
     {
         let first = self.held.first()?;
@@ -126,22 +128,22 @@ impl<Q: Query, J: Naming> Router<Q, J> {
         bins: u32,
     ) -> Result<Option<Bundle>, AllocError>
         requires bins { IsBinCount bins × (bins ≡ J.job.shape.bins) }
-        requires owners { OwnersAreKnown (Q.facts J.job.rules) J.job owners.now seen.now self.old.stage }
-        requires held { let q = Q.facts J.job.rules in
+        requires owners { OwnersAreKnown (table_of Q.facts J.job) J.job owners.now seen.now self.old.stage }
+        requires held { let q = table_of Q.facts J.job in
             (w : ℕ) × (log : Log) × LogIsLegal (outline_of q J.job) w log × HoldsUnsent q J.job w log self.old }
-        ensures content { IfSent result (λ b. IsBundle (Q.facts J.job.rules) J.job b) }
+        ensures content { IfSent result (λ b. IsBundle (table_of Q.facts J.job) J.job b) }
         ensures stage { IfSent result (λ b. b.stage ≡ self.old.stage) }
-        ensures may_go { IfSent result (λ b. (w : ℕ) (log : Log) → let q = Q.facts J.job.rules in
+        ensures may_go { IfSent result (λ b. (w : ℕ) (log : Log) → let q = table_of Q.facts J.job in
             HoldsUnsent q J.job w log self.old
             → (x : Name) × IsBundleOf q J.job w log self.old.stage x b × MayGo q J.job w log self.old.stage seen.now x) }
-        ensures all_but { IfSent result (λ b. (w : ℕ) (log : Log) → let q = Q.facts J.job.rules in
+        ensures all_but { IfSent result (λ b. (w : ℕ) (log : Log) → let q = table_of Q.facts J.job in
             HoldsUnsent q J.job w log self.old → HoldsAllBut q J.job w log (names_in b) self.new) }
-        ensures unsent { IfSent result (λ b. (w : ℕ) (log : Log) → let q = Q.facts J.job.rules in
+        ensures unsent { IfSent result (λ b. (w : ℕ) (log : Log) → let q = table_of Q.facts J.job in
             HoldsUnsent q J.job w log self.old → HoldsUnsent q J.job w (with_all_sent log (names_in b)) self.new) }
         ensures room { IfSent result (λ b. self.old.room + length b.recs ≤ self.new.room) }
         ensures same_stage { self.new.stage ≡ self.old.stage }
         ensures none { IfNoneSent result ((x : Name) → IsFree self.old seen.now x → ⊥) }
-        ensures none_may { IfNoneSent result ((w : ℕ) (log : Log) (x : Name) → let q = Q.facts J.job.rules in
+        ensures none_may { IfNoneSent result ((w : ℕ) (log : Log) (x : Name) → let q = table_of Q.facts J.job in
             HoldsUnsent q J.job w log self.old → MayGo q J.job w log self.old.stage seen.now x → ⊥) }
         ensures unchanged { IfNoneSent result (self.new ≡ self.old) }
         ensures refused { OnErr result (self.new ≡ self.old) }
@@ -159,10 +161,10 @@ impl<Q: Query, J: Naming> Router<Q, J> {
 
     /// Takes back a bundle that this router gave up, for which it has room. Takes no memory.
     pub fn give_back(&mut self, bundle: Bundle)
-        requires content { All (IsRecordOf (Q.facts J.job.rules) J.job self.old.stage) bundle.recs }
+        requires content { All (IsRecordOf (table_of Q.facts J.job) J.job self.old.stage) bundle.recs }
         requires stage { bundle.stage ≡ self.old.stage }
         requires room { length bundle.recs ≤ self.old.room }
-        ensures in_turn { (w : ℕ) (log : Log) (rest : List Name) → let q = Q.facts J.job.rules in
+        ensures in_turn { (w : ℕ) (log : Log) (rest : List Name) → let q = table_of Q.facts J.job in
             HoldsAllBut q J.job w log (names_in bundle ++ rest) self.old → HoldsAllBut q J.job w log rest self.new }
         ensures stage { self.new.stage ≡ self.old.stage }
         ensures room { self.old.room ≤ self.new.room + length bundle.recs }

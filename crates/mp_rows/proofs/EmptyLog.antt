@@ -16,9 +16,11 @@ use Rattle.mp_names.specs.Outlines.{OutlineIsSound, time_of}
 use Rattle.mp_stamps.specs.Counts.{same_loc}
 use Rattle.mp_model.specs.declared.record.Event.{Event}
 use Rattle.mp_model.specs.Facts.{JobFacts, QueryFacts}
+use Rattle.mp_job.specs.Legal.{JobIsLegal}
 use Rattle.mp_job.specs.Records.{share_of}
 use Rattle.mp_job.proofs.Sharing.{record_is_there, record_of_place}
 use Rattle.mp_outline.specs.JobOutline.{outline_of}
+use Rattle.mp_outline.proofs.Whole.{nothing_opens}
 use Rattle.mp_rows.specs.Entries.{AreContributions, change_at, sum_at}
 use Rattle.mp_rows.specs.Opening.{control_entries, source_entries, time_at}
 use Rattle.mp_rows.proofs.Controls.{count_controls, count_no_controls}
@@ -74,7 +76,7 @@ module _ {Cell : Type 0} (q : QueryFacts Cell) (job : JobFacts) (w : ℕ) where
       pick true = sum_elsewhere Ctl loc (λ (c : Control). c.time) job.shape.workers t e job.controls
       pick false = refl
 
-  module _ (sound : OutlineIsSound (outline_of q job)) where
+  module _ (sound : OutlineIsSound (outline_of q job)) (legal : JobIsLegal q job) where
     sources_here : (t : ℕ) → sum_at (source_entries job.events (share_of q job.events job.shape.workers w)) Source t ≡ contribution (outline_of q job) w empty_log Source t
     sources_here t = sum_here Source Source (time_at job.events) 1 t refl (share_of q job.events job.shape.workers w) ∙ ap pos (sym (count_share q job w t sound.some_stage))
 
@@ -92,7 +94,7 @@ module _ {Cell : Type 0} (q : QueryFacts Cell) (job : JobFacts) (w : ℕ) where
         both_parts (sum_at (cs ++ ss) loc t) (sum_at cs loc t) (sum_at ss loc t) a b (contribution (outline_of q job) w empty_log loc t) (sum_at-append cs ss loc t) e f g
 
     elsewhere : (loc : Loc) (t : ℕ) → same_loc Ctl loc ≡ false → same_loc Source loc ≡ false → Adds loc t
-    elsewhere loc t e f = parts loc t (pos 0) (pos 0) (controls_elsewhere loc t e) (sources_elsewhere loc t f) (sym (adds_nothing (outline_of q job) w sound loc t e f))
+    elsewhere loc t e f = parts loc t (pos 0) (pos 0) (controls_elsewhere loc t e) (sources_elsewhere loc t f) (sym (adds_nothing (outline_of q job) w sound (nothing_opens q job legal) loc t e f))
 
     each : (loc : Loc) (t : ℕ) → Adds loc t
     each Ctl t = parts Ctl t (contribution (outline_of q job) w empty_log Ctl t) (pos 0) (controls_here t) (sources_elsewhere Ctl t refl) (right_zero (contribution (outline_of q job) w empty_log Ctl t))

@@ -12,7 +12,7 @@ use Rattle.mp_names.specs.declared.names.Name.TheVariants.{Ctrl, Rec, Packet, Ro
 use Rattle.mp_names.specs.declared.names.Tag.{Tag}
 use Rattle.mp_names.specs.declared.pointstamps.Change.{Change}
 use Rattle.mp_names.specs.Frontiers.{contribution, is_held, number_at, sent_less_took}
-use Rattle.mp_names.specs.Logs.{Log, brings_wake, has_record, has_wake, is_ctrl_of, is_given, is_pending, is_record_of, is_wake_here, left_since, with_took}
+use Rattle.mp_names.specs.Logs.{Log, brings_wake, has_record, has_wake, is_ctrl_of, is_given, is_opening_here, is_pending, is_record_of, is_wake_here, left_since, with_took}
 use Rattle.mp_names.specs.Names.{has, is_ctrl, is_packet, is_rec, is_row}
 use Rattle.mp_names.specs.Outlines.{Outline, ctrl_names, groups_of, is_posted, time_of}
 use Rattle.mp_rows.specs.Entries.{AreChanges, change_at, sum_at}
@@ -54,17 +54,25 @@ module _ (o : Outline) (w : ℕ) (log : Log) (s : ℕ) (g : Tag) where
   brings_same j b t u (Packet i c m) = refl
   brings_same j b t u _ = refl
 
+  brought_same : (j b t u : ℕ) → list_any (brings_wake taken j b t u) taken.took ≡ list_any (brings_wake log j b t u) log.took
+  brought_same j b t u = any_more (brings_wake taken j b t u) (Row s g) refl log.took ∙ ap (λ (p : Name → Bool). list_any p log.took) (λ i x. brings_same j b t u x i)
+
   wake_same : (j u k : ℕ) (x : Name) → is_wake_here o taken j u k x ≡ is_wake_here o log j u k x
   wake_same j u k (Rec i t l h) =
       ap
       (λ (b : Bool). l == k && (is_posted o (Rec i t l h) u && (has log.applied (Group j t k) && not (left_since log j (o.bin_of k) t) || b)))
-      (any_more (brings_wake taken j (o.bin_of k) t u) (Row s g) refl log.took ∙ ap (λ (p : Name → Bool). list_any p log.took) (λ i x. brings_same j (o.bin_of k) t u x i))
+      (brought_same j (o.bin_of k) t u)
   wake_same j u k _ = refl
 
-  pending_same : (x : Name) → is_pending o taken x ≡ is_pending o log x
+  opening_same : (j u k : ℕ) → is_opening_here o w taken j u k ≡ is_opening_here o w log j u k
+  opening_same j u k =
+      ap (λ (b : Bool). has (o.opening j) (Group j u k) && (o.first_owner j (o.bin_of k) == w && not (left_since log j (o.bin_of k) 0) || b)) (brought_same j (o.bin_of k) 0 u)
+
+  pending_same : (x : Name) → is_pending o w taken x ≡ is_pending o w log x
   pending_same (Group j u k) =
-      ap (λ (b : Bool). not (has log.applied (Group j u k)) && (b || has_wake o taken j u k)) (any_more (is_record_of j u k) (Row s g) refl log.took)
-      ∙ ap (λ (p : Name → Bool). not (has log.applied (Group j u k)) && (has_record log j u k || list_any p (o.records j))) (λ i x. wake_same j u k x i)
+      ap (λ (b : Bool). not (has log.applied (Group j u k)) && (b || has_wake o w taken j u k)) (any_more (is_record_of j u k) (Row s g) refl log.took)
+      ∙ ap (λ (b : Bool). not (has log.applied (Group j u k)) && (has_record log j u k || (b || list_any (is_wake_here o taken j u k) (o.records j)))) (opening_same j u k)
+      ∙ ap (λ (p : Name → Bool). not (has log.applied (Group j u k)) && (has_record log j u k || (is_opening_here o w log j u k || list_any p (o.records j)))) (λ i x. wake_same j u k x i)
   pending_same _ = refl
 
   took_same : (p : Name → Bool) (u : ℕ) → p (Row s g) ≡ false → sent_less_took o taken p u ≡ sent_less_took o log p u

@@ -16,7 +16,7 @@ pub record WorkerLog : Type 0 where
 
 -- how many names a log may have
 abbrev pub most_names : ℕ
-most_names = 2 ^ 35
+most_names = 2 ^ 33
 
 -- how many changes may come with a name
 abbrev pub most_changes : ℕ

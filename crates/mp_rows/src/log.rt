@@ -24,7 +24,7 @@ use std::snapshot::Snapshot;
 
 // How many names a log may have, and how many changes may come with one. No run comes near these; with them no sum of
 // counts is past its type.
-const MOST_NAMES: u64 = 1 << 35;
+const MOST_NAMES: u64 = 1 << 33;
 
 const MOST_CHANGES: u64 = 1 << 24;
 
@@ -104,7 +104,7 @@ impl<O: Outlined> Log<O> {
     }
 
     /// Adds a name at the end of a list. The changes, each location and time once and none by 0, are what that adds to
-    /// the log's contributions. `AllocError`: no memory, and nothing changes; more than 2^35 names, or 2^24 changes with
+    /// the log's contributions. `AllocError`: no memory, and nothing changes; more than 2^33 names, or 2^24 changes with
     /// one, count as that.
     pub fn push(&mut self, list: LogList, name: Name, changes: &[Change]) -> Result<(), AllocError>
         requires changes { AreChanges O.outline self.old.worker self.old.log (with_name list name self.old.log) changes.now }
@@ -133,7 +133,7 @@ impl<O: Outlined> Log<O> {
 
     /// Adds the names of records of a stage at the end of a list, at least one. The changes, each location and time once
     /// and none by 0, are what that adds to the log's contributions. `AllocError`: no memory, and nothing changes; more
-    /// than 2^35 names, or 2^24 changes, count as that.
+    /// than 2^33 names, or 2^24 changes, count as that.
     pub fn push_records(
         &mut self,
         list: LogList,
@@ -156,7 +156,7 @@ impl<O: Outlined> Log<O> {
     }
 
     /// Adds names at the end of a list, all at once. The changes, each location and time once and none by 0, are what that
-    /// adds to the log's contributions. `AllocError`: no memory, and nothing changes; more than 2^35 names, or 2^24 changes,
+    /// adds to the log's contributions. `AllocError`: no memory, and nothing changes; more than 2^33 names, or 2^24 changes,
     /// count as that.
     pub fn push_all(
         &mut self,

@@ -4,6 +4,7 @@ ghost use Rattle.mp_names.specs.Logs.{empty_log};
 ghost use Rattle.mp_outline.specs.JobOutline.{outline_of};
 ghost use Rattle.mp_rows.specs.Entries.{AreContributions};
 ghost use Rattle.mp_rows.specs.Opening.{control_entries, source_entries};
+ghost use Rattle.mp_model.specs.Tables.{table_of};
 
 use crate::{Change, Pointstamp};
 use mp_job::{Control, Event, Job, Query};
@@ -18,7 +19,7 @@ pub fn opening_entries<Q: Query>(
     worker: u32,
 ) -> Result<Vec<Change>, AllocError>
     requires { worker < job.now.shape.workers }
-    ensures { let o = outline_of (Q.facts job.now.rules) job.now in
+    ensures { let o = outline_of (table_of Q.facts job.now) job.now in
         IfOk result (λ v. AreContributions o worker empty_log v.items) }
 {
     let shape = job.shape();

@@ -17,6 +17,7 @@ pub struct OutlineOf<Q: Query, J: Naming> {
 
 impl<Q: Query, J: Naming> Outlined for OutlineOf<Q, J> {
     ghost use Rattle.mp_outline.specs.JobOutline.{outline_of};
+    ghost use Rattle.mp_model.specs.Tables.{table_of};
 
-    ghost outline = { outline_of (Q.facts J.job.rules) J.job };
+    ghost outline = { outline_of (table_of Q.facts J.job) J.job };
 }

@@ -87,11 +87,11 @@ next_stage i j =
     (λ e. eq-eqb (suc j) (suc i) (let q = eqb-true j i e in omega arith))
 
 module _
-    (o : Outline) (w : ℕ) (log : Log) (ok : OutlineIsSound o) (good : LogIsLegal o w log) (j t k : ℕ) (woken : List ℕ) (waits : IsWaiting o log j (Group j t k))
+    (o : Outline) (w : ℕ) (log : Log) (ok : OutlineIsSound o) (good : LogIsLegal o w log) (j t k : ℕ) (woken : List ℕ) (waits : IsWaiting o w log j (Group j t k))
     (once : AllPairs (λ u v. u ≢ v) woken)
-    (are : (u : ℕ) → (Contains woken u ↔ ((is_pending o (with_applied log (Group j t k)) (Group j u k) ≡ true) × (is_pending o log (Group j u k) ≡ false)))) where
+    (are : (u : ℕ) → (Contains woken u ↔ ((is_pending o w (with_applied log (Group j t k)) (Group j u k) ≡ true) × (is_pending o w log (Group j u k) ≡ false)))) where
   fresh : has log.applied (Group j t k) ≡ false
-  fresh = pending_new o log j t k waits.1
+  fresh = pending_new o w log j t k waits.1
 
   stage : j < o.stages
   stage = (groups_are o ok j (Group j t k) waits.0).0
@@ -140,9 +140,9 @@ module _
   body (Move i) u = calm (Move i) u refl refl (contribution o w log (Move i) u) (contribution o w log (Move i) u) refl
   body (State i) u = calm (State i) u refl refl (contribution o w log (State i) u) (contribution o w log (State i) u) refl
   body (Host i) u =
-      at_host (elsewhere (Host i)) (t == u) (j == i) (t == u) (outputs_of o j t k) (times_in woken u) (number_at o (is_pending o (with_applied log (Group j t k))) u (groups_of o i)) (number_at o (is_pending o log) u (groups_of o i))
+      at_host (elsewhere (Host i)) (t == u) (j == i) (t == u) (outputs_of o j t k) (times_in woken u) (number_at o (is_pending o w (with_applied log (Group j t k))) u (groups_of o i)) (number_at o (is_pending o w log) u (groups_of o i))
       (not_route (Host i) refl refl)
-      (λ e. subst (λ (n : ℕ). number_at o (is_pending o (with_applied log (Group j t k))) u (groups_of o n) + cond (t == u) 1 0 ≡ number_at o (is_pending o log) u (groups_of o n) + times_in woken u) (eqb-true j i e) (waiting o w log ok good j t k waits woken once are u))
+      (λ e. subst (λ (n : ℕ). number_at o (is_pending o w (with_applied log (Group j t k))) u (groups_of o n) + cond (t == u) 1 0 ≡ number_at o (is_pending o w log) u (groups_of o n) + times_in woken u) (eqb-true j i e) (waiting o w log ok good j t k waits woken once are u))
       (λ e. waiting_elsewhere o w log ok good j t k waits i u e)
   body OutRoute u =
       at_route (cond (elsewhere OutRoute && t == u) (outputs_of o j t k) 0) _ _

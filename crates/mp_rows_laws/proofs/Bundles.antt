@@ -143,10 +143,10 @@ abbrev MayCome : Outline → ℕ → Log → ℕ → ℕ → Name → Type 0
 MayCome o w log j t x = (is_rec j x ≡ true) × (time_of o x ≡ t) × IsOwedTo o w x × (has log.applied (group_of x) ≡ false)
 
 module _ (o : Outline) (w : ℕ) (ok : OutlineIsSound o) (j t : ℕ) where
-  one_taken : (log : Log) (x : Name) → MayCome o w log j t x → (loc : Loc) (u : ℕ) → sum_at (record_taken_at j t (is_pending o log (group_of x))) loc u ≡ contribution o w (with_took log x) loc u -ℤ contribution o w log loc u
+  one_taken : (log : Log) (x : Name) → MayCome o w log j t x → (loc : Loc) (u : ℕ) → sum_at (record_taken_at j t (is_pending o w log (group_of x))) loc u ≡ contribution o w (with_took log x) loc u -ℤ contribution o w log loc u
   one_taken log (Rec i s k g) h loc u =
-      subst₂ (λ (n m : ℕ). sum_at (record_taken_at n m (is_pending o log (Group i s k))) loc u ≡ contribution o w (with_took log (Rec i s k g)) loc u -ℤ contribution o w log loc u) (eqb-true i j h.0) h.1
-      ((taken_unapplied o w log ok i s k g h.2 h.3 (is_pending o log (Group i s k)) refl).sums loc u)
+      subst₂ (λ (n m : ℕ). sum_at (record_taken_at n m (is_pending o w log (Group i s k))) loc u ≡ contribution o w (with_took log (Rec i s k g)) loc u -ℤ contribution o w log loc u) (eqb-true i j h.0) h.1
+      ((taken_unapplied o w log ok i s k g h.2 h.3 (is_pending o w log (Group i s k)) refl).sums loc u)
   one_taken log (Ctrl i v) h loc u = absurd (false≢true h.0)
   one_taken log (Packet i b s) h loc u = absurd (false≢true h.0)
   one_taken log (Row s g) h loc u = absurd (false≢true h.0)
@@ -155,15 +155,15 @@ module _ (o : Outline) (w : ℕ) (ok : OutlineIsSound o) (j t : ℕ) where
   one_taken log (Written s) h loc u = absurd (false≢true h.0)
 
   all_taken : (xs : List Name) (log : Log) → ((x : Name) → In x xs → MayCome o w log j t x)
-      → (loc : Loc) (u : ℕ) → cond (same_loc (Mail j) loc && t == u) (neg_ℤ (pos (length xs))) (pos 0) +ℤ cond (same_loc (Host j) loc && t == u) (pos (new_groups o log xs)) (pos 0) ≡ contribution o w (with_names Took xs log) loc u -ℤ contribution o w log loc u
+      → (loc : Loc) (u : ℕ) → cond (same_loc (Mail j) loc && t == u) (neg_ℤ (pos (length xs))) (pos 0) +ℤ cond (same_loc (Host j) loc && t == u) (pos (new_groups o w log xs)) (pos 0) ≡ contribution o w (with_names Took xs log) loc u -ℤ contribution o w log loc u
   all_taken [] log h loc u =
       none_taken (same_loc (Mail j) loc && t == u) (same_loc (Host j) loc && t == u) ∙ same_again _ _ (ap (λ (l : Log). contribution o w l loc u) (with_none Took log))
   all_taken (x ∷ xs) log h loc u =
       let mail = same_loc (Mail j) loc && t == u in
       let host = same_loc (Host j) loc && t == u in
-      let waited = is_pending o log (group_of x) in
+      let waited = is_pending o w log (group_of x) in
       let n = length xs in
-      let m = new_groups o (with_took log x) xs in
+      let m = new_groups o w (with_took log x) xs in
       let one = ap (λ (z : ℤ). cond mail (negsuc 0) (pos 0) +ℤ z) (sym (sum_unless waited (Host j) t loc u)) ∙ one_taken log x (h x (In_here x xs)) loc u in
       let others = all_taken xs (with_took log x) (λ y i. h y (In_later y x xs i)) loc u in
       let whole = ap (λ (ys : List Name). contribution o w (record log { took = ys }) loc u) (append_assoc log.took (x ∷ []) xs) in
@@ -191,7 +191,7 @@ pub records_taken : TakenRecordsAreCounted
 records_taken o w log ok good j t xs some h =
     let less = change_at (Mail j) t (neg_ℤ (pos (length xs))) in
     record {
-      sums = λ loc u. ap (λ (z : ℤ). cond (same_loc (Mail j) loc && t == u) (neg_ℤ (pos (length xs))) (pos 0) +ℤ z) (some_sum (Host j) t (new_groups o log xs) loc u) ∙ all_taken o w ok j t xs log (λ x i. may_come o w log good j t x (h x i)) loc u;
-      once = some_once less (Host j) t (new_groups o log xs) (λ e. cc);
-      none_by_zero = some_not_zero less (Host j) t (new_groups o log xs) (not_none (length xs) some);
+      sums = λ loc u. ap (λ (z : ℤ). cond (same_loc (Mail j) loc && t == u) (neg_ℤ (pos (length xs))) (pos 0) +ℤ z) (some_sum (Host j) t (new_groups o w log xs) loc u) ∙ all_taken o w ok j t xs log (λ x i. may_come o w log good j t x (h x i)) loc u;
+      once = some_once less (Host j) t (new_groups o w log xs) (λ e. cc);
+      none_by_zero = some_not_zero less (Host j) t (new_groups o w log xs) (not_none (length xs) some);
     }

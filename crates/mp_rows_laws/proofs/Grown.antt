@@ -1,25 +1,25 @@
 -- Groups that wait are groups of the stage, and where nothing is lost from one log to another a wake that is here stays.
-use Rattle.std.proofs.Common.{◌≡◌, ℕ, ◌&&◌, ◌||◌, ◌==◌, nat_le, nat_lt, true, false, not, List, ap, ◌∙◌, subst, ⊎_elim}
+use Rattle.std.proofs.Common.{◌≡◌, ◌⊎◌, ℕ, ◌&&◌, ◌||◌, ◌==◌, nat_le, nat_lt, true, false, not, List, ap, ◌∙◌, subst, inl, inr, ⊎_elim}
 use Rattle.std.specs.List.{list_any}
 use Rattle.std.proofs.lemmas.Bool.{false≢true, and_from, and_parts, eqb-true, not-true, not_from_false, or_cases, or_left, or_right}
 use Rattle.mp_names.specs.declared.names.Name.{Name}
 use Rattle.mp_names.specs.declared.names.Name.TheVariants.{Rec, Packet, Group}
 use Rattle.mp_names.specs.declared.names.Tag.{Tag}
-use Rattle.mp_names.specs.Logs.{Log, brings_wake, has_record, has_wake, is_pending, is_record_of, is_wake_here, left_since}
+use Rattle.mp_names.specs.Logs.{Log, brings_wake, has_record, has_wake, is_opening_here, is_pending, is_record_of, is_wake_here, left_since}
 use Rattle.mp_names.specs.Names.{has, In}
 use Rattle.mp_names.specs.Outlines.{Outline, OutlineIsSound, groups_of, is_posted}
-use Rattle.mp_names.proofs.Hosts.{wake_woken, woken_at}
-use Rattle.mp_names.proofs.Listed.{posted_group, record_group}
+use Rattle.mp_names.proofs.Hosts.{Brought, brought_at, brought_from, opening_at, opening_from, wake_woken, woken_group}
+use Rattle.mp_names.proofs.Listed.{record_group}
 use Rattle.mp_names.proofs.Lists.{any_at, any_from}
 
 -- a group that waits is one of the stage, where only records of the job are taken
-pub waiting_group : (o : Outline) → OutlineIsSound o → (log : Log) → ((i s l : ℕ) (g : Tag) → In (Rec i s l g) log.took → In (Rec i s l g) (o.records i)) → (j u k : ℕ) → is_pending o log (Group j u k) ≡ true → In (Group j u k) (groups_of o j)
-waiting_group o ok log known j u k h =
-    let p = and_parts (not (has log.applied (Group j u k))) (has_record log j u k || has_wake o log j u k) h in
+pub waiting_group : (o : Outline) → OutlineIsSound o → (w : ℕ) (log : Log) → ((i s l : ℕ) (g : Tag) → In (Rec i s l g) log.took → In (Rec i s l g) (o.records i)) → (j u k : ℕ) → is_pending o w log (Group j u k) ≡ true → In (Group j u k) (groups_of o j)
+waiting_group o ok w log known j u k h =
+    let p = and_parts (not (has log.applied (Group j u k))) (has_record log j u k || has_wake o w log j u k) h in
     ⊎_elim
     (λ (f : has_record log j u k ≡ true). let r = any_at (is_record_of j u k) log.took f in by_record r.0 r.1 r.2)
-    (λ (f : has_wake o log j u k ≡ true). let r = woken_at o ok j u k (wake_woken o log j u k f) in posted_group o j r.0 k u r.1 r.2 r.3)
-    (or_cases (has_record log j u k) (has_wake o log j u k) p.1)
+    (λ (f : has_wake o w log j u k ≡ true). woken_group o ok j u k (wake_woken o w log j u k f))
+    (or_cases (has_record log j u k) (has_wake o w log j u k) p.1)
   where
     by_record : (x : Name) → In x log.took → is_record_of j u k x ≡ true → In (Group j u k) (groups_of o j)
     by_record (Rec i s l g) f e =
@@ -50,7 +50,7 @@ module _ (o : Outline) (log new : Log) where
 
   -- the wakes of a key
   module _
-      (j u k : ℕ)
+      (w j u k : ℕ)
       (applied : (s : ℕ) → In (Group j s k) log.applied → In (Group j s k) new.applied)
       (left : (m : ℕ) → left_since log j (o.bin_of k) m ≡ false → left_since new j (o.bin_of k) m ≡ false)
       (brought : (s : ℕ) → list_any (brings_wake log j (o.bin_of k) s u) log.took ≡ true → list_any (brings_wake new j (o.bin_of k) s u) new.took ≡ true) where
@@ -76,15 +76,33 @@ module _ (o : Outline) (log new : Log) where
         (or_cases old_here old_came q.1)))
     here_grows _ e = absurd (false≢true e)
 
-    pub wake_grows : has_wake o log j u k ≡ true → has_wake o new j u k ≡ true
-    wake_grows h = let r = any_at (is_wake_here o log j u k) (o.records j) h in any_from (is_wake_here o new j u k) r.0 (o.records j) r.1 (here_grows r.0 r.2)
+    opening_grows : is_opening_here o w log j u k ≡ true → is_opening_here o w new j u k ≡ true
+    opening_grows h =
+        let b = o.bin_of k in
+        let r = opening_at o w log j u k h in
+        opening_from o w new j u k (
+          r.0,
+          ⊎_elim
+              (λ (d : (o.first_owner j b ≡ w) × (left_since log j b 0 ≡ false)). inl (d.0, left 0 d.1))
+              (λ (d : Brought log j b 0 u). inr (brought_at new j b 0 u (brought 0 (brought_from log j b 0 u d))))
+              r.1,
+        )
+
+    pub wake_grows : has_wake o w log j u k ≡ true → has_wake o w new j u k ≡ true
+    wake_grows h =
+        ⊎_elim
+        (λ (e : is_opening_here o w log j u k ≡ true). or_left (is_opening_here o w new j u k) (list_any (is_wake_here o new j u k) (o.records j)) (opening_grows e))
+        (λ (e : list_any (is_wake_here o log j u k) (o.records j) ≡ true).
+        let r = any_at (is_wake_here o log j u k) (o.records j) e in
+        or_right (is_opening_here o w new j u k) (list_any (is_wake_here o new j u k) (o.records j)) (any_from (is_wake_here o new j u k) r.0 (o.records j) r.1 (here_grows r.0 r.2)))
+        (or_cases (is_opening_here o w log j u k) (list_any (is_wake_here o log j u k) (o.records j)) h)
 
     -- a group that waits, waits on, unless it is applied
-    pub waiting_grows : has new.applied (Group j u k) ≡ has log.applied (Group j u k) → (has_record log j u k ≡ true → has_record new j u k ≡ true) → is_pending o log (Group j u k) ≡ true → is_pending o new (Group j u k) ≡ true
+    pub waiting_grows : has new.applied (Group j u k) ≡ has log.applied (Group j u k) → (has_record log j u k ≡ true → has_record new j u k ≡ true) → is_pending o w log (Group j u k) ≡ true → is_pending o w new (Group j u k) ≡ true
     waiting_grows same record_stays h =
-        let p = and_parts (not (has log.applied (Group j u k))) (has_record log j u k || has_wake o log j u k) h in
-        and_from (not (has new.applied (Group j u k))) (has_record new j u k || has_wake o new j u k) (ap not same ∙ p.0)
+        let p = and_parts (not (has log.applied (Group j u k))) (has_record log j u k || has_wake o w log j u k) h in
+        and_from (not (has new.applied (Group j u k))) (has_record new j u k || has_wake o w new j u k) (ap not same ∙ p.0)
         (⊎_elim
-        (λ (f : has_record log j u k ≡ true). or_left (has_record new j u k) (has_wake o new j u k) (record_stays f))
-        (λ (f : has_wake o log j u k ≡ true). or_right (has_record new j u k) (has_wake o new j u k) (wake_grows f))
-        (or_cases (has_record log j u k) (has_wake o log j u k) p.1))
+        (λ (f : has_record log j u k ≡ true). or_left (has_record new j u k) (has_wake o w new j u k) (record_stays f))
+        (λ (f : has_wake o w log j u k ≡ true). or_right (has_record new j u k) (has_wake o w new j u k) (wake_grows f))
+        (or_cases (has_record log j u k) (has_wake o w log j u k) p.1))

@@ -70,7 +70,7 @@ module _
   each (Mail i) u = nothing (contribution o w log (Mail i) u) (contribution o w log (Mail i) u) refl
   each (Move i) u = nothing (contribution o w log (Move i) u) (contribution o w log (Move i) u) refl
   each (State i) u = nothing (contribution o w log (State i) u) (contribution o w log (State i) u) refl
-  each (Host i) u = nothing _ _ (ap pos (number_same o u (is_pending o new) (is_pending o log) (groups_of o i) (λ y h. pending_kept o log new refl refl refl y)))
+  each (Host i) u = nothing _ _ (ap pos (number_same o u (is_pending o w new) (is_pending o w log) (groups_of o i) (λ y h. pending_kept o log new w refl refl refl y)))
   each OutRoute u = nothing _ _ (ap pos (kept u o.rows (no_row o ok x refl)))
   each OutMail u = nothing (contribution o w log OutMail u) (contribution o w log OutMail u) refl
 

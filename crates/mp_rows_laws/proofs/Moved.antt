@@ -97,22 +97,22 @@ module _ (j : ℕ) where
       omega arith
 
 module _
-    (o : Outline) (ok : OutlineIsSound o) (fewer more : Log) (j : ℕ) (gs : List (ℕ × ℕ)) (known : (i s l : ℕ) (g : Tag) → In (Rec i s l g) more.took → In (Rec i s l g) (o.records i))
-    (grows : (u k : ℕ) → is_pending o fewer (Group j u k) ≡ true → is_pending o more (Group j u k) ≡ true)
+    (o : Outline) (ok : OutlineIsSound o) (w : ℕ) (fewer more : Log) (j : ℕ) (gs : List (ℕ × ℕ)) (known : (i s l : ℕ) (g : Tag) → In (Rec i s l g) more.took → In (Rec i s l g) (o.records i))
+    (grows : (u k : ℕ) → is_pending o w fewer (Group j u k) ≡ true → is_pending o w more (Group j u k) ≡ true)
     (once : AllPairs (λ f g. f ≢ g) gs)
-    (are : (u k : ℕ) → (Contains gs (u, k) ↔ ((is_pending o more (Group j u k) ≡ true) × (is_pending o fewer (Group j u k) ≡ false)))) where
-  each_group : (u : ℕ) (y : Name) → In y (groups_of o j) → one (is_pending o more y && time_of o y == u) ≡ one (is_pending o fewer y && time_of o y == u) + one (time_of o y == u && has (names_of j gs) y)
+    (are : (u k : ℕ) → (Contains gs (u, k) ↔ ((is_pending o w more (Group j u k) ≡ true) × (is_pending o w fewer (Group j u k) ≡ false)))) where
+  each_group : (u : ℕ) (y : Name) → In y (groups_of o j) → one (is_pending o w more y && time_of o y == u) ≡ one (is_pending o w fewer y && time_of o y == u) + one (time_of o y == u && has (names_of j gs) y)
   each_group u (Group i s k) h =
-      subst (λ (n : ℕ). one (is_pending o more (Group n s k) && s == u) ≡ one (is_pending o fewer (Group n s k) && s == u) + one (s == u && has (names_of j gs) (Group n s k))) (sym (eqb-true i j (groups_are o ok j (Group i s k) h).1))
-      (one_of_two (is_pending o more (Group j s k)) (is_pending o fewer (Group j s k)) (has (names_of j gs) (Group j s k)) (s == u)
+      subst (λ (n : ℕ). one (is_pending o w more (Group n s k) && s == u) ≡ one (is_pending o w fewer (Group n s k) && s == u) + one (s == u && has (names_of j gs) (Group n s k))) (sym (eqb-true i j (groups_are o ok j (Group i s k) h).1))
+      (one_of_two (is_pending o w more (Group j s k)) (is_pending o w fewer (Group j s k)) (has (names_of j gs) (Group j s k)) (s == u)
       (λ e. (are s k).0 (listed j gs s k e))
       (λ e f. named j gs (s, k) ((are s k).1 (e, f)))
       (grows s k))
   each_group u y h = absurd (false≢true (groups_are o ok j y h).1)
 
-  pub more_waiting : (u : ℕ) → waiting_at o more j u ≡ waiting_at o fewer j u + count_by (λ g. g.0 == u) gs
+  pub more_waiting : (u : ℕ) → waiting_at o w more j u ≡ waiting_at o w fewer j u + count_by (λ g. g.0 == u) gs
   more_waiting u =
-      let a = count_two (λ y. is_pending o more y && time_of o y == u) (λ y. is_pending o fewer y && time_of o y == u) (λ y. time_of o y == u && has (names_of j gs) y) (groups_of o j) (each_group u) in
+      let a = count_two (λ y. is_pending o w more y && time_of o y == u) (λ y. is_pending o w fewer y && time_of o y == u) (λ y. time_of o y == u && has (names_of j gs) y) (groups_of o j) (each_group u) in
       let b = count_inside (λ y. time_of o y == u) (names_of j gs) (groups_of o j) (names_once j gs once) (groups_once o ok j) (λ x i e. in_stage x i) in
       let c = names_counted j o u gs in
       omega arith
@@ -120,7 +120,7 @@ module _
       in_stage : (x : Name) → In x (names_of j gs) → In x (groups_of o j)
       in_stage x i =
           let r = named_at j gs x i in
-          subst (λ (y : Name). In y (groups_of o j)) r.2 (waiting_group o ok more known j r.0.0 r.0.1 ((are r.0.0 r.0.1).0 r.1).0)
+          subst (λ (y : Name). In y (groups_of o j)) r.2 (waiting_group o ok w more known j r.0.0 r.0.1 ((are r.0.0 r.0.1).0 r.1).0)
 
 module _ (o : Outline) (w : ℕ) (log : Log) (ok : OutlineIsSound o) (good : LogIsLegal o w log) (j b t : ℕ) where
   abbrev packet : Name
@@ -131,25 +131,25 @@ module _ (o : Outline) (w : ℕ) (log : Log) (ok : OutlineIsSound o) (good : Log
   abbrev sent : Log
   sent = with_sent log packet
 
-  sent_grows : (u k : ℕ) → is_pending o sent (Group j u k) ≡ true → is_pending o log (Group j u k) ≡ true
-  sent_grows u k = waiting_grows o sent log j u k (λ s i. i) left (λ s. brought_grows o sent log j (o.bin_of k) s u left log.took) refl (λ h. h)
+  sent_grows : (u k : ℕ) → is_pending o w sent (Group j u k) ≡ true → is_pending o w log (Group j u k) ≡ true
+  sent_grows u k = waiting_grows o sent log w j u k (λ s i. i) left (λ s. brought_grows o sent log j (o.bin_of k) s u left log.took) refl (λ h. h)
     where
       left : (m : ℕ) → left_since sent j (o.bin_of k) m ≡ false → left_since log j (o.bin_of k) m ≡ false
       left m e =
           let p = is_packet_after j (o.bin_of k) m in
           (or_parts (list_any p log.sent) (p packet) (sym (any_push p log.sent packet) ∙ e)).0
 
-  pub groups_leave : (gs : List (ℕ × ℕ)) → AllPairs (λ f g. f ≢ g) gs → ((u k : ℕ) → (Contains gs (u, k) ↔ ((is_pending o log (Group j u k) ≡ true) × (is_pending o sent (Group j u k) ≡ false)))) → (u : ℕ) → waiting_at o log j u ≡ waiting_at o sent j u + count_by (λ g. g.0 == u) gs
-  groups_leave gs once are = more_waiting o ok sent log j gs (λ i s l g h. (good.took_owed (Rec i s l g) h).0.1) sent_grows once are
+  pub groups_leave : (gs : List (ℕ × ℕ)) → AllPairs (λ f g. f ≢ g) gs → ((u k : ℕ) → (Contains gs (u, k) ↔ ((is_pending o w log (Group j u k) ≡ true) × (is_pending o w sent (Group j u k) ≡ false)))) → (u : ℕ) → waiting_at o w log j u ≡ waiting_at o w sent j u + count_by (λ g. g.0 == u) gs
+  groups_leave gs once are = more_waiting o ok w sent log j gs (λ i s l g h. (good.took_owed (Rec i s l g) h).0.1) sent_grows once are
 
   -- a packet that is taken brings some
 
   abbrev took : Log
   took = with_took log packet
 
-  took_grows : (u k : ℕ) → is_pending o log (Group j u k) ≡ true → is_pending o took (Group j u k) ≡ true
+  took_grows : (u k : ℕ) → is_pending o w log (Group j u k) ≡ true → is_pending o w took (Group j u k) ≡ true
   took_grows u k =
-      waiting_grows o log took j u k (λ s i. i) (λ m e. e)
+      waiting_grows o log took w j u k (λ s i. i) (λ m e. e)
       (λ s e. stays (brings_wake took j (o.bin_of k) s u) (brought_grows o log took j (o.bin_of k) s u (λ m f. f) log.took e))
       refl
       (stays (is_record_of j u k))
@@ -157,8 +157,8 @@ module _ (o : Outline) (w : ℕ) (log : Log) (ok : OutlineIsSound o) (good : Log
       stays : (p : Name → Bool) → list_any p log.took ≡ true → list_any p took.took ≡ true
       stays p e = any_push p log.took packet ∙ or_left (list_any p log.took) (p packet) e
 
-  pub groups_come : (gs : List (ℕ × ℕ)) → AllPairs (λ f g. f ≢ g) gs → ((u k : ℕ) → (Contains gs (u, k) ↔ ((is_pending o took (Group j u k) ≡ true) × (is_pending o log (Group j u k) ≡ false)))) → (u : ℕ) → waiting_at o took j u ≡ waiting_at o log j u + count_by (λ g. g.0 == u) gs
-  groups_come gs once are = more_waiting o ok log took j gs known took_grows once are
+  pub groups_come : (gs : List (ℕ × ℕ)) → AllPairs (λ f g. f ≢ g) gs → ((u k : ℕ) → (Contains gs (u, k) ↔ ((is_pending o w took (Group j u k) ≡ true) × (is_pending o w log (Group j u k) ≡ false)))) → (u : ℕ) → waiting_at o w took j u ≡ waiting_at o w log j u + count_by (λ g. g.0 == u) gs
+  groups_come gs once are = more_waiting o ok w log took j gs known took_grows once are
     where
       known : (i s l : ℕ) (g : Tag) → In (Rec i s l g) took.took → In (Rec i s l g) (o.records i)
       known i s l g h = ⊎_elim (λ (f : In (Rec i s l g) log.took). (good.took_owed (Rec i s l g) f).0.1) (λ (e : packet ≡ Rec i s l g). absurd (no_record e)) (In_push (Rec i s l g) packet log.took h)

@@ -78,22 +78,22 @@ more_wait true n x y f g = let h = f refl in omega (arith, ints)
 more_wait false n x y f g = let h = g refl in omega (arith, ints)
 
 -- the groups of a stage, by each one
-of_stage : (o : Outline) → OutlineIsSound o → (new log : Log) (i u : ℕ) → ((s k : ℕ) → is_pending o new (Group i s k) ≡ is_pending o log (Group i s k)) → waiting_at o new i u ≡ waiting_at o log i u
-of_stage o ok new log i u h = number_same o u (is_pending o new) (is_pending o log) (groups_of o i) same
+of_stage : (o : Outline) → OutlineIsSound o → (w : ℕ) (new log : Log) (i u : ℕ) → ((s k : ℕ) → is_pending o w new (Group i s k) ≡ is_pending o w log (Group i s k)) → waiting_at o w new i u ≡ waiting_at o w log i u
+of_stage o ok w new log i u h = number_same o u (is_pending o w new) (is_pending o w log) (groups_of o i) same
   where
-    same : (y : Name) → In y (groups_of o i) → is_pending o new y ≡ is_pending o log y
-    same (Group n s k) g = subst (λ (m : ℕ). is_pending o new (Group m s k) ≡ is_pending o log (Group m s k)) (sym (eqb-true n i (groups_are o ok i (Group n s k) g).1)) (h s k)
+    same : (y : Name) → In y (groups_of o i) → is_pending o w new y ≡ is_pending o w log y
+    same (Group n s k) g = subst (λ (m : ℕ). is_pending o w new (Group m s k) ≡ is_pending o w log (Group m s k)) (sym (eqb-true n i (groups_are o ok i (Group n s k) g).1)) (h s k)
     same _ g = refl
 
-module _ (o : Outline) (w : ℕ) (log : Log) (ok : OutlineIsSound o) (j b t : ℕ) (left : List (ℕ × ℕ)) (more : AreMore o j (with_sent log (Packet j b t)) log left) where
+module _ (o : Outline) (w : ℕ) (log : Log) (ok : OutlineIsSound o) (j b t : ℕ) (left : List (ℕ × ℕ)) (more : AreMore o w j (with_sent log (Packet j b t)) log left) where
   abbrev packet : Name
   packet = Packet j b t
 
   abbrev sent : Log
   sent = with_sent log packet
 
-  other_stage : (i u : ℕ) → (j == i) ≡ false → waiting_at o sent i u ≡ waiting_at o log i u
-  other_stage i u e = of_stage o ok sent log i u (λ s k. pending_same o log sent i s k (λ m. refl) (kept (o.bin_of k)) (λ m. brought_same o log sent i (o.bin_of k) m s (kept (o.bin_of k)) log.took) refl)
+  other_stage : (i u : ℕ) → (j == i) ≡ false → waiting_at o w sent i u ≡ waiting_at o w log i u
+  other_stage i u e = of_stage o ok w sent log i u (λ s k. pending_same o log sent w i s k (λ m. refl) (kept (o.bin_of k)) (λ m. brought_same o log sent i (o.bin_of k) m s (kept (o.bin_of k)) log.took) refl)
     where
       kept : (c m : ℕ) → left_since sent i c m ≡ left_since log i c m
       kept c m = any_other (is_packet_after i c m) log.sent packet (and_left (j == i) (b == c && nat_lt m t) e)
@@ -107,8 +107,8 @@ module _ (o : Outline) (w : ℕ) (log : Log) (ok : OutlineIsSound o) (j b t : �
   sent_body (Move i) u = nothing (contribution o w log (Move i) u) (contribution o w log (Move i) u) refl
   sent_body (State i) u = at_packets (j == i && t == u) _ _ _ (number_push o (is_packet i) u log.sent packet)
   sent_body (Host i) u =
-      fewer_wait (j == i) (number_in left u) (waiting_at o sent i u) (waiting_at o log i u)
-      (λ e. subst (λ (n : ℕ). waiting_at o log n u ≡ waiting_at o sent n u + number_in left u) (eqb-true j i e) (more.numbers u))
+      fewer_wait (j == i) (number_in left u) (waiting_at o w sent i u) (waiting_at o w log i u)
+      (λ e. subst (λ (n : ℕ). waiting_at o w log n u ≡ waiting_at o w sent n u + number_in left u) (eqb-true j i e) (more.numbers u))
       (λ e. other_stage i u e)
   sent_body OutRoute u = nothing _ _ (ap pos (sent_held o w log packet u o.rows (no_row o ok packet refl)))
   sent_body OutMail u = nothing _ _ (sent_mail o w log packet is_row u refl)
@@ -132,15 +132,15 @@ module _ (o : Outline) (w : ℕ) (log : Log) (ok : OutlineIsSound o) (j b t : �
         (All-map IsNotZero (λ n. change_at (Host j) n.0 (neg_ℤ (pos n.1))) left (All-weaker (λ n. n.1 ≢ 0) (λ n. IsNotZero (change_at (Host j) n.0 (neg_ℤ (pos n.1)))) (λ n h. not_nothing n.1 h) left more.none_is_zero));
   }
 
-module _ (o : Outline) (w : ℕ) (log : Log) (ok : OutlineIsSound o) (j b t : ℕ) (come : List (ℕ × ℕ)) (more : AreMore o j log (with_took log (Packet j b t)) come) where
+module _ (o : Outline) (w : ℕ) (log : Log) (ok : OutlineIsSound o) (j b t : ℕ) (come : List (ℕ × ℕ)) (more : AreMore o w j log (with_took log (Packet j b t)) come) where
   abbrev bin_packet : Name
   bin_packet = Packet j b t
 
   abbrev took : Log
   took = with_took log bin_packet
 
-  stage_kept : (i u : ℕ) → (j == i) ≡ false → waiting_at o took i u ≡ waiting_at o log i u
-  stage_kept i u e = of_stage o ok took log i u (λ s k. pending_same o log took i s k (λ m. refl) (λ m. refl) (λ m. kept (o.bin_of k) m s) (any_other (is_record_of i s k) log.took bin_packet refl))
+  stage_kept : (i u : ℕ) → (j == i) ≡ false → waiting_at o w took i u ≡ waiting_at o w log i u
+  stage_kept i u e = of_stage o ok w took log i u (λ s k. pending_same o log took w i s k (λ m. refl) (λ m. refl) (λ m. kept (o.bin_of k) m s) (any_other (is_record_of i s k) log.took bin_packet refl))
     where
       kept : (c m v : ℕ) → list_any (brings_wake took i c m v) took.took ≡ list_any (brings_wake log i c m v) log.took
       kept c m v =
@@ -156,8 +156,8 @@ module _ (o : Outline) (w : ℕ) (log : Log) (ok : OutlineIsSound o) (j b t : �
   taken_body (Move i) u = nothing _ _ (ap (λ (c : Bool). pos (cond (c && not (has log.settled (Settled i u))) 1 0)) (any_other (is_ctrl_of o i u) log.took bin_packet refl))
   taken_body (State i) u = at_packets_less (j == i && t == u) _ _ _ (number_push o (is_packet i) u log.took bin_packet)
   taken_body (Host i) u =
-      more_wait (j == i) (number_in come u) (waiting_at o took i u) (waiting_at o log i u)
-      (λ e. subst (λ (n : ℕ). waiting_at o took n u ≡ waiting_at o log n u + number_in come u) (eqb-true j i e) (more.numbers u))
+      more_wait (j == i) (number_in come u) (waiting_at o w took i u) (waiting_at o w log i u)
+      (λ e. subst (λ (n : ℕ). waiting_at o w took n u ≡ waiting_at o w log n u + number_in come u) (eqb-true j i e) (more.numbers u))
       (λ e. stage_kept i u e)
   taken_body OutRoute u = nothing _ _ (ap pos (took_held o w log bin_packet u o.rows))
   taken_body OutMail u = nothing _ _ (took_mail o w log bin_packet is_row u refl)

@@ -28,7 +28,7 @@ legal : LogIsLegal two_moves 0 auction_taken
 unfolding auction
 legal = took_keeps two_moves 0 empty_log (empty_is_legal two_moves 0) auction refl owed
 
-waits : IsWaiting two_moves auction_taken 0 (Group 0 0 1)
+waits : IsWaiting two_moves 0 auction_taken 0 (Group 0 0 1)
 unfolding groups_of ascending
 waits = (refl, refl)
 
@@ -38,27 +38,27 @@ closing_times = 100 ∷ []
 one_time : AllPairs (λ u v. u ≢ v) closing_times
 one_time = λ i j d l m. absurd (omega arith)
 
-told : (u : ℕ) → Contains closing_times u → (is_pending two_moves closed (Group 0 u 1) ≡ true) × (is_pending two_moves auction_taken (Group 0 u 1) ≡ false)
+told : (u : ℕ) → Contains closing_times u → (is_pending two_moves 0 closed (Group 0 u 1) ≡ true) × (is_pending two_moves 0 auction_taken (Group 0 u 1) ≡ false)
 unfolding closed
-told u c = subst (λ (v : ℕ). (is_pending two_moves closed (Group 0 v 1) ≡ true) × (is_pending two_moves auction_taken (Group 0 v 1) ≡ false)) (first c.0 c.1 c.2) (refl, refl)
+told u c = subst (λ (v : ℕ). (is_pending two_moves 0 closed (Group 0 v 1) ≡ true) × (is_pending two_moves 0 auction_taken (Group 0 v 1) ≡ false)) (first c.0 c.1 c.2) (refl, refl)
   where
     first : (k : ℕ) → k < 1 → slice_index_or closing_times k u ≡ u → 100 ≡ u
     first zero l e = e
     first (suc k) l e = absurd (omega arith)
 
-found : (u : ℕ) → is_pending two_moves closed (Group 0 u 1) ≡ true → is_pending two_moves auction_taken (Group 0 u 1) ≡ false → Contains closing_times u
+found : (u : ℕ) → is_pending two_moves 0 closed (Group 0 u 1) ≡ true → is_pending two_moves 0 auction_taken (Group 0 u 1) ≡ false → Contains closing_times u
 unfolding closed
 found u h k =
     ⊎_elim
     (λ (e : (100 == u) ≡ true). (0, omega arith, eqb-true 100 u e))
     (λ (e : (100 == u) ≡ false).
     ⊎_elim
-    (λ (f : (0 == u) ≡ true). absurd (at_zero (subst (λ (v : ℕ). is_pending two_moves closed (Group 0 v 1) ≡ true) (sym (eqb-true 0 u f)) h)))
+    (λ (f : (0 == u) ≡ true). absurd (at_zero (subst (λ (v : ℕ). is_pending two_moves 0 closed (Group 0 v 1) ≡ true) (sym (eqb-true 0 u f)) h)))
     (λ (f : (0 == u) ≡ false). absurd (false≢true (rw (e, f) at h)))
     (cases_Bool (0 == u)))
     (cases_Bool (100 == u))
   where
-    at_zero : is_pending two_moves closed (Group 0 0 1) ≡ true → ⊥
+    at_zero : is_pending two_moves 0 closed (Group 0 0 1) ≡ true → ⊥
     at_zero e = false≢true e
 
 pub auction_applied : AuctionIsApplied

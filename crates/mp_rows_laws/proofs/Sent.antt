@@ -51,17 +51,17 @@ module _ (o : Outline) (w : ℕ) (log : Log) (x : Name) where
       plus_none n = omega arith
 
   -- the groups of a stage whose bins don't leave
-  pub waiting_kept : OutlineIsSound o → (j u : ℕ) → ((b m : ℕ) → is_packet_after j b m x ≡ false) → number_at o (is_pending o new) u (groups_of o j) ≡ number_at o (is_pending o log) u (groups_of o j)
-  waiting_kept ok j u h = number_same o u (is_pending o new) (is_pending o log) (groups_of o j) same
+  pub waiting_kept : OutlineIsSound o → (j u : ℕ) → ((b m : ℕ) → is_packet_after j b m x ≡ false) → number_at o (is_pending o w new) u (groups_of o j) ≡ number_at o (is_pending o w log) u (groups_of o j)
+  waiting_kept ok j u h = number_same o u (is_pending o w new) (is_pending o w log) (groups_of o j) same
     where
       left : (b m : ℕ) → left_since new j b m ≡ left_since log j b m
       left b m = any_other (is_packet_after j b m) log.sent x (h b m)
 
-      one_group : (s k : ℕ) → is_pending o new (Group j s k) ≡ is_pending o log (Group j s k)
-      one_group s k = pending_same o log new j s k (λ m. refl) (left (o.bin_of k)) (λ m. brought_same o log new j (o.bin_of k) m s (left (o.bin_of k)) log.took) refl
+      one_group : (s k : ℕ) → is_pending o w new (Group j s k) ≡ is_pending o w log (Group j s k)
+      one_group s k = pending_same o log new w j s k (λ m. refl) (left (o.bin_of k)) (λ m. brought_same o log new j (o.bin_of k) m s (left (o.bin_of k)) log.took) refl
 
-      same : (y : Name) → In y (groups_of o j) → is_pending o new y ≡ is_pending o log y
-      same (Group i s k) g = subst (λ (n : ℕ). is_pending o new (Group n s k) ≡ is_pending o log (Group n s k)) (sym (eqb-true i j (groups_are o ok j (Group i s k) g).1)) (one_group s k)
+      same : (y : Name) → In y (groups_of o j) → is_pending o w new y ≡ is_pending o w log y
+      same (Group i s k) g = subst (λ (n : ℕ). is_pending o w new (Group n s k) ≡ is_pending o w log (Group n s k)) (sym (eqb-true i j (groups_are o ok j (Group i s k) g).1)) (one_group s k)
       same _ g = refl
 
 module _ (o : Outline) (w : ℕ) (log : Log) (ok : OutlineIsSound o) (j t k : ℕ) (g : Tag) (held : IsHeld o w log (is_rec j) (Rec j t k g)) where

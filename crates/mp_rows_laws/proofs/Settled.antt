@@ -25,8 +25,8 @@ module _ (o : Outline) (w : ℕ) (log : Log) (x : Name) where
   pub held_same : (u : ℕ) (xs : List Name) → number_at o (is_held o w new) u xs ≡ number_at o (is_held o w log) u xs
   held_same u xs = number_same o u (is_held o w new) (is_held o w log) xs (λ y i. ap (λ (b : Bool). b && not (has log.sent y)) (given_same o log new w refl refl y))
 
-  pub waiting_same : (j u : ℕ) → number_at o (is_pending o new) u (groups_of o j) ≡ number_at o (is_pending o log) u (groups_of o j)
-  waiting_same j u = number_same o u (is_pending o new) (is_pending o log) (groups_of o j) (λ y i. pending_kept o log new refl refl refl y)
+  pub waiting_same : (j u : ℕ) → number_at o (is_pending o w new) u (groups_of o j) ≡ number_at o (is_pending o w log) u (groups_of o j)
+  waiting_same j u = number_same o u (is_pending o w new) (is_pending o w log) (groups_of o j) (λ y i. pending_kept o log new w refl refl refl y)
 
 -- the name is that of this time, or another
 one_time : (h noted s : Bool) → (h ≡ true → noted ≡ true) → (h ≡ true → s ≡ false) → cond (noted && not s) 1 0 ≡ cond (noted && not (s || h)) 1 0 + cond h 1 0

@@ -43,8 +43,8 @@ module _ (o : Outline) (w : ℕ) (log : Log) (x : Name) where
     pub brought_kept : (j b s u : ℕ) → list_any (brings_wake new j b s u) new.took ≡ list_any (brings_wake log j b s u) log.took
     brought_kept j b s u = brought_same o log new j b s u (λ m. refl) new.took ∙ any_other (brings_wake log j b s u) log.took x (no_packet j b s u)
 
-    pub group_kept : (j u k : ℕ) → is_record_of j u k x ≡ false → is_pending o new (Group j u k) ≡ is_pending o log (Group j u k)
-    group_kept j u k e = pending_same o log new j u k (λ s. refl) (λ m. refl) (λ s. brought_kept j (o.bin_of k) s u) (any_other (is_record_of j u k) log.took x e)
+    pub group_kept : (j u k : ℕ) → is_record_of j u k x ≡ false → is_pending o w new (Group j u k) ≡ is_pending o w log (Group j u k)
+    group_kept j u k e = pending_same o log new w j u k (λ s. refl) (λ m. refl) (λ s. brought_kept j (o.bin_of k) s u) (any_other (is_record_of j u k) log.took x e)
 
 module _
     (o : Outline) (w : ℕ) (log : Log) (ok : OutlineIsSound o) (j t k : ℕ) (g : Tag) (owed : IsOwedTo o w (Rec j t k g))
@@ -55,21 +55,21 @@ module _
   abbrev group : Name
   group = Group j t k
 
-  group_other : (y : Name) → same_name group y ≡ false → is_pending o (new o w log record_name) y ≡ is_pending o log y
+  group_other : (y : Name) → same_name group y ≡ false → is_pending o w (new o w log record_name) y ≡ is_pending o w log y
   group_other (Group i u l) e = group_kept o w log record_name (λ n b s v. refl) i u l e
   group_other _ e = refl
 
-  waits_now : is_pending o (new o w log record_name) group ≡ true
+  waits_now : is_pending o w (new o w log record_name) group ≡ true
   waits_now =
       let p = is_record_of j t k in
       let of_group : p record_name ≡ true = and_from (j == j) (t == t && k == k) (eq-eqb j j refl) (and_from (t == t) (k == k) (eq-eqb t t refl) (eq-eqb k k refl)) in
       let record_here : has_record (new o w log record_name) j t k ≡ true = any_push p log.took record_name ∙ or_right (list_any p log.took) (p record_name) of_group in
-      and_from (not (has log.applied group)) (has_record (new o w log record_name) j t k || has_wake o (new o w log record_name) j t k)
+      and_from (not (has log.applied group)) (has_record (new o w log record_name) j t k || has_wake o w (new o w log record_name) j t k)
       (not_from_false (has log.applied group) not_applied)
-      (or_left (has_record (new o w log record_name) j t k) (has_wake o (new o w log record_name) j t k) record_here)
+      (or_left (has_record (new o w log record_name) j t k) (has_wake o w (new o w log record_name) j t k) record_here)
 
-  module _ (waited : Bool) (known : is_pending o log (Group j t k) ≡ waited) where
-    waiting : (i u : ℕ) → number_at o (is_pending o (new o w log record_name)) u (groups_of o i) ≡ number_at o (is_pending o log) u (groups_of o i) + cond ((j == i && t == u) && not waited) 1 0
+  module _ (waited : Bool) (known : is_pending o w log (Group j t k) ≡ waited) where
+    waiting : (i u : ℕ) → number_at o (is_pending o w (new o w log record_name)) u (groups_of o i) ≡ number_at o (is_pending o w log) u (groups_of o i) + cond ((j == i && t == u) && not waited) 1 0
     waiting i u = by_case waited known
       where
         and_no : (b : Bool) (n m : ℕ) → n ≡ m → n ≡ m + cond (b && false) 1 0
@@ -80,20 +80,20 @@ module _
         and_yes true n m e = e
         and_yes false n m e = e
 
-        by_case : (b : Bool) → is_pending o log group ≡ b → number_at o (is_pending o (new o w log record_name)) u (groups_of o i) ≡ number_at o (is_pending o log) u (groups_of o i) + cond ((j == i && t == u) && not b) 1 0
+        by_case : (b : Bool) → is_pending o w log group ≡ b → number_at o (is_pending o w (new o w log record_name)) u (groups_of o i) ≡ number_at o (is_pending o w log) u (groups_of o i) + cond ((j == i && t == u) && not b) 1 0
         by_case true e =
             and_no (j == i && t == u) _ _
-            (number_same o u (is_pending o (new o w log record_name)) (is_pending o log) (groups_of o i) (λ y h. each_group y (cases_Bool (same_name group y))))
+            (number_same o u (is_pending o w (new o w log record_name)) (is_pending o w log) (groups_of o i) (λ y h. each_group y (cases_Bool (same_name group y))))
           where
-            each_group : (y : Name) → (same_name group y ≡ true) ⊎ (same_name group y ≡ false) → is_pending o (new o w log record_name) y ≡ is_pending o log y
+            each_group : (y : Name) → (same_name group y ≡ true) ⊎ (same_name group y ≡ false) → is_pending o w (new o w log record_name) y ≡ is_pending o w log y
             each_group y c =
                 ⊎_elim
-                (λ (s : same_name group y ≡ true). subst (λ (z : Name). is_pending o (new o w log record_name) z ≡ is_pending o log z) (same_name-true group y s) (waits_now ∙ sym e))
+                (λ (s : same_name group y ≡ true). subst (λ (z : Name). is_pending o w (new o w log record_name) z ≡ is_pending o w log z) (same_name-true group y s) (waits_now ∙ sym e))
                 (λ (s : same_name group y ≡ false). group_other y s)
                 c
         by_case false e =
             and_yes (j == i && t == u) _ _
-            (number_placed o u (is_pending o (new o w log record_name)) (is_pending o log) group (j == i) (groups_of o i)
+            (number_placed o u (is_pending o w (new o w log record_name)) (is_pending o w log) group (j == i) (groups_of o i)
             (group_place o ok i j t k (record_group o j t k g owed.0.1))
             (groups_once o ok i) waits_now e
             (λ y h s. group_other y s))
@@ -122,7 +122,7 @@ pub unapplied : (o : Outline) (w : ℕ) (log : Log) → LogIsLegal o w log → (
 unapplied o w log good j t k g owed fresh =
     false_from_ne_true (has log.applied (Group j t k)) (λ i. both_ways (has log.took (Rec j t k g)) fresh ((good.applied_ready (Group j t k) i).1 g owed.0.1))
 
-pub record_taken : (o : Outline) (w : ℕ) (log : Log) → OutlineIsSound o → LogIsLegal o w log → (j t k : ℕ) (g : Tag) → IsOwedTo o w (Rec j t k g) → has log.took (Rec j t k g) ≡ false → (waited : Bool) → is_pending o log (Group j t k) ≡ waited → AreChanges o w log (with_took log (Rec j t k g)) (record_taken_at j t waited)
+pub record_taken : (o : Outline) (w : ℕ) (log : Log) → OutlineIsSound o → LogIsLegal o w log → (j t k : ℕ) (g : Tag) → IsOwedTo o w (Rec j t k g) → has log.took (Rec j t k g) ≡ false → (waited : Bool) → is_pending o w log (Group j t k) ≡ waited → AreChanges o w log (with_took log (Rec j t k g)) (record_taken_at j t waited)
 record_taken o w log ok good j t k g owed fresh = taken_unapplied o w log ok j t k g owed (unapplied o w log good j t k g owed fresh)
 
 -- the time is that of the control record, or another
@@ -167,9 +167,9 @@ module _
   control_body (Mail n) u = nothing _ _ (mail_kept o w log control_name (is_rec n) u refl)
   control_body (Move n) u = more_alone ((stage == n && time == u) && not noted) _ _ (to_settle n u)
   control_body (State n) u = nothing _ _ (mail_kept o w log control_name (is_packet n) u refl)
-  control_body (Host n) u = nothing _ _ (ap pos (number_same o u (is_pending o (new o w log control_name)) (is_pending o log) (groups_of o n) (λ y h. same y)))
+  control_body (Host n) u = nothing _ _ (ap pos (number_same o u (is_pending o w (new o w log control_name)) (is_pending o w log) (groups_of o n) (λ y h. same y)))
     where
-      same : (y : Name) → is_pending o (new o w log control_name) y ≡ is_pending o log y
+      same : (y : Name) → is_pending o w (new o w log control_name) y ≡ is_pending o w log y
       same (Group j s k) = group_kept o w log control_name (λ n b s v. refl) j s k refl
       same _ = refl
   control_body OutRoute u = nothing _ _ (ap pos (held_same o w log control_name u o.rows))

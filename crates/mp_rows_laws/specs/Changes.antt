@@ -95,9 +95,9 @@ group_of (Rec j t k g) = Group j t k
 group_of x = x
 
 -- how many groups wait once these records are taken, one after the other, and didn't before
-abbrev pub new_groups : Outline → Log → List Name → ℕ
-new_groups o log [] = 0
-new_groups o log (x ∷ xs) = cond (is_pending o log (group_of x)) 0 1 + new_groups o (with_took log x) xs
+abbrev pub new_groups : Outline → ℕ → Log → List Name → ℕ
+new_groups o w log [] = 0
+new_groups o w log (x ∷ xs) = cond (is_pending o w log (group_of x)) 0 1 + new_groups o w (with_took log x) xs
 
 -- Bins that move
 
@@ -106,12 +106,12 @@ abbrev pub number_in : List (ℕ × ℕ) → ℕ → ℕ
 number_in ns t = sum_by (λ n. cond (n.0 == t) n.1 0) ns
 
 -- how many groups of a stage wait at a time
-abbrev pub waiting_at : Outline → Log → ℕ → ℕ → ℕ
-waiting_at o log j t = number_at o (is_pending o log) t (groups_of o j)
+abbrev pub waiting_at : Outline → ℕ → Log → ℕ → ℕ → ℕ
+waiting_at o w log j t = number_at o (is_pending o w log) t (groups_of o j)
 
 -- at each time so many more groups of the stage wait by the second log as the list has, each time once and none with 0
-pub record AreMore (o : Outline) (j : ℕ) (fewer more : Log) (ns : List (ℕ × ℕ)) : Type 0 where
-  pub numbers : (t : ℕ) → waiting_at o more j t ≡ waiting_at o fewer j t + number_in ns t
+pub record AreMore (o : Outline) (w j : ℕ) (fewer more : Log) (ns : List (ℕ × ℕ)) : Type 0 where
+  pub numbers : (t : ℕ) → waiting_at o w more j t ≡ waiting_at o w fewer j t + number_in ns t
   pub once : AllPairs (λ m n. m.0 ≢ n.0) ns
   pub none_is_zero : All (λ n. n.1 ≢ 0) ns
 

@@ -71,7 +71,7 @@ TakenRecordIsCounted =
     → IsOwedTo o w (Rec j t k g)
     → has log.took (Rec j t k g) ≡ false
     → (waited : Bool)
-    → is_pending o log (Group j t k) ≡ waited
+    → is_pending o w log (Group j t k) ≡ waited
     → AreChanges o w log (with_took log (Rec j t k g)) (record_taken_at j t waited)
 
 -- several records are taken, of one stage and time
@@ -83,7 +83,7 @@ TakenRecordsAreCounted =
     → (j t : ℕ) (xs : List Name)
     → 0 < length xs
     → ((x : Name) → In x xs → (is_rec j x ≡ true) × (time_of o x ≡ t) × IsOwedTo o w x × (has log.took x ≡ false))
-    → AreChanges o w log (with_names Took xs log) (records_taken_at j t (length xs) (new_groups o log xs))
+    → AreChanges o w log (with_names Took xs log) (records_taken_at j t (length xs) (new_groups o w log xs))
 
 -- an answer row is taken
 abbrev pub TakenRowIsCounted : Type 0
@@ -116,9 +116,9 @@ AppliedGroupIsCounted =
     → OutlineIsSound o
     → LogIsLegal o w log
     → (j t k : ℕ) (woken : List ℕ)
-    → IsWaiting o log j (Group j t k)
+    → IsWaiting o w log j (Group j t k)
     → AllPairs (λ u v. u ≢ v) woken
-    → ((u : ℕ) → (Contains woken u ↔ ((is_pending o (with_applied log (Group j t k)) (Group j u k) ≡ true) × (is_pending o log (Group j u k) ≡ false))))
+    → ((u : ℕ) → (Contains woken u ↔ ((is_pending o w (with_applied log (Group j t k)) (Group j u k) ≡ true) × (is_pending o w log (Group j u k) ≡ false))))
     → AreChanges o w log (with_applied log (Group j t k)) (applied_at o j t k woken)
 
 -- a packet is sent
@@ -127,7 +127,7 @@ SentPacketIsCounted =
     (o : Outline) (w : ℕ) (log : Log)
     → OutlineIsSound o
     → (j b t : ℕ) (left : List (ℕ × ℕ))
-    → AreMore o j (with_sent log (Packet j b t)) log left
+    → AreMore o w j (with_sent log (Packet j b t)) log left
     → AreChanges o w log (with_sent log (Packet j b t)) (packet_sent_at j t left)
 
 -- a packet is taken
@@ -136,7 +136,7 @@ TakenPacketIsCounted =
     (o : Outline) (w : ℕ) (log : Log)
     → OutlineIsSound o
     → (j b t : ℕ) (come : List (ℕ × ℕ))
-    → AreMore o j log (with_took log (Packet j b t)) come
+    → AreMore o w j log (with_took log (Packet j b t)) come
     → AreChanges o w log (with_took log (Packet j b t)) (packet_taken_at j t come)
 
 -- how many groups wait no longer once a packet is sent, at each time: a list has the time and key of each, each once
@@ -147,9 +147,9 @@ LeavingGroupsAreNumbered =
     → LogIsLegal o w log
     → (j b t : ℕ) (left : List (ℕ × ℕ))
     → AllPairs (λ g h. g ≢ h) left
-    → ((u k : ℕ) → (Contains left (u, k) ↔ ((is_pending o log (Group j u k) ≡ true) × (is_pending o (with_sent log (Packet j b t)) (Group j u k) ≡ false))))
+    → ((u k : ℕ) → (Contains left (u, k) ↔ ((is_pending o w log (Group j u k) ≡ true) × (is_pending o w (with_sent log (Packet j b t)) (Group j u k) ≡ false))))
     → (u : ℕ)
-    → waiting_at o log j u ≡ waiting_at o (with_sent log (Packet j b t)) j u + count_by (λ g. g.0 == u) left
+    → waiting_at o w log j u ≡ waiting_at o w (with_sent log (Packet j b t)) j u + count_by (λ g. g.0 == u) left
 
 -- and how many begin to wait once it is taken
 abbrev pub ComingGroupsAreNumbered : Type 0
@@ -159,6 +159,6 @@ ComingGroupsAreNumbered =
     → LogIsLegal o w log
     → (j b t : ℕ) (come : List (ℕ × ℕ))
     → AllPairs (λ g h. g ≢ h) come
-    → ((u k : ℕ) → (Contains come (u, k) ↔ ((is_pending o (with_took log (Packet j b t)) (Group j u k) ≡ true) × (is_pending o log (Group j u k) ≡ false))))
+    → ((u k : ℕ) → (Contains come (u, k) ↔ ((is_pending o w (with_took log (Packet j b t)) (Group j u k) ≡ true) × (is_pending o w log (Group j u k) ≡ false))))
     → (u : ℕ)
-    → waiting_at o (with_took log (Packet j b t)) j u ≡ waiting_at o log j u + count_by (λ g. g.0 == u) come
+    → waiting_at o w (with_took log (Packet j b t)) j u ≡ waiting_at o w log j u + count_by (λ g. g.0 == u) come

@@ -15,5 +15,5 @@ auction_taken = record empty_log { took = Rec 0 0 1 (tag 0 0) ∷ [] }
 -- its group waits in a legal log; once it is applied one group less waits at 0, and one more at 100
 pub record AuctionIsApplied : Type 0 where
   pub legal : LogIsLegal two_moves 0 auction_taken
-  pub waits : IsWaiting two_moves auction_taken 0 (Group 0 0 1)
+  pub waits : IsWaiting two_moves 0 auction_taken 0 (Group 0 0 1)
   pub changes : AreChanges two_moves 0 auction_taken (with_applied auction_taken (Group 0 0 1)) (one_less (Host 0) 0 ∷ one_more (Host 0) 100 ∷ [])

@@ -3,7 +3,9 @@ use Rattle.std.proofs.Common.{◌≡◌, ℕ, ◌<◌, ◌≤◌, ◌==◌, true
 use Rattle.std.proofs.lemmas.Bool.{cases_Bool, eqb-true, or_cases, false≢true}
 use Rattle.std.specs.List.Sorted.{IsStrictlySortedBy}
 use Rattle.mp_bins.specs.Bins.{bin_of_key}
+use Rattle.mp_job.proofs.Whole.{whole_table}
 use Rattle.mp_job.proofs.Members.{nothing_in_nil, Contains-here, Contains-cases}
+use Rattle.mp_model.specs.Facts.{QueryFacts}
 use Rattle.mp_model.specs.Folds.{cell_before}
 use Rattle.mp_model.specs.Stages.{stage_records}
 use Rattle.mp_names.specs.declared.names.Name.{Name}
@@ -13,8 +15,9 @@ use Rattle.mp_names.proofs.Lists.{In_cases}
 use Rattle.mp_outline.specs.JobOutline.{name_of_record, outline_of}
 use Rattle.mp_postdated.specs.Wakes.{Has}
 use Rattle.mp_msg.specs.Contents.{IsPacketOf}
-use Rattle.mp_samples.specs.Bids.{answering_bids}
+use Rattle.mp_samples.specs.Bids.{answering_bids, answering_in}
 use Rattle.mp_samples.specs.Jobs.{one_move, record_of_bid}
+use Rattle.mp_samples.specs.Laws.{begins_fresh}
 use Rattle.mp_samples.specs.States.{state_of_bin}
 use Rattle.mp_msg.specs.States.{IsInOrder, IsOfBin, IsPostedAt, IsStateBefore, cell_in}
 
@@ -68,5 +71,9 @@ bin_has_state = record {
   wakes = λ u k b. ((λ i. wake_posted u k i), (λ h. posted_wake u k h.1 h.3));
 }
 
-pub state_is_packet : IsPacketOf answering_bids one_move 0 1 10 state_of_bin
-state_is_packet = (bin_moves, bin_has_state)
+-- the job is whole, so the query's table in it is the query's own
+own_table : answering_in one_move ≡ answering_bids
+own_table = whole_table (λ values. answering_bids) [] one_move.events one_move.controls one_move.shape [] (begins_fresh true)
+
+pub state_is_packet : IsPacketOf (answering_in one_move) one_move 0 1 10 state_of_bin
+state_is_packet = subst (λ (q : QueryFacts ℕ). IsPacketOf q one_move 0 1 10 state_of_bin) (sym own_table) (bin_moves, bin_has_state)

@@ -5,7 +5,8 @@ use Rattle.mp_model.specs.declared.fields.Field.TheVariants.{Number}
 use Rattle.mp_model.specs.declared.record.Rec.{Rec}
 use Rattle.mp_model.specs.declared.value.Value.{Value}
 use Rattle.mp_model.specs.declared.value.Value.TheVariants.{Bid, Row}
-use Rattle.mp_model.specs.Facts.{QueryFacts}
+use Rattle.mp_model.specs.Facts.{JobFacts, QueryFacts}
+use Rattle.mp_model.specs.Tables.{table_of}
 
 -- the auction of a bid
 abbrev pub bid_key : Value → Option ℕ
@@ -42,12 +43,28 @@ sample_bids answers = record {
   gives = λ j cell e. cond answers (row_of e.key e.recs) [];
   most = λ j cell e. cond answers 1 0;
   fits = λ j cell e. true;
+  allows = λ j k t cell. false;
+  cell_of = λ j text. 0;
+  opening = λ j k. 0;
+  waking = λ j. [];
 }
+
+-- nothing is saved
+abbrev pub text_of : ℕ → ℕ → List ℕ
+text_of j cell = []
 
 -- the query whose groups give nothing
 abbrev pub waking_bids : QueryFacts ℕ
 waking_bids = sample_bids false
 
+-- its table in a job
+abbrev pub waking_in : JobFacts → QueryFacts ℕ
+waking_in job = table_of (λ values. waking_bids) job
+
 -- the query whose groups give rows
 abbrev pub answering_bids : QueryFacts ℕ
 answering_bids = sample_bids true
+
+-- its table in a job
+abbrev pub answering_in : JobFacts → QueryFacts ℕ
+answering_in job = table_of (λ values. answering_bids) job

@@ -2,7 +2,7 @@
 ghost use Rattle.std.specs.Prelude.{◌≡◌, IfOk};
 ghost use Rattle.mp_samples.specs.Bids.{fields_of, mark_of, row_of};
 
-use mp_model::{Field, Fields, Group, PostList, Query, Rec, Time, Value};
+use mp_model::{Field, Fields, Group, PostList, Query, Rec, RuleList, Time, Value};
 use std::alloc::{AllocError, Global};
 
 /// Each bid makes a record of its auction's key, which wakes the key ten later. Where it answers, a group that has records
@@ -17,19 +17,31 @@ pub type WakingBids = SampleBids<false>;
 pub type AnsweringBids = SampleBids<true>;
 
 impl<const ANSWERS: bool> Query for SampleBids<ANSWERS> {
-    ghost use Rattle.std.specs.Prelude.{[], refl};
-    ghost use Rattle.mp_samples.specs.Bids.{sample_bids};
-    ghost use Rattle.mp_samples.specs.Laws.{has_stages, posts_are_later, later_stages_post_nothing, outputs_have_keys, most_is_enough, fresh_stays_fresh, sums_fit};
+    ghost use Rattle.std.specs.Prelude.{[]};
+    ghost use Rattle.mp_samples.specs.Bids.{sample_bids, text_of};
+    ghost use Rattle.mp_samples.specs.Laws.{begins_fresh, fresh_stays_fresh, has_stages, later_stages_post_nothing, most_is_enough, posts_are_later, sums_fit, texts_tell_cells};
 
     type Cell = u64;
 
-    const STAGES: u32 = 1;
-
-    ghost STAGES = { 1 };
+    ghost values = { λ _. [] };
 
     ghost rules = { λ _. [] };
 
     ghost facts = { λ _. sample_bids ANSWERS };
+
+    ghost text_of = { text_of };
+
+    fn stages(&self) -> u32 {
+        1
+    }
+
+    fn rules(&self) -> RuleList {
+        RuleList::new()
+    }
+
+    fn with(self, _given: &[u64]) -> SampleBids<ANSWERS> {
+        self
+    }
 
     fn key(&self, _stage: u32, _time: Time, value: &Value) -> Option<u64> {
         match value {
@@ -73,7 +85,9 @@ impl<const ANSWERS: bool> Query for SampleBids<ANSWERS> {
         Ok(rows)
     }
 
-    ghost stages_are = { λ _. refl };
+    fn copy_cell(&self, _alloc: Global, _stage: u32, cell: &u64) -> Result<u64, AllocError> {
+        Ok(*cell)
+    }
 
     ghost has_stages = { λ _. has_stages ANSWERS };
 
@@ -81,13 +95,15 @@ impl<const ANSWERS: bool> Query for SampleBids<ANSWERS> {
 
     ghost later_stages_post_nothing = { λ _. later_stages_post_nothing ANSWERS };
 
-    ghost outputs_have_keys = { λ _. outputs_have_keys ANSWERS };
-
     ghost most_is_enough = { λ _. most_is_enough ANSWERS };
 
     ghost fresh_stays_fresh = { λ _. fresh_stays_fresh ANSWERS };
 
-    ghost sums_fit = { λ _. sums_fit ANSWERS };
+    ghost begins_fresh = { λ _. begins_fresh ANSWERS };
+
+    ghost texts_tell_cells = { λ _. texts_tell_cells ANSWERS };
+
+    ghost sums_fit = { sums_fit ANSWERS };
 }
 
 /// The fields of a key's row. `AllocError`: no memory.

@@ -14,7 +14,7 @@ use Rattle.mp_names.specs.declared.locations.Frontier.TheVariants.{At, Done}
 use Rattle.mp_names.specs.declared.locations.Loc.{Loc}
 use Rattle.mp_names.specs.declared.locations.Loc.TheVariants.{Ctl, CtlMail, Source, Route, Mail, Move, State, Host, OutRoute, OutMail}
 use Rattle.mp_names.specs.Frontiers.{IsFrontierOf, IsQuiet}
-use Rattle.mp_names.specs.Limits.{most_stages_seen}
+use Rattle.mp_names.specs.Limits.{most_stages}
 use Rattle.mp_names.specs.Locations.{IsLocation, Reaches}
 use Rattle.mp_stamps.specs.Counts.{CountTable, IsCounted, IsFirstFor, IsTable, count_in, count_of, row_of}
 use Rattle.mp_stamps.specs.Places.{place_of, places_of}
@@ -282,7 +282,7 @@ no_counts table n h a t =
     (λ (l : length table.rows ≤ place_of a). no_row table a t l)
     (cases_lt (place_of a) (length table.rows))
 
-pub zero_table : (stages : ℕ) (times own : List ℕ) (rows : List (List ℤ)) → stages ≤ most_stages_seen → IsStrictlyIncreasing times → times ≡ own → length rows ≡ places_of stages → All (λ (row : List ℤ). row ≡ replicate (length times) (pos 0)) rows → IsTable (record { stages = stages; times = own; rows = rows })
+pub zero_table : (stages : ℕ) (times own : List ℕ) (rows : List (List ℤ)) → stages ≤ most_stages → IsStrictlyIncreasing times → times ≡ own → length rows ≡ places_of stages → All (λ (row : List ℤ). row ≡ replicate (length times) (pos 0)) rows → IsTable (record { stages = stages; times = own; rows = rows })
 zero_table stages times own rows few rising same places zeros = record {
   few_stages = few;
   rising = subst IsStrictlyIncreasing same rising;

@@ -4,7 +4,7 @@ use Rattle.std.specs.List.Sorted.{IsStrictlyIncreasing}
 use Rattle.mp_names.specs.declared.locations.Loc.{Loc}
 use Rattle.mp_names.specs.declared.locations.Loc.TheVariants.{Ctl, CtlMail, Source, Route, Mail, Move, State, Host, OutRoute, OutMail}
 use Rattle.mp_names.specs.declared.pointstamps.Pointstamp.{Pointstamp}
-use Rattle.mp_names.specs.Limits.{most_stages_seen}
+use Rattle.mp_names.specs.Limits.{most_stages}
 use Rattle.mp_names.specs.Locations.{IsLocation, Reaches}
 use Rattle.mp_stamps.specs.Places.{place_of, places_of}
 use Rattle.mp_stamps.specs.Rows.{count_there}
@@ -57,7 +57,7 @@ pub record SamePlaces (old new : CountTable) : Type 0 where
 
 -- the times rise, and each place has one count of each
 pub record IsTable (table : CountTable) : Type 0 where
-  pub few_stages : table.stages ≤ most_stages_seen
+  pub few_stages : table.stages ≤ most_stages
   pub rising : IsStrictlyIncreasing table.times
   pub each_place : length table.rows ≡ places_of table.stages
   pub each_time : All (λ row. length row ≡ length table.times) table.rows

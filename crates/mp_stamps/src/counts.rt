@@ -3,7 +3,7 @@ ghost use Rattle.std.specs.Prelude.{◌≡◌, ◌<◌, ◌≤◌, ℕ, pos, ◌
 ghost use Rattle.std.specs.Int.{w128};
 ghost use Rattle.std.specs.List.Sorted.{IsStrictlyIncreasing};
 ghost use Rattle.mp_names.specs.Frontiers.{IsFrontierOf};
-ghost use Rattle.mp_names.specs.Limits.{most_stages_seen};
+ghost use Rattle.mp_names.specs.Limits.{most_stages};
 ghost use Rattle.mp_names.specs.Locations.{IsLocation};
 ghost use Rattle.mp_names.specs.declared.locations.Frontier.{Frontier};
 ghost use Rattle.mp_names.specs.declared.locations.Loc.{Loc};
@@ -53,9 +53,9 @@ impl Model for Counts {
 
 impl Counts {
     /// Counts of the locations of a job of so many stages at these times, all of them 0. The times ascend, each once; there
-    /// are at most `MAX_STAGES_SEEN` stages. `AllocError`: no memory.
+    /// are at most `MAX_STAGES` stages. `AllocError`: no memory.
     pub fn over(alloc: Global, stages: u32, times: &[Time]) -> Result<Counts, AllocError>
-        requires stages { stages ≤ most_stages_seen }
+        requires stages { stages ≤ most_stages }
         requires rising { IsStrictlyIncreasing times.now }
         ensures none { IfOk result (λ counts. (at : Loc) (t : ℕ) → count_in counts at t ≡ pos 0) }
         ensures stages { IfOk result (λ counts. counts.stages ≡ stages) }
@@ -150,7 +150,7 @@ impl Counts {
 
     /// Of how many stages counts are kept.
     pub(crate) fn stages(&self) -> u32
-        ensures few { result ≤ most_stages_seen }
+        ensures few { result ≤ most_stages }
         ensures none_elsewhere { (at : Loc) (t : ℕ) → ¬ IsLocation result at → count_in self.now at t ≡ pos 0 }
     {
         self.stages

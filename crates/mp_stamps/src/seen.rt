@@ -1,7 +1,7 @@
 //! What a worker saw at its last exchange.
 ghost use Rattle.std.specs.Prelude.{◌≡◌, ◌≤◌, ℕ, false, get_or};
 ghost use Rattle.mp_names.specs.Frontiers.{IsFrontierOf};
-ghost use Rattle.mp_names.specs.Limits.{most_stages_seen};
+ghost use Rattle.mp_names.specs.Limits.{most_stages};
 ghost use Rattle.mp_names.specs.declared.locations.Frontier.TheVariants.{Done};
 ghost use Rattle.mp_names.specs.declared.locations.Loc.{Loc};
 ghost use Rattle.mp_names.specs.Locations.{IsLocation};
@@ -25,9 +25,9 @@ pub struct Seen {
 }
 
 impl Seen {
-    /// The frontiers that the counts show, of a job of that many stages, at most `MAX_STAGES_SEEN`.
+    /// The frontiers that the counts show, of a job of that many stages, at most `MAX_STAGES`.
     pub fn of(stages: u32, version: u64, counts: &Counts) -> Seen
-        requires { stages ≤ most_stages_seen }
+        requires { stages ≤ most_stages }
         ensures version { result.version ≡ version }
         ensures stages { result.stages ≡ stages }
         ensures frontiers { (at : Loc) → IsLocation stages at → IsFrontierOf (count_in counts.now) at (seen_at result at) }
@@ -45,7 +45,7 @@ impl Seen {
     /// Sees this version, and the frontiers that the counts show: they are found anew only where a least time has moved
     /// since those that were seen were shown.
     pub fn follow(&mut self, version: u64, moved: bool, counts: &Counts)
-        requires stages { self.old.stages ≤ most_stages_seen }
+        requires stages { self.old.stages ≤ most_stages }
         requires shown { moved ≡ false → (at : Loc) → IsLocation self.old.stages at →
             IsFrontierOf (count_in counts.now) at (seen_at self.old at) }
         ensures version { self.new.version ≡ version }
@@ -87,7 +87,7 @@ impl Seen {
 
 // Puts the frontiers of the locations of so many stages at their places, in one pass along the dataflow.
 fn put_frontiers(stages: u32, counts: &Counts, frontiers: &mut [Frontier; PLACES])
-    requires { stages ≤ most_stages_seen }
+    requires { stages ≤ most_stages }
     ensures frontiers { (at : Loc) → IsLocation stages at →
         IsFrontierOf (count_in counts.now) at (get_or frontiers.new (place_of at) Done) }
     ensures others { (at : Loc) → ¬ IsLocation stages at →

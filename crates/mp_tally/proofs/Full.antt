@@ -5,12 +5,12 @@ use Rattle.std.proofs.lemmas.Bool.{false≢true, eqb-true, eq-eqb, both_ways, fa
 use Rattle.mp_names.specs.declared.names.Name.{Name}
 use Rattle.mp_names.specs.declared.names.Name.TheVariants.{Packet, Group}
 use Rattle.mp_names.specs.Names.{has, In, Distinct, IsPrefix, joined_below, is_group, is_packet}
-use Rattle.mp_names.specs.Outlines.{Outline, OutlineIsSound, owner_before, IsMove, groups_of}
+use Rattle.mp_names.specs.Outlines.{Outline, OutlineIsSound, owner_before, IsMove, due_groups}
 use Rattle.mp_names.specs.Logs.{Log, LogIsLegal, IsReadyGroup, is_owned, owned_groups}
 use Rattle.mp_names.proofs.Lists.{In_filter, In_left, filter_In, In_joined, joined_In, Distinct_filter, Distinct_joined}
 use Rattle.mp_names.proofs.Orders.{ascending_once, filter_ascends}
 use Rattle.mp_names.proofs.Owners.{move_in_shape}
-use Rattle.mp_names.proofs.Listed.{groups_are, groups_ascend}
+use Rattle.mp_names.proofs.Listed.{groups_are, due_group, due_groups_ascend}
 use Rattle.mp_names.proofs.Counting.{length_equal, once_by_tests}
 use Rattle.mp_names.proofs.NameParts.{stage_in}
 use Rattle.mp_machine.specs.Promises.{LogIsFull}
@@ -36,12 +36,12 @@ module _ (o : Outline) (ok : OutlineIsSound o) (w : ℕ) where
   all_owned = joined_below o.stages (owned_groups o w)
 
   owned_once : (j : ℕ) → Distinct (owned_groups o w j)
-  owned_once j = ascending_once (owned_groups o w j) (filter_ascends (is_owned o w) (groups_of o j) (groups_ascend o j))
+  owned_once j = ascending_once (owned_groups o w j) (filter_ascends (is_owned o w) (due_groups o j) (due_groups_ascend o j))
 
   all_owned_once : Distinct all_owned
   unfolding all_owned
   all_owned_once =
-      Distinct_joined o.stages (owned_groups o w) stage_in (λ j l. owned_once j) (λ j x l i. group_stage j x (groups_are o ok j x (In_filter (is_owned o w) x (groups_of o j) i).0).1)
+      Distinct_joined o.stages (owned_groups o w) stage_in (λ j l. owned_once j) (λ j x l i. group_stage j x (groups_are o ok j x (due_group o j x (In_filter (is_owned o w) x (due_groups o j) i).0).0).1)
 
   module _ (log : Log) (legal : LogIsLegal o w log) where
     -- no group is applied twice

@@ -1,5 +1,6 @@
 //! What a worker tells of what it has done.
 ghost use Rattle.std.specs.Prelude.{◌≡◌, ◌++◌, All, IfOk, OnOk, map};
+ghost use Rattle.mp_model.specs.Tables.{table_of};
 ghost use Rattle.mp_handoff.specs.Keys.{SentHasKeys};
 ghost use Rattle.mp_tally.specs.Tallies.{MovedHasKeys, moved_by, moved_of};
 
@@ -36,7 +37,7 @@ pub fn moved_so_far<Q: Query, J: Naming>(
     movers: &[Movers<Q, J>],
 ) -> Result<Vec<Moved>, AllocError>
     ensures moved { IfOk result (λ moved. moved.items ≡ moved_by movers.now) }
-    ensures keys { IfOk result (λ moved. All (MovedHasKeys (Q.facts J.job.rules) J.job) moved.items) }
+    ensures keys { IfOk result (λ moved. All (MovedHasKeys (table_of Q.facts J.job) J.job) moved.items) }
 {
     let mut moved = Vec::new(alloc);
     for one in movers {
@@ -51,7 +52,7 @@ fn push_moved<Q: Query, J: Naming>(
     movers: &Movers<Q, J>,
 ) -> Result<(), AllocError>
     ensures moved { OnOk result (moved.new.items ≡ moved.old.items ++ map (moved_of movers.now.stage) movers.now.sent) }
-    ensures keys { All (SentHasKeys (Q.facts J.job.rules) J.job movers.now.stage) movers.now.sent }
+    ensures keys { All (SentHasKeys (table_of Q.facts J.job) J.job movers.now.stage) movers.now.sent }
 {
     let stage = movers.stage();
     for sent in movers.sent_so_far() {

@@ -40,7 +40,7 @@ const CHECK: CheckOptions<'static> = CheckOptions {
 };
 
 const MAKE: MakeOptions<'static> = MakeOptions {
-    count: 250_000,
+    count: 1_000_000,
     seed: 0,
     out: "o",
 };
@@ -67,7 +67,7 @@ const ASKED: [(&str, Command<'static>); 5] = [
         "m check --query q3 --events e --config c --bins 4",
         Command::Check(CHECK),
     ),
-    ("m make --count 250000 --out o", Command::Make(MAKE)),
+    ("m make --count 1000000 --out o", Command::Make(MAKE)),
     (
         "m demo --count 0 --query q8 --seed 7 --workers 2",
         Command::Demo(DEMO),

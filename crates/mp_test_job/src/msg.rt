@@ -3,7 +3,7 @@ ghost use Rattle.std.specs.Prelude.{◌≡◌, ◌<◌};
 ghost use Rattle.mp_mailbox.specs.Names.{Distinct};
 ghost use Rattle.mp_outline.specs.JobOutline.{outline_of};
 ghost use Rattle.mp_msg.specs.Bundles.{receiver_of, sender_of};
-ghost use Rattle.mp_samples.specs.Bids.{answering_bids};
+ghost use Rattle.mp_samples.specs.Bids.{answering_in};
 ghost use Rattle.mp_samples.specs.Jobs.{one_move};
 
 use mp_mailbox::{PlainPost, Post};
@@ -28,8 +28,8 @@ fn carried<J: Naming>(
     requires from { from < 3 }
     requires to { to < 3 }
     requires once { Distinct message }
-    requires sender { sender_of (outline_of answering_bids J.job) message ≡ from }
-    requires receiver { receiver_of (outline_of answering_bids J.job) message ≡ to }
+    requires sender { sender_of (outline_of (answering_in J.job) J.job) message ≡ from }
+    requires receiver { receiver_of (outline_of (answering_in J.job) J.job) message ≡ to }
 {
     let mut post = PlainPost::<Msg<AnsweringBids, J>>::new(alloc, 3, 1)?;
     let names = message.names();

@@ -1,5 +1,7 @@
 //! Of movers: a bin goes from worker 0 to worker 1 at 10 and back at 20, with ample memory.
 ghost use Rattle.std.specs.Prelude.{◌≡◌, ◌<◌, [], IfOk};
+ghost use Rattle.mp_outline.specs.JobOutline.{layout_of};
+ghost use Rattle.mp_test_parts.specs.Quiet.{quiet, two_workers};
 
 use crate::seen::seen_with;
 use mp_bins::{Control, Move, Owners, Shape};
@@ -46,7 +48,7 @@ fn to_worker(worker: u32, time: Time) -> Control
 
 // Both control records are noted, whether or not the stream has passed them.
 fn both_noted(alloc: Global) -> Result<Owners, AllocError>
-    ensures { IfOk result (λ o. o.shape ≡ SHAPE) }
+    ensures { IfOk result (λ o. o.layout ≡ record { shape = two_workers; firsts = [] }) }
 {
     let mut owners = Owners::new(alloc, SHAPE)?;
     owners.note(0, to_worker(1, 10))?;
@@ -64,7 +66,7 @@ fn note_both<J: Naming>(movers: &mut Movers<WakingBids, J>) -> Result<(), AllocE
 
 // The movers of a worker that has noted both times.
 fn noted<J: Naming>(alloc: Global, worker: u32) -> Result<Movers<WakingBids, J>, AllocError>
-    requires shape { J.job.shape ≡ SHAPE }
+    requires job { J.job ≡ quiet }
     requires worker { worker < 2 }
 {
     let mut movers = Movers::<WakingBids, J>::new(alloc, 0, worker);
@@ -79,7 +81,7 @@ fn due_is<J: Naming>(
     owners: &Owners,
     moved: Option<Move>,
 )
-    requires { owners.now.shape ≡ J.job.shape }
+    requires { owners.now.layout ≡ layout_of J.job }
 {
     assert!(rt; movers.due(seen, owners) == moved);
 }
@@ -91,14 +93,14 @@ fn settled_is<J: Naming>(
     owners: &Owners,
     time: Option<Time>,
 )
-    requires { owners.now.shape ≡ J.job.shape }
+    requires { owners.now.layout ≡ layout_of J.job }
 {
     assert!(rt; movers.settle(seen, owners) == time);
 }
 
 // Sends a bin, which has no keys.
 fn send<J: Naming>(movers: &mut Movers<WakingBids, J>, moved: Move) -> Result<(), AllocError>
-    requires { J.job.events ≡ [] }
+    requires { J.job ≡ quiet }
 {
     movers.make_room_for_sent()?;
     movers.sent(moved, 0);
@@ -113,8 +115,8 @@ fn hand_off<J: Naming>(
     done: &Seen,
     owners: &Owners,
 ) -> Result<(), AllocError>
-    requires owners { owners.now.shape ≡ J.job.shape }
-    requires events { J.job.events ≡ [] }
+    requires owners { owners.now.layout ≡ layout_of J.job }
+    requires job { J.job ≡ quiet }
 {
     due_is(rt, movers, at_ten, owners, Some(TO_WORKER_1));
     send(movers, TO_WORKER_1)?;
@@ -129,9 +131,8 @@ fn first_owner_hands_off<J: Naming>(
     alloc: Global,
     owners: &Owners,
 ) -> Result<(), AllocError>
-    requires owners { owners.now.shape ≡ J.job.shape }
-    requires shape { J.job.shape ≡ SHAPE }
-    requires events { J.job.events ≡ [] }
+    requires owners { owners.now.layout ≡ layout_of J.job }
+    requires job { J.job ≡ quiet }
 {
     let mut movers = noted::<J>(alloc, 0)?;
     let at_ten = seen_with(alloc, &[(Loc::CtlMail, 15), (Loc::Host(0), 10)])?;
@@ -147,8 +148,8 @@ fn hand_back<J: Naming>(
     done: &Seen,
     owners: &Owners,
 ) -> Result<(), AllocError>
-    requires owners { owners.now.shape ≡ J.job.shape }
-    requires events { J.job.events ≡ [] }
+    requires owners { owners.now.layout ≡ layout_of J.job }
+    requires job { J.job ≡ quiet }
 {
     settled_is(rt, movers, waits, owners, Some(10));
     settled_is(rt, movers, done, owners, None);
@@ -163,9 +164,8 @@ fn second_owner_hands_back<J: Naming>(
     alloc: Global,
     owners: &Owners,
 ) -> Result<(), AllocError>
-    requires owners { owners.now.shape ≡ J.job.shape }
-    requires shape { J.job.shape ≡ SHAPE }
-    requires events { J.job.events ≡ [] }
+    requires owners { owners.now.layout ≡ layout_of J.job }
+    requires job { J.job ≡ quiet }
 {
     let mut movers = noted::<J>(alloc, 1)?;
     let waits = seen_with(alloc, &[(Loc::Host(0), 19)])?;
@@ -174,8 +174,7 @@ fn second_owner_hands_back<J: Naming>(
 }
 
 fn bin_goes_and_comes_back<J: Naming>(rt: &impl Abort, alloc: Global) -> Result<(), AllocError>
-    requires shape { J.job.shape ≡ SHAPE }
-    requires events { J.job.events ≡ [] }
+    requires { J.job ≡ quiet }
 {
     movers_stay();
     let owners = both_noted(alloc)?;

@@ -2,6 +2,7 @@
 ghost use Rattle.std.specs.Prelude.{◌≡◌, ◌≤◌, [], IfOk, length, map};
 ghost use Rattle.std.specs.Vec.{vec_capacity};
 ghost use Rattle.mp_model.specs.Ascending.{ascending};
+ghost use Rattle.mp_outline.specs.JobOutline.{layout_of};
 ghost use Rattle.mp_samples.specs.Jobs.{one_move, three_workers};
 
 use crate::seen::seen_with;
@@ -25,7 +26,7 @@ fn room_for(alloc: Global, state: &BinState<u64>) -> Result<Vec<(Time, u64)>, Al
 // Owners that have noted that the bin goes to worker 2.
 fn owners_with_note(alloc: Global, shape: Shape) -> Result<Owners, AllocError>
     requires { shape ≡ three_workers }
-    ensures { IfOk result (λ o. o.shape ≡ three_workers) }
+    ensures { IfOk result (λ o. o.layout ≡ record { shape = three_workers; firsts = [] }) }
 {
     let mut owners = Owners::new(alloc, shape)?;
     owners.note(0, to_worker_two())?;
@@ -87,7 +88,7 @@ fn wake_is_ready<J: Naming>(
     host: &Host<'_, AnsweringBids, J>,
     owners: &Owners,
 ) -> Result<(), AllocError>
-    requires { owners.now.shape ≡ J.job.shape }
+    requires { owners.now.layout ≡ layout_of J.job }
 {
     let seen = seen_with(alloc, &[])?;
     is_ready(rt, host.ready(&seen, owners));
@@ -106,7 +107,7 @@ fn bin_is_installed<J: Naming>(
     host: &mut Host<'_, AnsweringBids, J>,
 ) -> Result<(), AllocError>
     requires one_move { J.job ≡ one_move }
-    requires shape { owners.now.shape ≡ three_workers }
+    requires owners { owners.now.layout ≡ record { shape = three_workers; firsts = [] } }
     requires stage { host.old.stage ≡ 0 }
     requires room { 1 ≤ host.old.room_for_bins }
 {

@@ -33,7 +33,7 @@ fn three_bids(rt: HostRuntime) -> Result<(), Fail> {
         bid_at(3, 7, 1, 250),
         bid_at(5, 2, 9, 99),
     ];
-    let pieces = answer_pieces(rt.alloc(), &Q1, events.as_slice())?;
+    let pieces = answer_pieces(rt.alloc(), &Q1::given(), events.as_slice())?;
     assert_eq!(rt; pieces.len(), 2);
     assert_eq!(rt; pieces[0].as_slice(), b"3|7|1|222\n".as_slice());
     assert_eq!(rt; pieces[1].as_slice(), b"5|2|9|88\n5|7|2|89\n".as_slice());
@@ -58,17 +58,18 @@ fn a_row_at_a_wake(rt: HostRuntime) -> Result<(), Fail> {
         bid_at(6, 8, 4, 300),
         bid_at(9, 8, 6, 400),
     ];
-    let bids = stage_records(rt.alloc(), &Q4, events.as_slice(), 0)?;
+    let query = Q4::given();
+    let bids = stage_records(rt.alloc(), &query, events.as_slice(), 0)?;
     assert_eq!(rt; bids.len(), 4);
     assert_eq!(rt; bids[2].tag, Tag(0, 2));
-    let sales = stage_records(rt.alloc(), &Q4, events.as_slice(), 1)?;
+    let sales = stage_records(rt.alloc(), &query, events.as_slice(), 1)?;
     assert_eq!(rt; sales.len(), 1);
     assert_eq!(rt; (sales[0].time, sales[0].key), (9, 10));
     assert_eq!(rt; sales[0].tag, Tag(8, 0));
-    let rows = answer_rows(rt.alloc(), &Q4, events.as_slice())?;
+    let rows = answer_rows(rt.alloc(), &query, events.as_slice())?;
     assert_eq!(rt; rows.len(), 1);
     assert_eq!(rt; rows[0].tag, Tag(10, 0));
-    let pieces = answer_pieces(rt.alloc(), &Q4, events.as_slice())?;
+    let pieces = answer_pieces(rt.alloc(), &query, events.as_slice())?;
     assert_eq!(rt; pieces.len(), 1);
     assert_eq!(rt; pieces[0].as_slice(), b"9|10|300\n".as_slice());
     Ok(())
@@ -96,7 +97,7 @@ fn a_name_is_printed_as_its_bytes(rt: HostRuntime) -> Result<(), Fail> {
         },
     };
     let events = [auction, person];
-    let pieces = answer_pieces(rt.alloc(), &Q3 {}, events.as_slice())?;
+    let pieces = answer_pieces(rt.alloc(), &Q3::given(), events.as_slice())?;
     assert_eq!(rt; pieces.len(), 1);
     assert_eq!(rt; pieces[0].as_slice(), b"4|A\xffn|Reno|OR|70\n".as_slice());
     Ok(())

@@ -37,7 +37,7 @@ fn seventy_bids(alloc: Global) -> Result<Job<Q1>, AllocError> {
     for _bid in 0..RECORDS {
         events.push(bid())?;
     }
-    let job = Job::new(alloc, Q1, events, Vec::new(alloc), SHAPE)?;
+    let job = Job::new(alloc, Q1::given(), events, Vec::new(alloc), SHAPE)?;
     Ok(job)
 }
 

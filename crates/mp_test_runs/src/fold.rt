@@ -8,7 +8,7 @@ use mp_fold::answer_pieces;
 use mp_gate::OpenGate;
 use mp_job::Job;
 use mp_model::Naming;
-use mp_names::Shape;
+use mp_names::{First, Shape};
 use mp_outside::MemSink;
 use mp_q_auction::Q4;
 use std::alloc::{AllocError, Global};
@@ -41,8 +41,32 @@ const WAYS: [(&[u8], u32, u64); 3] = [
     ),
 ];
 
+/// First owners turned round: of three bins of the first stage, and of one of the second.
+const TURNED: [First; 4] = [
+    First {
+        stage: 0,
+        bin: 0,
+        worker: 1,
+    },
+    First {
+        stage: 0,
+        bin: 1,
+        worker: 2,
+    },
+    First {
+        stage: 0,
+        bin: 2,
+        worker: 0,
+    },
+    First {
+        stage: 1,
+        bin: 3,
+        worker: 2,
+    },
+];
+
 /// The bytes of pieces, one after the other.
-fn joined(alloc: Global, pieces: &[Vec<u8>]) -> Result<Vec<u8>, AllocError> {
+pub fn joined(alloc: Global, pieces: &[Vec<u8>]) -> Result<Vec<u8>, AllocError> {
     let mut bytes = Vec::new(alloc);
     for piece in pieces {
         bytes.extend_from_slice(piece.as_slice())?;
@@ -53,7 +77,7 @@ fn joined(alloc: Global, pieces: &[Vec<u8>]) -> Result<Vec<u8>, AllocError> {
 /// What the fold gives.
 fn folded(alloc: Global) -> Result<Vec<u8>, Fail> {
     let events = read_events(alloc, CLOSINGS)?;
-    let pieces = answer_pieces(alloc, &Q4, events.as_slice())?;
+    let pieces = answer_pieces(alloc, &Q4::given(), events.as_slice())?;
     let answer = joined(alloc, pieces.as_slice())?;
     Ok(answer)
 }
@@ -62,7 +86,17 @@ fn folded(alloc: Global) -> Result<Vec<u8>, Fail> {
 fn job_by(alloc: Global, config: &[u8]) -> Result<Job<Q4>, Fail> {
     let events = read_events(alloc, CLOSINGS)?;
     let controls = read_control(alloc, config, &SHAPE)?;
-    let job = Job::new(alloc, Q4, events, controls, SHAPE)?;
+    let job = Job::new(alloc, Q4::given(), events, controls, SHAPE)?;
+    Ok(job)
+}
+
+/// The job whose first owners are turned round, and whose bins move by these lines.
+fn turned_by(alloc: Global, config: &[u8]) -> Result<Job<Q4>, Fail> {
+    let events = read_events(alloc, CLOSINGS)?;
+    let controls = read_control(alloc, config, &SHAPE)?;
+    let mut firsts = Vec::new(alloc);
+    firsts.extend_from_slice(&TURNED)?;
+    let job = Job::with_firsts(alloc, Q4::given(), events, controls, SHAPE, firsts)?;
     Ok(job)
 }
 
@@ -89,6 +123,16 @@ fn fold_is_the_reference(rt: HostRuntime) -> Result<(), Fail> {
     let answer = folded(rt.alloc())?;
     for (config, depth, seed) in WAYS {
         let job = job_by(rt.alloc(), config)?;
+        writes::<Brand>(&rt, rt.alloc(), &job, depth, seed, answer.as_slice())?;
+    }
+    Ok(())
+}
+
+#[test]
+fn first_owners_leave_the_answer_alone(rt: HostRuntime) -> Result<(), Fail> {
+    let answer = folded(rt.alloc())?;
+    for (config, depth, seed) in WAYS {
+        let job = turned_by(rt.alloc(), config)?;
         writes::<Brand>(&rt, rt.alloc(), &job, depth, seed, answer.as_slice())?;
     }
     Ok(())

@@ -73,7 +73,7 @@ pub fn one_move(alloc: Global) -> Result<Job<Q4>, AllocError> {
     events.push(bid_on_it())?;
     let mut controls = Vec::new(alloc);
     controls.push(MOVE)?;
-    let job = Job::new(alloc, Q4, events, controls, SHAPE)?;
+    let job = Job::new(alloc, Q4::given(), events, controls, SHAPE)?;
     Ok(job)
 }
 

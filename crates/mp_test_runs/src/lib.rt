@@ -15,4 +15,6 @@ mod schedule;
 #[cfg(test)]
 mod script;
 #[cfg(test)]
+mod windows;
+#[cfg(test)]
 mod worked;

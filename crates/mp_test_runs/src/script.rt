@@ -1,6 +1,7 @@
 //! Lists of steps, with what each answers and what is seen after them.
 ghost use Rattle.std.specs.Prelude.{◌≡◌};
 ghost use Rattle.mp_output.specs.Rows.{GivesRows};
+ghost use Rattle.mp_model.specs.Tables.{table_of};
 
 use mp_drive::{DriveStop, Plain};
 use mp_job::Job;
@@ -84,7 +85,7 @@ pub fn follows<Q: Query, J: Naming>(
     parts: &[Part<'_>],
 ) -> Result<(), DriveStop>
     requires job { job.now ≡ J.job }
-    requires rows { GivesRows (Q.facts J.job.rules) }
+    requires rows { GivesRows (table_of Q.facts J.job) }
 {
     let mut sink = MemSink::new(alloc);
     let mut plain = Plain::<Q, J>::open(alloc, job, depth)?;

@@ -42,7 +42,7 @@ fn job_of(alloc: Global, bids: &[(u32, u32, u32)]) -> Result<Job<Q1>, AllocError
     for (time, auction, price) in bids {
         events.push(bid(*time, *auction, *price))?;
     }
-    let job = Job::new(alloc, Q1, events, Vec::new(alloc), SHAPE)?;
+    let job = Job::new(alloc, Q1::given(), events, Vec::new(alloc), SHAPE)?;
     Ok(job)
 }
 

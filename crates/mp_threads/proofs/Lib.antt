@@ -1,5 +1,4 @@
 -- Lemmas.
-pub mod Begun
 pub mod Coming
 pub mod Crossing
 pub mod Ended

@@ -1,11 +1,8 @@
 -- The workers of a job, before they begin and once they are finished.
-use Rattle.std.specs.Prelude.{◌≡◌, ℕ, List, [], Some, length, slice_get}
-use Rattle.mp_names.specs.declared.names.Name.{Name}
-use Rattle.mp_names.specs.Logs.{Log, empty_log}
+use Rattle.std.specs.Prelude.{◌≡◌, ℕ, List, Some, length, slice_get}
+use Rattle.mp_names.specs.Logs.{empty_log}
 use Rattle.mp_names.specs.Outlines.{Outline}
 use Rattle.mp_machine.specs.Promises.{LogIsFull}
-use Rattle.mp_ruled.specs.Posts.{PostState, RuledStands}
-use Rattle.mp_seat.specs.Seats.{IsIdle, LockIdentity, SeatState}
 use Rattle.mp_worker_refinement.specs.State.{WorkerState}
 use Rattle.mp_worker_refinement.specs.SystemState.{KnowsTheEnd}
 use Rattle.mp_threads_member.specs.Members.{MemberState}
@@ -13,20 +10,6 @@ use Rattle.mp_threads_member.specs.Members.{MemberState}
 -- the worker has an empty log, and posted that
 abbrev pub HasDoneNothing : MemberState → Type 0
 HasDoneNothing m = (m.worker.log ≡ empty_log) × (m.worker.posted ≡ empty_log)
-
--- The seat is an idle one of this lock, of this number among so many. Its worker has posted the empty log, and seen this version of the board
-pub record IsNewSeat (lock : LockIdentity) (workers version w : ℕ) (seat : SeatState Log) : Type 0 where
-  pub idle : IsIdle lock seat
-  pub number : seat.number ≡ w
-  pub many : seat.seats ≡ workers
-  pub row : seat.row ≡ Some empty_log
-  pub saw : seat.version ≡ version
-
--- The ends are those of this worker among so many, and nothing went through them
-pub record AreNewEnds (workers number : ℕ) (post : PostState (List Name)) : Type 0 where
-  pub worker : post.worker ≡ number
-  pub to_all : length post.senders ≡ workers
-  pub nothing : (from to : ℕ) → RuledStands (λ xs. xs) post from to [] []
 
 -- There are so many, each at its number
 pub record AreByNumber (workers : ℕ) (members : List MemberState) : Type 0 where

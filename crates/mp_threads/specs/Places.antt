@@ -24,9 +24,3 @@ abbrev pub number_of : Place ℕ MemberState → ℕ
 number_of (Away n) = n
 number_of (Here m) = m.worker.number
 number_of (Lost n) = n
-
--- if the worker is here it is finished
-abbrev pub IsOver : Outline → Place ℕ MemberState → Type 0
-IsOver o (Away n) = Unit {0}
-IsOver o (Here m) = IsFinished o m.worker
-IsOver o (Lost n) = Unit {0}

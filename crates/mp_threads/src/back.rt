@@ -22,6 +22,7 @@ pub(crate) struct Numbered(pub(crate) u32);
 impl<'a, Q: Query, J: Naming, R> Promise<Back<Worker<'a, Q, J>, Member<'a, Q, J, R>>> for Numbered {
     ghost use Rattle.mp_outline.specs.JobOutline.{outline_of};
     ghost use Rattle.mp_threads.specs.Places.{IsBack};
+    ghost use Rattle.mp_model.specs.Tables.{table_of};
 
-    ghost kept_by = { λ p b. IsBack (outline_of (Q.facts J.job.rules) J.job) p.0 b };
+    ghost kept_by = { λ p b. IsBack (outline_of (table_of Q.facts J.job) J.job) p.0 b };
 }

@@ -1,28 +1,26 @@
 //! The workers of a job, made for threads.
-ghost use Rattle.std.specs.Prelude.{◌≡◌, ◌∷◌, ◌<◌, ℕ, [], All, IfOk, length, replicate};
-ghost use Rattle.std.specs.Arc.{arc_value};
+ghost use Rattle.std.specs.Prelude.{◌≡◌, ◌<◌, ℕ, All, IfOk, length, replicate};
 ghost use Rattle.mp_names.specs.Logs.{empty_log};
+ghost use Rattle.mp_model.specs.Tables.{table_of};
 ghost use Rattle.mp_outline.specs.JobOutline.{outline_of};
 ghost use Rattle.mp_output.specs.Rows.{GivesRows};
 ghost use Rattle.mp_board.specs.Boards.{ShowsFrontiers};
 ghost use Rattle.mp_ruled.specs.Posts.{AreNewPosts, StandForNone};
-ghost use Rattle.mp_seat.specs.Seats.{AreNew};
-ghost use Rattle.mp_threads.specs.Crews.{AreByNumber, AreNewEnds, HasDoneNothing, IsNewSeat};
+ghost use Rattle.mp_threads_hub.specs.Hubs.{AreNewHubs};
+ghost use Rattle.mp_threads.specs.Crews.{AreByNumber, HasDoneNothing};
 
 use mp_board::{Board, OutlineOf};
 use mp_job::Job;
 use mp_model::{Naming, Query};
 use mp_msg::Msg;
 use mp_ruled::{RuledPost, ruled_posts};
-use mp_seat::{Seat, SeatLock};
 use mp_stamps::Seen;
-use mp_threads_hub::{SeatHub, Shared};
+use mp_threads_hub::{SeatHub, open_hubs};
 use mp_threads_member::Member;
 use mp_worker::Worker;
 use std::alloc::{AllocError, Global};
 use std::collections::VecDeque;
 use std::marker::Model;
-use std::sync::Arc;
 
 /// The workers of the job J, each with its ends of the mailboxes and its seat at the board. Contracts see them by their
 /// numbers.
@@ -53,38 +51,34 @@ impl<'a, Q: Query, J: Naming, R: Copy + Drop> Crew<'a, Q, J, R> {
         depth: u32,
     ) -> Result<Crew<'a, Q, J, R>, AllocError>
         requires job { job.now ≡ J.job }
-        requires rows { GivesRows (Q.facts J.job.rules) }
+        requires rows { GivesRows (table_of Q.facts J.job) }
         requires depth { 0 < depth }
         ensures start { IfOk result (λ crew. All HasDoneNothing crew) }
     {
         let workers = job.shape().workers;
         let board = Board::open(alloc, job)?;
         let seen = board.seen();
-        let shared = Shared::new(alloc, board)?;
-        let (lock, seats) = SeatLock::open(alloc, shared, workers)?;
-        let lock = Arc::new(alloc, lock)?;
+        let hubs = open_hubs(alloc, board, workers)?;
         let posts = ruled_posts(rt, alloc, workers, depth)?;
-        let members = new_members(alloc, job, seen, &lock, seats, posts)?;
+        let members = new_members(alloc, job, seen, hubs, posts)?;
         Ok(Crew { members })
     }
 }
 
-// A worker for each number, which has done nothing, with the seat and the post of its number.
+// A worker for each number, which has done nothing, with the way to the board and the post of its number.
 fn new_members<'a, Q: Query, J: Naming, R: Drop>(
     alloc: Global,
     job: &'a Job<Q>,
     seen: Seen,
-    lock: &Arc<SeatLock<Shared<OutlineOf<Q, J>>>, Global>,
-    seats: Vec<Seat<Shared<OutlineOf<Q, J>>>>,
+    hubs: Vec<SeatHub<OutlineOf<Q, J>>>,
     posts: Vec<RuledPost<Msg<Q, J>, R>>,
 ) -> Result<Vec<Member<'a, Q, J, R>>, AllocError>
     requires job { job.now ≡ J.job }
-    requires rows { GivesRows (Q.facts J.job.rules) }
-    requires opening { let o = outline_of (Q.facts J.job.rules) J.job in
+    requires rows { GivesRows (table_of Q.facts J.job) }
+    requires opening { let o = outline_of (table_of Q.facts J.job) J.job in
         ShowsFrontiers o (replicate J.job.shape.workers empty_log) seen }
-    requires seats { let lock = arc_value lock.now in
-        (length seats.items ≡ J.job.shape.workers) × (lock.seats ≡ J.job.shape.workers)
-        × AreNew lock (replicate J.job.shape.workers empty_log) seen.version seats.items }
+    requires hubs { (length hubs.items ≡ J.job.shape.workers)
+        × AreNewHubs (replicate J.job.shape.workers empty_log) seen.version hubs.items }
     requires posts { (length posts.items ≡ J.job.shape.workers) × StandForNone (λ xs. xs) posts.items }
     requires new_posts { (depth : ℕ) × AreNewPosts J.job.shape.workers depth posts.items }
     ensures numbers { IfOk result (λ members. AreByNumber J.job.shape.workers members.items) }
@@ -92,33 +86,17 @@ fn new_members<'a, Q: Query, J: Naming, R: Drop>(
 {
     let workers = job.shape().workers;
     let mut members = Vec::with_capacity(alloc, workers as usize)?;
-    let mut seats = VecDeque::from_vec(seats);
+    let mut hubs = VecDeque::from_vec(hubs);
     let mut posts = VecDeque::from_vec(posts);
     for number in 0..workers {
         let worker = Worker::new(alloc, job, number, seen)?;
-        let Some(seat) = seats.pop_front() else {
+        let Some(hub) = hubs.pop_front() else {
             unreachable!()
         };
         let Some(post) = posts.pop_front() else {
             unreachable!()
         };
-        members.push_reserved(new_member(worker, lock, seat, post)?);
+        members.push_reserved(Member::new(worker, post, hub));
     }
     Ok(members)
-}
-
-// A worker that has done nothing, with the seat and the post of its number.
-fn new_member<'a, Q: Query, J: Naming, R: Drop>(
-    worker: Worker<'a, Q, J>,
-    lock: &Arc<SeatLock<Shared<OutlineOf<Q, J>>>, Global>,
-    seat: Seat<Shared<OutlineOf<Q, J>>>,
-    post: RuledPost<Msg<Q, J>, R>,
-) -> Result<Member<'a, Q, J, R>, AllocError>
-    requires begins { (worker.log ≡ empty_log) × (worker.posted ≡ empty_log) }
-    requires seat { IsNewSeat (arc_value lock.now) J.job.shape.workers worker.seen.version worker.number seat }
-    requires post { AreNewEnds J.job.shape.workers worker.number post }
-    ensures { IfOk result (λ member. member.worker ≡ worker.entry) }
-{
-    let hub = SeatHub::new(Arc::try_clone(lock)?, seat);
-    Ok(Member::new(worker, post, hub))
 }

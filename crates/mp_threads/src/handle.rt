@@ -2,6 +2,7 @@
 ghost use Rattle.std.specs.Prelude.{◌≡◌};
 ghost use Rattle.mp_outline.specs.JobOutline.{outline_of};
 ghost use Rattle.mp_threads.specs.Places.{IsBack};
+ghost use Rattle.mp_model.specs.Tables.{table_of};
 
 use crate::back::{Back, Numbered};
 use mp_model::{Naming, Query};
@@ -47,7 +48,7 @@ impl<'a, Q: Query, J: Naming, R: Drop> Handle<'a, Q, J, R> {
 
     /// Waits for the thread.
     pub(crate) fn join<T: Threads>(self, rt: &T) -> Back<Worker<'a, Q, J>, Member<'a, Q, J, R>>
-        ensures { IsBack (outline_of (Q.facts J.job.rules) J.job) self.entry result }
+        ensures { IsBack (outline_of (table_of Q.facts J.job) J.job) self.entry result }
     {
         let Handle { inner, job: _ } = self;
         inner.join(rt)

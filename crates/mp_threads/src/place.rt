@@ -1,20 +1,18 @@
 //! Where a worker is.
-ghost use Rattle.std.specs.Prelude.{◌≡◌, IfOk, IfSome};
+ghost use Rattle.std.specs.Prelude.{◌≡◌, IfSome};
+ghost use Rattle.mp_model.specs.Tables.{table_of};
 ghost use Rattle.mp_outline.specs.JobOutline.{outline_of};
-ghost use Rattle.mp_threads_member.specs.declared.drive.Round.TheVariants.{Over};
-ghost use Rattle.mp_threads.specs.Places.{IsBackAt, IsOver, number_of};
+ghost use Rattle.mp_threads.specs.Places.{IsBackAt, number_of};
 
 use crate::back::Back;
 use crate::handle::Handle;
-use crate::start::start;
 use mp_gate::Gate;
 use mp_model::{Naming, Query};
 use mp_outside::NoSink;
 use mp_threads_member::{Member, Round};
 use mp_worker::{Stop, Worker};
-use std::alloc::Global;
 use std::sync::Wait;
-use std::thread::{Scope, Threads};
+use std::thread::Threads;
 
 /// Where a worker is.
 #[derive(Drop)]
@@ -30,42 +28,13 @@ pub(crate) enum Place<H, M> {
 /// Where a worker of this query is.
 pub(crate) type Placed<'a, Q, J, R> = Place<Handle<'a, Q, J, R>, Member<'a, Q, J, R>>;
 
-/// Starts a thread for the worker. Where none can be made it stays here.
-pub(crate) fn settle<
-    's,
-    'a: 's,
-    E,
-    Q: Query + Send + 's,
-    J: Naming + Send + Sync + 's,
-    R: Wait + Drop + Send + 's,
-    T: Wait + Sync,
-    G: Gate + Sync,
->(
-    scope: &Scope<'s, E>,
-    rt: &'s T,
-    alloc: Global,
-    gate: &'s G,
-    member: Member<'a, Q, J, R>,
-) -> Placed<'a, Q, J, R>
-    ensures { number_of result ≡ member.entry.worker.number }
-{
-    let number = member.number();
-    match start(scope, rt, alloc, gate, member) {
-        Ok(handle) => Place::Away(handle),
-        Err(Back::Undriven(member)) => Place::Here(member),
-        Err(_) => Place::Lost(number),
-    }
-}
-
 /// One round of the worker, if it is here; what it came to. `Err`: it stopped, and told the others so.
 pub(crate) fn turn_here<'a, Q: Query, J: Naming, R: Wait + Drop, T: Wait, G: Gate>(
     place: &mut Placed<'a, Q, J, R>,
     rt: &T,
     gate: &G,
 ) -> Result<Round, Stop>
-    ensures number { number_of place.new ≡ number_of place.old }
-    ensures over { let o = outline_of (Q.facts J.job.rules) J.job in
-        IfOk result (λ round. round ≡ Over → IsOver o place.new) }
+    ensures { number_of place.new ≡ number_of place.old }
 {
     match place {
         Place::Away(_) => Ok(Round::Over),
@@ -74,26 +43,37 @@ pub(crate) fn turn_here<'a, Q: Query, J: Naming, R: Wait + Drop, T: Wait, G: Gat
     }
 }
 
-/// The worker, which is here and finished, or on a thread that is waited for. `None`: it stopped.
+/// The worker, once it has come to its end: here, or on a thread that is waited for. `None`: it stopped.
 pub(crate) fn finish<'a, Q: Query, J: Naming, R: Wait + Drop, T: Threads + Wait, G: Gate>(
     place: Placed<'a, Q, J, R>,
     rt: &T,
     gate: &G,
 ) -> Option<Worker<'a, Q, J>>
-    requires { IsOver (outline_of (Q.facts J.job.rules) J.job) place }
-    ensures { let o = outline_of (Q.facts J.job.rules) J.job in
+    ensures { let o = outline_of (table_of Q.facts J.job) J.job in
         IfSome result (λ worker. IsBackAt o (number_of place.entry) worker) }
 {
     match place {
-        Place::Here(member) => Some(member.into_worker()),
+        Place::Here(member) => drive_alone(member, rt, gate),
         Place::Away(handle) => match handle.join(rt) {
             Back::Finished(worker) => Some(worker),
-            Back::Undriven(member) => match member.drive(rt, gate, &mut NoSink) {
-                Ok(member) => Some(member.into_worker()),
-                Err(_) => None,
-            },
+            Back::Undriven(member) => drive_alone(member, rt, gate),
             Back::Stopped => None,
         },
         Place::Lost(_) => None,
+    }
+}
+
+/// Drives the worker to its end; it writes nothing. `None`: it stopped, and told the others so.
+pub(crate) fn drive_alone<'a, Q: Query, J: Naming, R: Wait + Drop, T: Wait, G: Gate>(
+    member: Member<'a, Q, J, R>,
+    rt: &T,
+    gate: &G,
+) -> Option<Worker<'a, Q, J>>
+    ensures { let o = outline_of (table_of Q.facts J.job) J.job in
+        IfSome result (λ worker. IsBackAt o member.entry.worker.number worker) }
+{
+    match member.drive(rt, gate, &mut NoSink) {
+        Ok(member) => Some(member.into_worker()),
+        Err(_) => None,
     }
 }

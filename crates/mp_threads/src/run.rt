@@ -4,16 +4,18 @@ ghost use Rattle.std.specs.Vec.Iter.{into_iter_items};
 ghost use Rattle.mp_outside.specs.Fault.{Rose};
 ghost use Rattle.mp_outside.specs.Sink.{OnlyAppends, grown};
 ghost use Rattle.mp_model.specs.Answers.{one_thread_answer};
+ghost use Rattle.mp_model.specs.Tables.{table_of};
 ghost use Rattle.mp_outline.specs.JobOutline.{outline_of};
 ghost use Rattle.mp_board.specs.declared.causes.Cause.TheVariants.{Write};
 ghost use Rattle.mp_worker.specs.declared.turn.Stop.TheVariants as own;
 ghost use Rattle.mp_threads_member.specs.declared.drive.Round.TheVariants.{Over};
 ghost use Rattle.mp_threads_member.specs.Driving.{GoesOn, HasBegun, StopsBy};
 ghost use Rattle.mp_threads.specs.Crews.{AreFinished, HasDoneNothing, IsFinished};
-ghost use Rattle.mp_threads.specs.Places.{IsOver, number_of};
+ghost use Rattle.mp_threads.specs.Places.{number_of};
 
 use crate::Crew;
-use crate::place::{Place, Placed, finish, settle, turn_here};
+use crate::place::{Placed, finish, turn_here};
+use crate::start::settle;
 use crossbeam_utils::Backoff;
 use mp_board::Cause;
 use mp_gate::Gate;
@@ -48,11 +50,11 @@ pub fn run_workers<
     sink: &mut S,
 ) -> Result<Vec<Worker<'a, Q, J>>, Cause>
     requires start { All HasDoneNothing crew }
-    ensures finished { let o = outline_of (Q.facts J.job.rules) J.job in
+    ensures finished { let o = outline_of (table_of Q.facts J.job) J.job in
         IfOk result (λ workers. AreFinished o workers.items) }
-    ensures answer { let q = Q.facts J.job.rules in
+    ensures answer { let q = table_of Q.facts J.job in
         OnOk result (S.written sink.new ≡ grown (S.written sink.old) (one_thread_answer q J.job.events)) }
-    ensures part { let q = Q.facts J.job.rules in
+    ensures part { let q = table_of Q.facts J.job in
         OnErr result (HasBegun q J.job.events (S.written sink.old) (S.written sink.new)) }
     ensures failed { result ≡ Err Write → Rose (S.faults sink.old) (S.faults sink.new) }
     ensures no_fault { result ≢ Err Write → S.faults sink.new ≡ S.faults sink.old }
@@ -65,11 +67,11 @@ pub fn run_workers<
         move |scope| -> (Result<Vec<Worker<Q, J>>, Cause>, &mut S)
             requires start { All HasDoneNothing crew }
             ensures same_reference { result.1.ghost_name ≡ sink.entry.ghost_name }
-            ensures finished { let o = outline_of (Q.facts J.job.rules) J.job in
+            ensures finished { let o = outline_of (table_of Q.facts J.job) J.job in
                 IfOk result.0 (λ workers. AreFinished o workers.items) }
-            ensures answer { let q = Q.facts J.job.rules in
+            ensures answer { let q = table_of Q.facts J.job in
                 OnOk result.0 (S.written result.1.now ≡ grown (S.written sink.entry.now) (one_thread_answer q J.job.events)) }
-            ensures part { let q = Q.facts J.job.rules in
+            ensures part { let q = table_of Q.facts J.job in
                 OnErr result.0 (HasBegun q J.job.events (S.written sink.entry.now) (S.written result.1.now)) }
             ensures failed { result.0 ≡ Err Write → Rose (S.faults sink.entry.now) (S.faults result.1.now) }
             ensures no_fault { result.0 ≢ Err Write → S.faults result.1.now ≡ S.faults sink.entry.now }
@@ -102,11 +104,11 @@ fn run_in<
     sink: &mut S,
 ) -> Result<Vec<Worker<'a, Q, J>>, Cause>
     requires start { All HasDoneNothing crew }
-    ensures finished { let o = outline_of (Q.facts J.job.rules) J.job in
+    ensures finished { let o = outline_of (table_of Q.facts J.job) J.job in
         IfOk result (λ workers. AreFinished o workers.items) }
-    ensures answer { let q = Q.facts J.job.rules in
+    ensures answer { let q = table_of Q.facts J.job in
         OnOk result (S.written sink.new ≡ grown (S.written sink.old) (one_thread_answer q J.job.events)) }
-    ensures part { let q = Q.facts J.job.rules in
+    ensures part { let q = table_of Q.facts J.job in
         OnErr result (HasBegun q J.job.events (S.written sink.old) (S.written sink.new)) }
     ensures failed { result ≡ Err Write → Rose (S.faults sink.old) (S.faults sink.new) }
     ensures no_fault { result ≢ Err Write → S.faults sink.new ≡ S.faults sink.old }
@@ -127,12 +129,12 @@ fn run_in<
     let driven = drive_here(&mut first, places.as_mut_slice(), rt, gate, sink);
     let first = first.into_worker();
     first.log_is_known();
-    end(driven, first, places, done, rt, gate)
+    finish_all(driven, first, places, done, rt, gate)
 }
 
 // What a run comes to in which those with the caller were driven so, worker 0 first: all workers, finished, or why there are
-// none. Each thread is waited for.
-fn end<'a, Q: Query, J: Naming, R: Wait + Drop, T: Threads + Wait, G: Gate>(
+// none. Each comes to its end, and each thread is waited for.
+fn finish_all<'a, Q: Query, J: Naming, R: Wait + Drop, T: Threads + Wait, G: Gate>(
     driven: Result<bool, Stop>,
     first: Worker<'a, Q, J>,
     places: Vec<Placed<'a, Q, J, R>>,
@@ -140,10 +142,8 @@ fn end<'a, Q: Query, J: Naming, R: Wait + Drop, T: Threads + Wait, G: Gate>(
     rt: &T,
     gate: &G,
 ) -> Result<Vec<Worker<'a, Q, J>>, Cause>
-    requires first { let o = outline_of (Q.facts J.job.rules) J.job in
+    requires first { let o = outline_of (table_of Q.facts J.job) J.job in
         IfOk driven (λ over. IsTrue over → IsFinished o first) }
-    requires over { let o = outline_of (Q.facts J.job.rules) J.job in
-        IfOk driven (λ over. IsTrue over → All (IsOver o) places.items) }
     requires done { done.items ≡ [] }
     requires room { length places.items < vec_capacity done }
     ensures over { OnOk result (driven ≡ Ok true) }
@@ -151,36 +151,38 @@ fn end<'a, Q: Query, J: Naming, R: Wait + Drop, T: Threads + Wait, G: Gate>(
     ensures memory { driven ≡ Err own.Write → result ≡ Err Write }
     ensures numbers { IfOk result (λ workers.
         map (λ s. s.number) workers.items ≡ first.entry.number ∷ map number_of places.entry.items) }
-    ensures finished { let o = outline_of (Q.facts J.job.rules) J.job in
+    ensures finished { let o = outline_of (table_of Q.facts J.job) J.job in
         IfOk result (λ workers. All (IsFinished o) workers.items) }
 {
+    let mut all = is_over(driven);
+    done.push_reserved(first);
+    for place in places {
+        match finish(place, rt, gate) {
+            Some(worker) => done.push_reserved(worker),
+            None => all = false,
+        }
+    }
+    if all { Ok(done) } else { Err(cause_of(driven)) }
+}
+
+// Whether those with the caller were driven to their end.
+fn is_over(driven: Result<bool, Stop>) -> bool
+    ensures { IsTrue result → driven ≡ Ok true }
+{
     match driven {
-        Ok(true) => {
-            done.push_reserved(first);
-            match finish_all(places, done, rt, gate) {
-                Some(workers) => Ok(workers),
-                None => Err(Cause::Memory),
-            }
-        }
-        Ok(false) => {
-            join_all(places, rt);
-            Err(Cause::Memory)
-        }
-        Err(stop) => {
-            join_all(places, rt);
-            Err(cause_of(stop))
-        }
+        Ok(over) => over,
+        Err(_) => false,
     }
 }
 
 // Worker 0's own write failed; every other stop is for want of memory.
-fn cause_of(stop: Stop) -> Cause
-    ensures write { result ≡ Write → stop ≡ own.Write }
-    ensures memory { stop ≡ own.Write → result ≡ Write }
+fn cause_of(driven: Result<bool, Stop>) -> Cause
+    ensures write { result ≡ Write → driven ≡ Err own.Write }
+    ensures memory { driven ≡ Err own.Write → result ≡ Write }
 {
-    match stop {
-        Stop::Write => Cause::Write,
-        Stop::Memory | Stop::Other(_) => Cause::Memory,
+    match driven {
+        Err(Stop::Write) => Cause::Write,
+        _ => Cause::Memory,
     }
 }
 
@@ -224,13 +226,11 @@ fn drive_here<'a, Q: Query, J: Naming, R: Wait + Drop, T: Wait, G: Gate, S: Sink
 ) -> Result<bool, Stop>
     ensures many { length places.new ≡ length places.old }
     ensures numbers { map number_of places.new ≡ map number_of places.old }
-    ensures first { let o = outline_of (Q.facts J.job.rules) J.job in
+    ensures first { let o = outline_of (table_of Q.facts J.job) J.job in
         IfOk result (λ over. IsTrue over → IsFinished o first.new.worker) }
-    ensures over { let o = outline_of (Q.facts J.job.rules) J.job in
-        IfOk result (λ over. IsTrue over → All (IsOver o) places.new) }
-    ensures goes_on { let q = Q.facts J.job.rules in
+    ensures goes_on { let q = table_of Q.facts J.job in
         OnOk result (GoesOn q J.job S.written S.faults S.frame first.old.worker first.new.worker sink.old sink.new) }
-    ensures stops { let q = Q.facts J.job.rules in
+    ensures stops { let q = table_of Q.facts J.job in
         IfErr result (λ stop. StopsBy q J.job S.written S.faults S.frame stop first.old.worker first.new.worker sink.old sink.new) }
 {
     let backoff = Backoff::new();
@@ -256,8 +256,6 @@ fn turn_all<'a, Q: Query, J: Naming, R: Wait + Drop, T: Wait, G: Gate>(
 ) -> Result<Round, Stop>
     ensures many { length places.new ≡ length places.old }
     ensures numbers { map number_of places.new ≡ map number_of places.old }
-    ensures over { let o = outline_of (Q.facts J.job.rules) J.job in
-        IfOk result (λ round. round ≡ Over → All (IsOver o) places.new) }
 {
     let mut all = Round::Over;
     for i in 0..places.len() {
@@ -269,51 +267,11 @@ fn turn_all<'a, Q: Query, J: Naming, R: Wait + Drop, T: Wait, G: Gate>(
 
 // What two rounds came to: a step, if one of them made one.
 fn both(one: Round, other: Round) -> Round
-    ensures { result ≡ Over → (one ≡ Over) × (other ≡ Over) }
+    ensures { result ≡ Over → one ≡ Over }
 {
     match (one, other) {
         (Round::Over, Round::Over) => Round::Over,
         (Round::Made, _) | (_, Round::Made) => Round::Made,
         _ => Round::Idle,
-    }
-}
-
-// The workers behind those that are done, by their order: those that are here, and those that a thread gives back. Each
-// thread is waited for. `None`: one stopped.
-fn finish_all<'a, Q: Query, J: Naming, R: Wait + Drop, T: Threads + Wait, G: Gate>(
-    places: Vec<Placed<'a, Q, J, R>>,
-    mut done: Vec<Worker<'a, Q, J>>,
-    rt: &T,
-    gate: &G,
-) -> Option<Vec<Worker<'a, Q, J>>>
-    requires over { All (IsOver (outline_of (Q.facts J.job.rules) J.job)) places.items }
-    requires done { All (IsFinished (outline_of (Q.facts J.job.rules) J.job)) done.items }
-    requires room { length done.items + length places.items ≤ vec_capacity done }
-    ensures numbers { IfSome result (λ workers.
-        map (λ s. s.number) workers.items ≡ map (λ s. s.number) done.entry.items ++ map number_of places.entry.items) }
-    ensures finished { let o = outline_of (Q.facts J.job.rules) J.job in
-        IfSome result (λ workers. All (IsFinished o) workers.items) }
-{
-    let mut all = true;
-    for place in places {
-        match finish(place, rt, gate) {
-            Some(worker) => done.push_reserved(worker),
-            None => all = false,
-        }
-    }
-    if all { Some(done) } else { None }
-}
-
-// Waits for each thread.
-fn join_all<'a, Q: Query, J: Naming, R: Wait + Drop, T: Threads>(
-    places: Vec<Placed<'a, Q, J, R>>,
-    rt: &T,
-) {
-    for place in places {
-        match place {
-            Place::Away(handle) => drop(handle.join(rt)),
-            Place::Here(member) => drop(member),
-            Place::Lost(_) => {}
-        }
     }
 }

@@ -1,13 +1,14 @@
 //! How a worker begins on a thread.
-ghost use Rattle.std.specs.Prelude.{◌≡◌, IfErr, IfOk};
+ghost use Rattle.std.specs.Prelude.{◌≡◌};
+ghost use Rattle.mp_model.specs.Tables.{table_of};
 ghost use Rattle.mp_outline.specs.JobOutline.{outline_of};
-ghost use Rattle.mp_threads.specs.Places.{IsBack};
+ghost use Rattle.mp_threads.specs.Places.{IsBack, number_of};
 
 use crate::back::{Back, Numbered};
 use crate::handle::Handle;
+use crate::place::{Place, Placed, drive_alone};
 use mp_gate::Gate;
 use mp_model::{Naming, Query};
-use mp_outside::NoSink;
 use mp_threads_member::Member;
 use mp_worker::Worker;
 use std::alloc::Global;
@@ -15,9 +16,9 @@ use std::sync::atomic::{AtomicBool, Ordering};
 use std::sync::{Arc, Wait};
 use std::thread::Scope;
 
-/// Starts a thread that drives the worker. `Err`: no thread could be made, or there was no memory for the flag that says
-/// so; the worker comes back at once.
-pub(crate) fn start<
+/// Starts a thread that drives the worker. Where none can be made, or there is no memory for the flag that says so, the
+/// worker stays here.
+pub(crate) fn settle<
     's,
     'a: 's,
     E,
@@ -32,31 +33,43 @@ pub(crate) fn start<
     alloc: Global,
     gate: &'s G,
     member: Member<'a, Q, J, R>,
-) -> Result<Handle<'a, Q, J, R>, Back<Worker<'a, Q, J>, Member<'a, Q, J, R>>>
-    ensures ok { IfOk result (λ handle. handle ≡ member.entry.worker.number) }
-    ensures err { let o = outline_of (Q.facts J.job.rules) J.job in
-        IfErr result (λ back. IsBack o member.entry.worker.number back) }
+) -> Placed<'a, Q, J, R>
+    ensures { number_of result ≡ member.entry.worker.number }
 {
     let number = member.number();
     let Ok(flag) = Arc::new(alloc, AtomicBool::new(false)) else {
-        return Err(Back::Undriven(member));
+        return Place::Here(member);
     };
     let Ok(theirs) = Arc::try_clone(&flag) else {
-        return Err(Back::Undriven(member));
+        return Place::Here(member);
     };
     let started = scope.spawn_with(
         Numbered(number),
         move || -> Back<Worker<Q, J>, Member<Q, J, R>>
             requires { member.worker.number ≡ number }
-            ensures { IsBack (outline_of (Q.facts J.job.rules) J.job) number result }
+            ensures { IsBack (outline_of (table_of Q.facts J.job) J.job) number result }
         { drive_unless(rt, theirs, gate, number, member) },
     );
     match started {
-        Ok(inner) => Ok(Handle::new(inner)),
+        Ok(inner) => Place::Away(Handle::new(inner)),
         Err(refused) => {
             flag.store(true, Ordering::SeqCst);
-            Err((refused.value)())
+            left(number, (refused.value)())
         }
+    }
+}
+
+// Where the worker of this number is that no thread could be made for.
+fn left<'a, Q: Query, J: Naming, R: Drop>(
+    number: u32,
+    back: Back<Worker<'a, Q, J>, Member<'a, Q, J, R>>,
+) -> Placed<'a, Q, J, R>
+    requires { IsBack (outline_of (table_of Q.facts J.job) J.job) number back }
+    ensures { number_of result ≡ number }
+{
+    match back {
+        Back::Undriven(member) => Place::Here(member),
+        _ => Place::Lost(number),
     }
 }
 
@@ -69,14 +82,14 @@ fn drive_unless<'a, Q: Query, J: Naming, R: Wait + Drop, T: Wait, G: Gate>(
     member: Member<'a, Q, J, R>,
 ) -> Back<Worker<'a, Q, J>, Member<'a, Q, J, R>>
     requires { member.worker.number ≡ number }
-    ensures { IsBack (outline_of (Q.facts J.job.rules) J.job) number result }
+    ensures { IsBack (outline_of (table_of Q.facts J.job) J.job) number result }
 {
     let _ = number;
     if refused.load(Ordering::SeqCst) {
         return Back::Undriven(member);
     }
-    match member.drive(rt, gate, &mut NoSink) {
-        Ok(member) => Back::Finished(member.into_worker()),
-        Err(_) => Back::Stopped,
+    match drive_alone(member, rt, gate) {
+        Some(worker) => Back::Finished(worker),
+        None => Back::Stopped,
     }
 }

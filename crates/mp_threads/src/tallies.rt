@@ -3,6 +3,7 @@ ghost use Rattle.std.specs.Prelude.{◌≡◌, ◌≢◌, ◌<◌, ℕ, Err, IfO
 ghost use Rattle.mp_outside.specs.Fault.{Rose};
 ghost use Rattle.mp_outside.specs.Sink.{OnlyAppends, grown};
 ghost use Rattle.mp_model.specs.Answers.{one_thread_answer};
+ghost use Rattle.mp_model.specs.Tables.{table_of};
 ghost use Rattle.mp_outline.specs.JobOutline.{outline_of};
 ghost use Rattle.mp_output.specs.Rows.{GivesRows};
 ghost use Rattle.mp_tally.specs.declared.tally.Tally.{Tally as Told};
@@ -41,14 +42,14 @@ pub fn run_with_tallies<
     sink: &mut S,
 ) -> Result<Vec<Tally>, Cause>
     requires job { job.now ≡ J.job }
-    requires rows { GivesRows (Q.facts J.job.rules) }
+    requires rows { GivesRows (table_of Q.facts J.job) }
     requires depth { 0 < depth }
     ensures all { IfOk result (λ tallies. length tallies.items ≡ J.job.shape.workers) }
     ensures tallies { IfOk result (λ tallies. (w : ℕ) (t : Told) → slice_get tallies.items w ≡ Some t
-        → IsTallyOf (Q.facts J.job.rules) J.job w t) }
-    ensures answer { let q = Q.facts J.job.rules in
+        → IsTallyOf (table_of Q.facts J.job) J.job w t) }
+    ensures answer { let q = table_of Q.facts J.job in
         OnOk result (S.written sink.new ≡ grown (S.written sink.old) (one_thread_answer q J.job.events)) }
-    ensures part { let q = Q.facts J.job.rules in
+    ensures part { let q = table_of Q.facts J.job in
         OnErr result (HasBegun q J.job.events (S.written sink.old) (S.written sink.new)) }
     ensures failed { result ≡ Err Write → Rose (S.faults sink.old) (S.faults sink.new) }
     ensures no_fault { result ≢ Err Write → S.faults sink.new ≡ S.faults sink.old }
@@ -71,10 +72,10 @@ fn tallies_of<Q: Query, J: Naming>(
     workers: &[Worker<Q, J>],
 ) -> Result<Vec<Tally>, AllocError>
     requires job { job.now ≡ J.job }
-    requires finished { AreFinished (outline_of (Q.facts J.job.rules) J.job) workers.now }
+    requires finished { AreFinished (outline_of (table_of Q.facts J.job) J.job) workers.now }
     ensures all { IfOk result (λ tallies. length tallies.items ≡ J.job.shape.workers) }
     ensures tallies { IfOk result (λ tallies. (w : ℕ) (t : Told) → slice_get tallies.items w ≡ Some t
-        → IsTallyOf (Q.facts J.job.rules) J.job w t) }
+        → IsTallyOf (table_of Q.facts J.job) J.job w t) }
 {
     let mut tallies = Vec::with_capacity(alloc, workers.len())?;
     for worker in workers {
@@ -90,8 +91,8 @@ fn tally_of<Q: Query, J: Naming>(
     worker: &Worker<Q, J>,
 ) -> Result<Tally, AllocError>
     requires job { job.now ≡ J.job }
-    requires finished { IsFinished (outline_of (Q.facts J.job.rules) J.job) worker.now }
-    ensures { IfOk result (λ t. IsTallyOf (Q.facts J.job.rules) J.job worker.now.number t) }
+    requires finished { IsFinished (outline_of (table_of Q.facts J.job) J.job) worker.now }
+    ensures { IfOk result (λ t. IsTallyOf (table_of Q.facts J.job) J.job worker.now.number t) }
 {
     // From here on the job is known to be legal, and the worker's log too.
     let _ = job.shape();

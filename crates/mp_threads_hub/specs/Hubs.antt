@@ -1,5 +1,5 @@
 -- What the way of a worker to the board is, as contracts see it: the state of its seat.
-use Rattle.std.specs.Prelude.{◌≡◌, ℕ, ◌≤◌, List, Some, slice_get}
+use Rattle.std.specs.Prelude.{◌≡◌, ℕ, ◌≤◌, List, Some, length, slice_get}
 use Rattle.std.specs.Option.{unwrap_or}
 use Rattle.mp_names.specs.Logs.{Log, empty_log}
 use Rattle.mp_names.specs.Outlines.{Outline}
@@ -26,3 +26,14 @@ HasLooked seat later = (later ≡ record seat { version = later.version }) × (s
 -- what was seen is what posted logs show, of which the seat's row is one, in the version that the seat has seen
 abbrev pub ShowsBoard : Outline → SeatState Log → Seen → Type 0
 ShowsBoard o seat seen = (seen.version ≡ seat.version) × ((logs : List Log) × ShowsFrontiers o logs seen × (slice_get logs seat.number ≡ seat.row))
+
+-- The way of this worker to a new board of these logs and this version: its seat is of this number among so many, and has the log that stands there and the version
+pub record IsNewHub (logs : List Log) (version w : ℕ) (hub : SeatState Log) : Type 0 where
+  pub number : hub.number ≡ w
+  pub many : hub.seats ≡ length logs
+  pub row : hub.row ≡ slice_get logs w
+  pub saw : hub.version ≡ version
+
+-- each is that of the worker at its place
+abbrev pub AreNewHubs : List Log → ℕ → List (SeatState Log) → Type 0
+AreNewHubs logs version hubs = (k : ℕ) (hub : SeatState Log) → slice_get hubs k ≡ Some hub → IsNewHub logs version k hub

@@ -4,7 +4,9 @@
 #![tactic(auto)]
 
 mod hub;
+mod opening;
 mod shared;
 
 pub use hub::SeatHub;
+pub use opening::open_hubs;
 pub use shared::{PostedRow, Shared};

@@ -4,6 +4,7 @@ ghost use Rattle.mp_outside.specs.Fault.{Rose};
 ghost use Rattle.mp_outside.specs.Sink.{OnlyAppends, grown};
 ghost use Rattle.mp_machine.specs.Promises.{LogIsFull};
 ghost use Rattle.mp_model.specs.Answers.{one_thread_answer};
+ghost use Rattle.mp_model.specs.Tables.{table_of};
 ghost use Rattle.mp_outline.specs.JobOutline.{outline_of};
 ghost use Rattle.mp_worker_refinement.specs.SystemState.{KnowsTheEnd};
 ghost use Rattle.mp_worker.specs.declared.turn.Stop.TheVariants.{Write};
@@ -48,16 +49,16 @@ impl<'a, Q: Query, J: Naming, R: Wait + Drop> Member<'a, Q, J, R> {
         sink: &mut S,
     ) -> Result<Member<'a, Q, J, R>, Stop>
         ensures number { IfOk result (λ m. m.worker.number ≡ self.entry.worker.number) }
-        ensures finished { let o = outline_of (Q.facts J.job.rules) J.job in
+        ensures finished { let o = outline_of (table_of Q.facts J.job) J.job in
             IfOk result (λ m. KnowsTheEnd o m.worker) }
-        ensures full { let o = outline_of (Q.facts J.job.rules) J.job in
+        ensures full { let o = outline_of (table_of Q.facts J.job) J.job in
             IfOk result (λ m. LogIsFull o m.worker.number m.worker.log) }
 
-        ensures answer { let q = Q.facts J.job.rules in
+        ensures answer { let q = table_of Q.facts J.job in
             self.entry.worker.number ≡ 0
             → (before : Option (List ℕ)) → HasWritten q J.job.events before self.entry.worker.log (S.written sink.old)
             → OnOk result (S.written sink.new ≡ grown before (one_thread_answer q J.job.events)) }
-        ensures part { let q = Q.facts J.job.rules in
+        ensures part { let q = table_of Q.facts J.job in
             self.entry.worker.number ≡ 0
             → (before : Option (List ℕ)) → HasWritten q J.job.events before self.entry.worker.log (S.written sink.old)
             → OnErr result (HasBegun q J.job.events before (S.written sink.new)) }
@@ -88,14 +89,14 @@ impl<'a, Q: Query, J: Naming, R: Wait + Drop> Member<'a, Q, J, R> {
         gate: &G,
         sink: &mut S,
     ) -> Result<Round, Stop>
-        ensures finished { let o = outline_of (Q.facts J.job.rules) J.job in
+        ensures finished { let o = outline_of (table_of Q.facts J.job) J.job in
             IfOk result (λ round. round ≡ Over → KnowsTheEnd o self.new.worker) }
-        ensures full { let o = outline_of (Q.facts J.job.rules) J.job in
+        ensures full { let o = outline_of (table_of Q.facts J.job) J.job in
             IfOk result (λ round. round ≡ Over → LogIsFull o self.new.worker.number self.new.worker.log) }
-        ensures goes_on { let q = Q.facts J.job.rules in
+        ensures goes_on { let q = table_of Q.facts J.job in
             OnOk result (GoesOn q J.job S.written S.faults S.frame
             self.old.worker self.new.worker sink.old sink.new) }
-        ensures stops { let q = Q.facts J.job.rules in
+        ensures stops { let q = table_of Q.facts J.job in
             IfErr result (λ stop. StopsBy q J.job S.written S.faults S.frame stop
             self.old.worker self.new.worker sink.old sink.new) }
     {
@@ -110,10 +111,10 @@ impl<'a, Q: Query, J: Naming, R: Wait + Drop> Member<'a, Q, J, R> {
 
     // Tries each kind of step in their order: whether a step was made.
     fn try_all<G: Gate, S: Sink>(&mut self, gate: &G, sink: &mut S) -> Result<bool, Stop>
-        ensures goes_on { let q = Q.facts J.job.rules in
+        ensures goes_on { let q = table_of Q.facts J.job in
             OnOk result (GoesOn q J.job S.written S.faults S.frame
             self.old.worker self.new.worker sink.old sink.new) }
-        ensures stops { let q = Q.facts J.job.rules in
+        ensures stops { let q = table_of Q.facts J.job in
             IfErr result (λ stop. StopsBy q J.job S.written S.faults S.frame stop
             self.old.worker self.new.worker sink.old sink.new) }
     {
@@ -136,10 +137,10 @@ impl<'a, Q: Query, J: Naming, R: Wait + Drop> Member<'a, Q, J, R> {
         gate: &G,
         sink: &mut S,
     ) -> Result<bool, Stop>
-        ensures goes_on { let q = Q.facts J.job.rules in
+        ensures goes_on { let q = table_of Q.facts J.job in
             OnOk result (GoesOn q J.job S.written S.faults S.frame
             self.old.worker self.new.worker sink.old sink.new) }
-        ensures stops { let q = Q.facts J.job.rules in
+        ensures stops { let q = table_of Q.facts J.job in
             IfErr result (λ stop. StopsBy q J.job S.written S.faults S.frame stop
             self.old.worker self.new.worker sink.old sink.new) }
     {
@@ -155,10 +156,10 @@ impl<'a, Q: Query, J: Naming, R: Wait + Drop> Member<'a, Q, J, R> {
 
     // Receives from each worker: whether a step was made.
     fn receive_from_all<G: Gate, S: Sink>(&mut self, gate: &G, sink: &mut S) -> Result<bool, Stop>
-        ensures goes_on { let q = Q.facts J.job.rules in
+        ensures goes_on { let q = table_of Q.facts J.job in
             OnOk result (GoesOn q J.job S.written S.faults S.frame
             self.old.worker self.new.worker sink.old sink.new) }
-        ensures stops { let q = Q.facts J.job.rules in
+        ensures stops { let q = table_of Q.facts J.job in
             IfErr result (λ stop. StopsBy q J.job S.written S.faults S.frame stop
             self.old.worker self.new.worker sink.old sink.new) }
     {
@@ -175,10 +176,10 @@ impl<'a, Q: Query, J: Naming, R: Wait + Drop> Member<'a, Q, J, R> {
     // Makes steps of a kind, until one isn't made, an exchange was, or there were as many as a round has of a kind: whether
     // a step was made.
     fn repeat<G: Gate, S: Sink>(&mut self, kind: Kind, gate: &G, sink: &mut S) -> Result<bool, Stop>
-        ensures goes_on { let q = Q.facts J.job.rules in
+        ensures goes_on { let q = table_of Q.facts J.job in
             OnOk result (GoesOn q J.job S.written S.faults S.frame
             self.old.worker self.new.worker sink.old sink.new) }
-        ensures stops { let q = Q.facts J.job.rules in
+        ensures stops { let q = table_of Q.facts J.job in
             IfErr result (λ stop. StopsBy q J.job S.written S.faults S.frame stop
             self.old.worker self.new.worker sink.old sink.new) }
     {
@@ -195,9 +196,9 @@ impl<'a, Q: Query, J: Naming, R: Wait + Drop> Member<'a, Q, J, R> {
 
     // What a round came to in which a step was made or wasn't.
     fn outcome(&self, made: bool) -> Round
-        ensures finished { let o = outline_of (Q.facts J.job.rules) J.job in
+        ensures finished { let o = outline_of (table_of Q.facts J.job) J.job in
             result ≡ Over → KnowsTheEnd o self.now.worker }
-        ensures full { let o = outline_of (Q.facts J.job.rules) J.job in
+        ensures full { let o = outline_of (table_of Q.facts J.job) J.job in
             result ≡ Over → LogIsFull o self.now.worker.number self.now.worker.log }
     {
         self.worker.log_is_known();

@@ -4,6 +4,7 @@ ghost use Rattle.mp_names.specs.Logs.{empty_log};
 ghost use Rattle.mp_outline.specs.JobOutline.{outline_of};
 ghost use Rattle.mp_ruled.specs.Posts.{RuledStands};
 ghost use Rattle.mp_threads_hub.specs.Hubs.{IsSeatOf};
+ghost use Rattle.mp_model.specs.Tables.{table_of};
 
 use mp_board::OutlineOf;
 use mp_model::{Naming, Query};
@@ -25,13 +26,14 @@ pub struct Member<'a, Q: Query, J: Naming, R> {
 impl<'a, Q: Query, J: Naming, R> Model for Member<'a, Q, J, R> {
     ghost use Rattle.mp_outline.specs.JobOutline.{outline_of};
     ghost use Rattle.mp_threads_member.specs.Members.{IsMember, MemberState};
+    ghost use Rattle.mp_model.specs.Tables.{table_of};
 
     ghost Value = { MemberState };
 
     ghost view = { λ m. record { worker = m.worker; post = m.post; hub = m.hub } };
 
     ghost invariant = { λ m.
-        IsMember (outline_of (Q.facts J.job.rules) J.job) (record { worker = m.worker; post = m.post; hub = m.hub }) };
+        IsMember (outline_of (table_of Q.facts J.job) J.job) (record { worker = m.worker; post = m.post; hub = m.hub }) };
 }
 
 impl<'a, Q: Query, J: Naming, R> Member<'a, Q, J, R> {
@@ -45,7 +47,7 @@ impl<'a, Q: Query, J: Naming, R> Member<'a, Q, J, R> {
         requires begins { (worker.log ≡ empty_log) × (worker.posted ≡ empty_log) }
         requires ends { (post.worker ≡ worker.number) × (length post.senders ≡ J.job.shape.workers) }
         requires no_mail { (from to : ℕ) → RuledStands (λ xs. xs) post from to [] [] }
-        requires seat { IsSeatOf (outline_of (Q.facts J.job.rules) J.job) hub worker.number }
+        requires seat { IsSeatOf (outline_of (table_of Q.facts J.job) J.job) hub worker.number }
         requires row { hub.row ≡ Some empty_log }
         requires version { worker.seen.version ≤ hub.version }
         ensures worker { result.worker ≡ worker.entry }

@@ -7,6 +7,7 @@ ghost use Rattle.mp_worker.specs.declared.turn.Turn.TheVariants.{NotNow};
 ghost use Rattle.mp_worker.specs.Writing.{WritesInTurn};
 ghost use Rattle.mp_threads_member.specs.Members.{AnswersByMail, ExchangesBySeat, MailFollows};
 ghost use Rattle.mp_threads_member.specs.Driving.{GoesOn, StopsBy};
+ghost use Rattle.mp_model.specs.Tables.{table_of};
 
 use crate::Member;
 use mp_gate::Gate;
@@ -26,24 +27,24 @@ impl<'a, Q: Query, J: Naming, R: Wait + Drop> Member<'a, Q, J, R> {
         gate: &G,
         sink: &mut S,
     ) -> Result<Turn, Stop>
-        ensures answers { let o = outline_of (Q.facts J.job.rules) J.job in
+        ensures answers { let o = outline_of (table_of Q.facts J.job) J.job in
             AnswersByMail o kind self.old self.new result }
-        ensures fits { (KindFits (outline_of (Q.facts J.job.rules) J.job) kind → ⊥) → result ≡ Ok NotNow }
-        ensures mail { MailFollows (outline_of (Q.facts J.job.rules) J.job) self.old self.new }
+        ensures fits { (KindFits (outline_of (table_of Q.facts J.job) J.job) kind → ⊥) → result ≡ Ok NotNow }
+        ensures mail { MailFollows (outline_of (table_of Q.facts J.job) J.job) self.old self.new }
 
         // The board.
-        ensures exchanges { let o = outline_of (Q.facts J.job.rules) J.job in
+        ensures exchanges { let o = outline_of (table_of Q.facts J.job) J.job in
             kind ≡ Exchange → ExchangesBySeat o self.old self.new result }
         ensures others_post_nothing { (kind ≢ Exchange) → self.new.hub ≡ self.old.hub }
 
         // The sink.
         ensures writes { kind ≡ Write
-            → WritesInTurn (Q.facts J.job.rules) J.job S.written S.faults self.old.worker sink.old sink.new result }
+            → WritesInTurn (table_of Q.facts J.job) J.job S.written S.faults self.old.worker sink.old sink.new result }
         ensures others_write_nothing { (kind ≢ Write) → sink.new ≡ sink.old }
-        ensures goes_on { let q = Q.facts J.job.rules in
+        ensures goes_on { let q = table_of Q.facts J.job in
             OnOk result (GoesOn q J.job S.written S.faults S.frame
             self.old.worker self.new.worker sink.old sink.new) }
-        ensures stops { let q = Q.facts J.job.rules in
+        ensures stops { let q = table_of Q.facts J.job in
             IfErr result (λ stop. StopsBy q J.job S.written S.faults S.frame stop
             self.old.worker self.new.worker sink.old sink.new) }
     {

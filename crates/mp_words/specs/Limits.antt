@@ -14,9 +14,9 @@ use Rattle.mp_words.specs.declared.options.Schedule.TheVariants.{Threads, Seeded
 abbrev pub IsPositiveUpTo : ℕ → ℕ → Type 0
 IsPositiveUpTo most n = (1 ≤ n) × (n ≤ most)
 
--- a power of two from 1 to 256
+-- a power of two from 1 to 4096
 abbrev pub IsBinCount : ℕ → Type 0
-IsBinCount bins = (k : ℕ) × (k ≤ 8) × (bins ≡ 2 ^ k)
+IsBinCount bins = (k : ℕ) × (k ≤ 12) × (bins ≡ 2 ^ k)
 
 -- the seed, where there is one, is within its limit
 abbrev pub SeedIsWithinLimit : Schedule → Type 0

@@ -1,7 +1,11 @@
 -- Done is seen of each location of a job where it is seen of those of each stage and of the others.
-use Rattle.std.proofs.Common.{ℕ, ◌<◌}
+use Rattle.std.proofs.Common.{◌≡◌, ℕ, ◌<◌, Option, None, subst, sym}
 use Rattle.mp_names.specs.declared.locations.Loc.TheVariants.{Ctl, CtlMail, Source, Route, Mail, Move, State, Host, OutRoute, OutMail}
+use Rattle.mp_names.specs.declared.locations.Loc.{Loc}
+use Rattle.mp_names.specs.Frontiers.{HasEnded}
+use Rattle.mp_names.specs.Locations.{IsLocation}
 use Rattle.mp_stamps.specs.declared.seen.Seen.{Seen}
+use Rattle.mp_stamps.specs.Seen.{seen_at}
 use Rattle.mp_worker.specs.Done.{AllAreDone, OthersAreDone, StageIsDone}
 
 module _ (n : ℕ) (seen : Seen) where
@@ -34,3 +38,10 @@ module _ (n : ℕ) (seen : Seen) where
   all_of_both stages others (Move j) has = (stages j has).move
   all_of_both stages others (State j) has = (stages j has).state
   all_of_both stages others (Host j) has = (stages j has).host
+
+  -- where a job has no stop time, the end is that all are Done
+  pub ended_from_done : {stop : Option ℕ} → stop ≡ None → AllAreDone n seen → (at : Loc) → IsLocation n at → HasEnded stop (seen_at seen at)
+  ended_from_done none all at has = subst (λ (s : Option ℕ). HasEnded s (seen_at seen at)) (sym none) (all at has)
+
+  pub done_from_ended : {stop : Option ℕ} → stop ≡ None → ((at : Loc) → IsLocation n at → HasEnded stop (seen_at seen at)) → AllAreDone n seen
+  done_from_ended none ended at has = subst (λ (s : Option ℕ). HasEnded s (seen_at seen at)) none (ended at has)

@@ -1,14 +1,13 @@
 -- What a worker knows of its own log, by what it saw.
-use Rattle.std.proofs.Common.{◌<◌, ℕ, subst, sym}
+use Rattle.std.proofs.Common.{◌<◌, ℕ, subst}
 use Rattle.mp_names.specs.declared.kinds.Kind.TheVariants.{Write}
-use Rattle.mp_names.specs.declared.locations.Frontier.{Frontier}
 use Rattle.mp_names.specs.declared.locations.Loc.TheVariants.{OutMail}
 use Rattle.mp_names.specs.declared.names.Name.TheVariants.{Written}
-use Rattle.mp_names.specs.Frontiers.{HasPassed}
 use Rattle.mp_names.specs.Logs.{LogIsLegal, with_settled}
 use Rattle.mp_names.specs.Outlines.{Outline, OutlineIsSound}
+use Rattle.mp_names.proofs.Exact.{passed_from_ended}
 use Rattle.mp_names.proofs.Keeps.{written_keeps}
-use Rattle.mp_stamps.specs.Seen.{SeenIsDone}
+use Rattle.mp_stamps.specs.Seen.{SeenIsDone, seen_at}
 use Rattle.mp_machine.specs.Promises.{LogIsFull}
 use Rattle.mp_machine.proofs.Full.{full}
 use Rattle.mp_worker_refinement.specs.State.{CanMake, WorkerState}
@@ -24,4 +23,4 @@ module _ (o : Outline) (ok : OutlineIsSound o) (s : WorkerState) (l : s.number <
   -- where it knows the end it has done all that it has to do
   pub full_if_over : KnowsTheEnd o s → LogIsFull o s.number s.log
   full_if_over know =
-      full o ok s.number s.log legal (λ t. done OutMail t tt (subst (λ (f : Frontier). HasPassed f t) (sym (know.done OutMail tt)) tt)) know.written
+      full o ok s.number s.log legal (λ t early. done OutMail t tt (passed_from_ended o.until (seen_at s.seen OutMail) (know.done OutMail tt) t early)) know.written

@@ -5,6 +5,7 @@ ghost use Rattle.mp_outline.specs.JobOutline.{outline_of};
 ghost use Rattle.mp_stamps.specs.Seen.{seen_at};
 ghost use Rattle.mp_worker_refinement.specs.SystemState.{KnowsTheEnd};
 ghost use Rattle.mp_worker.specs.Done.{AllAreDone, OthersAreDone, StageIsDone};
+ghost use Rattle.mp_model.specs.Tables.{table_of};
 
 use crate::Worker;
 use mp_model::{Naming, Query};
@@ -15,9 +16,10 @@ impl<'a, Q: Query, J: Naming> Worker<'a, Q, J> {
     /// Whether the worker knows that all is over: each frontier that it saw is `Done`, and on worker 0 each answer row that
     /// it took is written.
     pub fn is_finished(&self) -> bool
-        ensures { IsTrue result ↔ KnowsTheEnd (outline_of (Q.facts J.job.rules) J.job) self.now }
+        ensures { IsTrue result ↔ KnowsTheEnd (outline_of (table_of Q.facts J.job) J.job) self.now }
     {
         let parts = &self.parts;
+        parts.log_is_known();
         let stages = parts.shape().stages;
         all_are_done(parts.seen(), stages) && (parts.number() != 0 || parts.all_are_written())
     }

@@ -4,6 +4,7 @@ ghost use Rattle.mp_names.specs.Logs.{empty_log};
 ghost use Rattle.mp_board.specs.Boards.{ShowsFrontiers};
 ghost use Rattle.mp_outline.specs.JobOutline.{outline_of};
 ghost use Rattle.mp_output.specs.Rows.{GivesRows};
+ghost use Rattle.mp_model.specs.Tables.{table_of};
 
 use crate::Worker;
 use mp_job::Job;
@@ -23,8 +24,8 @@ impl<'a, Q: Query, J: Naming> Worker<'a, Q, J> {
     ) -> Result<Worker<'a, Q, J>, AllocError>
         requires job { job.now ≡ J.job }
         requires number { number < J.job.shape.workers }
-        requires rows { GivesRows (Q.facts J.job.rules) }
-        requires opening { ShowsFrontiers (outline_of (Q.facts J.job.rules) J.job) (replicate J.job.shape.workers empty_log) seen }
+        requires rows { GivesRows (table_of Q.facts J.job) }
+        requires opening { ShowsFrontiers (outline_of (table_of Q.facts J.job) J.job) (replicate J.job.shape.workers empty_log) seen }
         ensures number { IfOk result (λ worker. worker.number ≡ number) }
         ensures log { IfOk result (λ worker. worker.log ≡ empty_log) }
         ensures posted { IfOk result (λ worker. worker.posted ≡ empty_log) }

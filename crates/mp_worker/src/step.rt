@@ -11,6 +11,7 @@ ghost use Rattle.mp_worker.specs.declared.turn.Turn.TheVariants as turn;
 ghost use Rattle.mp_worker.specs.Exchanging.{Exchanges};
 ghost use Rattle.mp_worker.specs.Turns.{Answers};
 ghost use Rattle.mp_worker.specs.Writing.{WritesInTurn};
+ghost use Rattle.mp_model.specs.Tables.{table_of};
 
 use crate::{Stop, Turn, Worker};
 use mp_board::{Hub, OutlineOf};
@@ -39,14 +40,14 @@ impl<'a, Q: Query, J: Naming> Worker<'a, Q, J> {
         hub: &mut H,
         sink: &mut S,
     ) -> Result<Turn, Stop>
-        requires at_post { let o = outline_of (Q.facts J.job.rules) J.job in
+        requires at_post { let o = outline_of (table_of Q.facts J.job) J.job in
             IsAtPost P.workers P.depth P.serves P.denotes o self.old.number self.old.log post.old }
         requires at_hub { IsAtHub H.serves H.posted H.version self.old hub.old }
 
-        ensures answers { let o = outline_of (Q.facts J.job.rules) J.job in
+        ensures answers { let o = outline_of (table_of Q.facts J.job) J.job in
             Answers (P.had_room post.old) (P.was_full post.old) (P.was_empty post.old) o kind self.old self.new result }
-        ensures fits { (KindFits (outline_of (Q.facts J.job.rules) J.job) kind → ⊥) → result ≡ Ok turn.NotNow }
-        ensures mail { let o = outline_of (Q.facts J.job.rules) J.job in
+        ensures fits { (KindFits (outline_of (table_of Q.facts J.job) J.job) kind → ⊥) → result ≡ Ok turn.NotNow }
+        ensures mail { let o = outline_of (table_of Q.facts J.job) J.job in
             PostFollows P.workers P.depth P.serves P.denotes P.waits o self.old.number self.old.log self.new.log post.old post.new }
 
         // The board.
@@ -58,7 +59,7 @@ impl<'a, Q: Query, J: Naming> Worker<'a, Q, J> {
 
         // The sink.
         ensures writes { kind ≡ Write
-            → WritesInTurn (Q.facts J.job.rules) J.job S.written S.faults self.old sink.old sink.new result }
+            → WritesInTurn (table_of Q.facts J.job) J.job S.written S.faults self.old sink.old sink.new result }
         ensures others_write_nothing { (kind ≢ Write) → sink.new ≡ sink.old }
         ensures appends_only { OnlyAppends S.frame S.faults sink.old sink.new }
     {
@@ -76,12 +77,12 @@ impl<'a, Q: Query, J: Naming> Worker<'a, Q, J> {
         post: &mut P,
     ) -> Result<Option<Names>, AllocError>
         requires kind { (kind ≢ Write) × (kind ≢ Exchange) }
-        requires at_post { let o = outline_of (Q.facts J.job.rules) J.job in
+        requires at_post { let o = outline_of (table_of Q.facts J.job) J.job in
             IsAtPost P.workers P.depth P.serves P.denotes o self.old.number self.old.log post.old }
-        ensures steps { let o = outline_of (Q.facts J.job.rules) J.job in
+        ensures steps { let o = outline_of (table_of Q.facts J.job) J.job in
             StepsByMail (P.had_room post.old) (P.was_full post.old) (P.was_empty post.old) o kind self.old self.new result }
-        ensures fits { (KindFits (outline_of (Q.facts J.job.rules) J.job) kind → ⊥) → result ≡ Ok None }
-        ensures mail { let o = outline_of (Q.facts J.job.rules) J.job in
+        ensures fits { (KindFits (outline_of (table_of Q.facts J.job) J.job) kind → ⊥) → result ≡ Ok None }
+        ensures mail { let o = outline_of (table_of Q.facts J.job) J.job in
             PostFollows P.workers P.depth P.serves P.denotes P.waits o self.old.number self.old.log self.new.log post.old post.new }
     {
         if !fits(kind, self.parts.shape()) {
@@ -97,12 +98,12 @@ impl<'a, Q: Query, J: Naming> Worker<'a, Q, J> {
         post: &mut P,
     ) -> Result<Option<Names>, AllocError>
         requires kind { (kind ≢ Write) × (kind ≢ Exchange) }
-        requires fits { KindFits (outline_of (Q.facts J.job.rules) J.job) kind }
-        requires at_post { let o = outline_of (Q.facts J.job.rules) J.job in
+        requires fits { KindFits (outline_of (table_of Q.facts J.job) J.job) kind }
+        requires at_post { let o = outline_of (table_of Q.facts J.job) J.job in
             IsAtPost P.workers P.depth P.serves P.denotes o self.old.number self.old.log post.old }
-        ensures steps { let o = outline_of (Q.facts J.job.rules) J.job in
+        ensures steps { let o = outline_of (table_of Q.facts J.job) J.job in
             StepsByMail (P.had_room post.old) (P.was_full post.old) (P.was_empty post.old) o kind self.old self.new result }
-        ensures mail { let o = outline_of (Q.facts J.job.rules) J.job in
+        ensures mail { let o = outline_of (table_of Q.facts J.job) J.job in
             PostFollows P.workers P.depth P.serves P.denotes P.waits o self.old.number self.old.log self.new.log post.old post.new }
     {
         match kind {

@@ -7,7 +7,7 @@ use Rattle.mp_names.specs.declared.locations.Loc.{Loc}
 use Rattle.mp_names.specs.declared.locations.Loc.TheVariants.{CtlMail, Mail, State, Host, OutMail}
 use Rattle.mp_names.specs.declared.names.Name.{Name}
 use Rattle.mp_names.specs.declared.names.Name.TheVariants.{Packet, Group, Settled}
-use Rattle.mp_names.specs.Outlines.{Outline, time_of}
+use Rattle.mp_names.specs.Outlines.{Outline, control_at, time_of}
 use Rattle.mp_names.specs.Logs.{Log}
 use Rattle.mp_names.specs.Frontiers.{HasPassed, HasReached}
 use Rattle.mp_names.specs.Locations.{IsLocation}
@@ -44,12 +44,12 @@ module _ (o : Outline) (w : ℕ) (a b : Worker) (same : (at : Loc) → IsLocatio
   settle_too j _ h = h
 
   apply_too : (j : ℕ) → j < o.stages → (x : Name) → MayApply o w a j x → MayApply o w other j x
-  apply_too j l (Group i t k) h = (passed_too (Mail j) t l h.0, passed_too (State j) t l h.1, h.2)
+  apply_too j l (Group i t k) h = (passed_too (Mail j) t l h.0, passed_too (State j) t l h.1, h.2, h.3)
   apply_too j l _ h = h
 
   agree : (kind : Kind) (x : Name) → KindFits o kind → IsNext o w a kind x → IsReady o w a kind x → IsNext o w other kind x × IsReady o w other kind x
   agree Ingest x fits next ready = (next, tt)
-  agree SendControl x fits next ready = (next, tt)
+  agree SendControl x fits next ready = (next, (λ paced j i lj li less. passed_too (Host j) (control_at o i).time lj (ready paced j i lj li less)))
   agree (Route j) x fits next ready = (next, passed_too CtlMail (time_of o x) tt ready)
   agree (Receive v) x fits next ready = (tt, tt)
   agree (Extract j) x fits next ready = ((due_too j x next.0, (λ y h l. next.1 y (due_both j y h) l)), leave_too j fits x ready)

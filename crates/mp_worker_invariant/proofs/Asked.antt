@@ -1,7 +1,6 @@
 -- What the parts of a worker say where one of them is asked, and that a worker begins with what the empty log says.
 use Rattle.std.proofs.Common.{◌≡◌, ℕ, suc, ◌<◌, ◌≤◌, true, false, [], length, refl, sym, ap, ◌∙◌, subst, inl, inr, ⊎_elim, arith}
 use Rattle.std.proofs.lemmas.Bool.{cases_Bool, false≢true, both_ways, false_from_ne_true}
-use Rattle.mp_names.specs.declared.controls.Shape.{Shape}
 use Rattle.mp_names.specs.declared.locations.Frontier.{Frontier}
 use Rattle.mp_names.specs.declared.locations.Frontier.TheVariants.{At, Done}
 use Rattle.mp_names.specs.declared.locations.Loc.{Loc}
@@ -19,7 +18,7 @@ use Rattle.mp_names.proofs.Keeps.{empty_is_legal}
 use Rattle.mp_names.proofs.Reach.{move-state}
 use Rattle.mp_stamps.specs.Seen.{SeenIsDone, seen_at}
 use Rattle.mp_bins.specs.Laws.{AreNotedBelow}
-use Rattle.mp_bins.specs.Notes.{first_owner, owner_before as noted_before}
+use Rattle.mp_bins.specs.Notes.{Layout, first_owner, owner_before as noted_before}
 use Rattle.mp_bins.proofs.Told.{told}
 use Rattle.mp_model.specs.Facts.{JobFacts, QueryFacts}
 use Rattle.mp_outline.specs.JobOutline.{outline_of}
@@ -66,10 +65,10 @@ module _ {Cell : Type 0} (q : QueryFacts Cell) (job : JobFacts) (sound : Outline
     -- then the owners up to it are the job's
     owners_upto : (j b u : ℕ) → u ≤ suc t → noted_before p.notes j b u ≡ owner_before (outline_of q job) j b u
     unfolding owner_before
-    owners_upto j b u le = told job.controls p.notes (suc t) parts.notes.of_job noted_upto j b u le ∙ ap (λ (s : Shape). owner_below job.controls (first_owner s b) j b u) parts.notes.shape
+    owners_upto j b u le = told job.controls p.notes (suc t) parts.notes.of_job noted_upto j b u le ∙ ap (λ (l : Layout). owner_below job.controls (first_owner l j b) j b u) parts.notes.layout
 
   owners_are_known : (j : ℕ) → j < job.shape.stages → OwnersAreCurrent q job p.notes p.seen j
-  owners_are_known j below = record { shape = parts.notes.shape; owners = λ t b passed. owners_upto (State j) below (ctl_mail-state j) t passed j b (suc t) (omega arith) }
+  owners_are_known j below = record { shape = ap (λ (l : Layout). l.shape) parts.notes.layout; owners = λ t b passed. owners_upto (State j) below (ctl_mail-state j) t passed j b (suc t) (omega arith) }
 
   moves_are_known : (j : ℕ) → KnowsMoves (outline_of q job) p.log p.notes p.seen p.number j
   moves_are_known j = record {
@@ -129,11 +128,11 @@ module _ {Cell : Type 0} (q : QueryFacts Cell) (job : JobFacts) where
   no_rows_to_write = record { held = λ t g. ((λ i. absurd (false≢true i)), (λ a. absurd (false≢true a.0))); once = tt }
 
   pub parts_begin : PartsBegin q job
-  parts_begin w seen notes routers hosts movers worker done shape none all_routers at_routers all_hosts at_hosts all_movers at_movers = record {
+  parts_begin w seen notes routers hosts movers worker done layout none all_routers at_routers all_hosts at_hosts all_movers at_movers = record {
     worker = worker;
     legal = empty_is_legal (outline_of q job) w;
     done = done;
-    notes = none_taken job w notes shape none;
+    notes = none_taken job w notes layout none;
     next = λ first. none_sent job (omega arith);
     all_routers = all_routers;
     routers = at_routers;

@@ -1,12 +1,12 @@
 -- The conditions of the machine's steps, as the parts of a worker say them.
-use Rattle.std.proofs.Common.{◌≡◌, ◌⊎◌, ℕ, ◌<◌, ◌≤◌, true, [], ◌∷◌, length, refl, sym, ◌∙◌, subst, inl, arith}
+use Rattle.std.proofs.Common.{◌≡◌, ◌⊎◌, ℕ, ◌<◌, ◌≤◌, true, false, [], ◌∷◌, length, refl, sym, ◌∙◌, subst, inl, arith}
 use Rattle.std.proofs.lemmas.Bool.{false≢true, both_ways, eq-eqb, eqb-true}
 use Rattle.mp_names.specs.declared.kinds.Kind.TheVariants.{Apply, Extract, SendControl, Settle, Write}
 use Rattle.mp_names.specs.declared.locations.Loc.TheVariants.{CtlMail, Host, OutMail}
 use Rattle.mp_names.specs.declared.names.Name.{Name}
 use Rattle.mp_names.specs.declared.names.Name.TheVariants.{Ctrl, Packet, Group, Settled, Written}
 use Rattle.mp_names.specs.Names.{has, In, IsLeast, is_ctrl, Less}
-use Rattle.mp_names.specs.Outlines.{IsOwedBy, OutlineIsSound, time_of}
+use Rattle.mp_names.specs.Outlines.{IsBeforeStop, IsOwedBy, OutlineIsSound, time_of}
 use Rattle.mp_names.specs.Logs.{InHand, InHandBefore}
 use Rattle.mp_names.specs.Frontiers.{HasPassed, HasReached}
 use Rattle.mp_names.specs.Keeping.{IsHeld, IsUnsettled, IsUnwritten, IsWaiting}
@@ -39,14 +39,14 @@ module _ {Cell : Type 0} (q : QueryFacts Cell) (job : JobFacts) (sound : Outline
       both_ways (has p.log.sent (Ctrl i v)) held.3 (before.sent i v held.1.0 held.1.1 ∙ less_before i v p.next.index p.next.receiver less)
   held_from_next before _ held less = absurd (false≢true held.0)
 
-  can_send_control : p.number ≡ 0 → p.next.index < length job.controls → CanDo q job p SendControl (Ctrl p.next.index p.next.receiver)
-  can_send_control first listed =
+  can_send_control : job.paced ≡ false → p.number ≡ 0 → p.next.index < length job.controls → CanDo q job p SendControl (Ctrl p.next.index p.next.receiver)
+  can_send_control unpaced first listed =
       let before = parts.next first in
       let unsent = before.sent p.next.index p.next.receiver listed before.fits ∙ place_not_before p.next in
-      (((refl, (listed, before.fits), eq-eqb p.number 0 first, unsent), held_from_next before), tt)
+      ((((refl, (listed, before.fits), eq-eqb p.number 0 first, unsent), (λ paced. absurd (both_ways job.paced unpaced paced))), (λ y due. held_from_next before y due.0)), (λ paced. absurd (both_ways job.paced unpaced paced)))
 
   cant_send_control : (p.number ≡ 0 → length job.controls ≤ p.next.index) → (x : Name) → CanDo q job p SendControl x → ⊥
-  cant_send_control over x can = form x can.0.0
+  cant_send_control over x can = form x can.0.0.0
     where
       form : (x : Name) → IsHeld (outline_of q job) p.number p.log is_ctrl x → ⊥
       form (Ctrl i v) held =
@@ -96,25 +96,25 @@ module _ {Cell : Type 0} (q : QueryFacts Cell) (job : JobFacts) (sound : Outline
       form _ least may = may
 
   -- a group that is ready is one that the machine may apply
-  can_apply : (h : Hosted Cell) (t k : ℕ) → h.worker ≡ p.number → IsReadyAt q job p.log p.seen h t k → CanDo q job p (Apply h.stage) (Group h.stage t k)
-  can_apply h t k own ready =
+  can_apply : (h : Hosted Cell) (t k : ℕ) → h.worker ≡ p.number → IsReadyAt q job p.log p.seen h t k → IsBeforeStop job.until t → CanDo q job p (Apply h.stage) (Group h.stage t k)
+  can_apply h t k own ready early =
       let o = outline_of q job in
-      (ready.least, (ready.mail, ready.state, subst (λ (w : ℕ). InHand o w p.log h.stage (o.bin_of k) t) own ready.in_hand))
+      (subst (λ (w : ℕ). IsLeast (IsWaiting o w p.log h.stage) (Group h.stage t k)) own ready.least, (ready.mail, ready.state, subst (λ (w : ℕ). InHand o w p.log h.stage (o.bin_of k) t) own ready.in_hand, early))
 
-  ready_group : (h : Hosted Cell) → h.worker ≡ p.number → (t k : ℕ) → IsLeast (IsWaiting (outline_of q job) p.log h.stage) (Group h.stage t k)
+  ready_group : (h : Hosted Cell) → h.worker ≡ p.number → (t k : ℕ) → IsLeast (IsWaiting (outline_of q job) p.number p.log h.stage) (Group h.stage t k)
       → MayApply (outline_of q job) p.number (machine_worker p) h.stage (Group h.stage t k) → IsReadyAt q job p.log p.seen h t k
   ready_group h own t k least may =
       let o = outline_of q job in
-      record { least = least; mail = may.0; state = may.1; in_hand = subst (λ (w : ℕ). InHand o w p.log h.stage (o.bin_of k) t) (sym own) may.2 }
+      record { least = subst (λ (w : ℕ). IsLeast (IsWaiting o w p.log h.stage) (Group h.stage t k)) (sym own) least; mail = may.0; state = may.1; in_hand = subst (λ (w : ℕ). InHand o w p.log h.stage (o.bin_of k) t) (sym own) may.2 }
 
   cant_apply : (h : Hosted Cell) → h.worker ≡ p.number → ((t k : ℕ) → IsReadyAt q job p.log p.seen h t k → ⊥) → (x : Name) → CanDo q job p (Apply h.stage) x → ⊥
   cant_apply h own none x can = form x can.0 can.1
     where
-      form : (x : Name) → IsLeast (IsWaiting (outline_of q job) p.log h.stage) x → MayApply (outline_of q job) p.number (machine_worker p) h.stage x → ⊥
+      form : (x : Name) → IsLeast (IsWaiting (outline_of q job) p.number p.log h.stage) x → MayApply (outline_of q job) p.number (machine_worker p) h.stage x → ⊥
       form (Group i t k) least may =
           let o = outline_of q job in
           let e : i ≡ h.stage = eqb-true i h.stage (groups_are o sound h.stage (Group i t k) least.0.0).1 in
-          none t k (ready_group h own t k (subst (λ (n : ℕ). IsLeast (IsWaiting o p.log h.stage) (Group n t k)) e least) may)
+          none t k (ready_group h own t k (subst (λ (n : ℕ). IsLeast (IsWaiting o p.number p.log h.stage) (Group n t k)) e least) may)
       form _ least may = may
 
   cant_write : (p.number ≡ 0 → (t : ℕ) → IsLeast (IsUnwritten p.log) (Written t) → HasPassed (seen_at p.seen OutMail) t → ⊥) → (x : Name) → CanDo q job p Write x → ⊥

@@ -1,5 +1,5 @@
 -- What a group gives: its outputs are those of its stage that have its time and tags of its key.
-use Rattle.std.proofs.Common.{◌≡◌, ◌↔◌, ℕ, suc, ◌<◌, true, false, nat_lt, Option, None, Some, List, [], ◌∷◌, ◌++◌, map, take_while, Contains, sym, ap, ◌∙◌, subst, ⊎_elim, arith}
+use Rattle.std.proofs.Common.{◌≡◌, ◌↔◌, ℕ, suc, ◌<◌, true, false, nat_lt, Option, None, Some, List, [], ◌∷◌, ◌++◌, map, take_while, Contains, refl, sym, ap, ◌∙◌, subst, ⊎_elim, arith}
 use Rattle.std.specs.Option.{option_map}
 use Rattle.std.proofs.lemmas.Bool.{le-ltb, lt-ltb}
 use Rattle.std.proofs.lemmas.List.Elements.{Contains-append_cases, Contains-append_left, Contains-append_right}
@@ -15,7 +15,7 @@ use Rattle.mp_model.specs.declared.record.Rec.{Rec}
 use Rattle.mp_model.specs.declared.value.Value.{Value}
 use Rattle.mp_model.specs.Entry.{Entry}
 use Rattle.mp_model.specs.Facts.{JobFacts, QueryFacts}
-use Rattle.mp_model.specs.Folds.{cell_before, entry_at, fold_of, keys_of, of_key, outputs_along, outputs_at, outputs_of, stage_outputs, timeline}
+use Rattle.mp_model.specs.Folds.{cell_before, entry_at, fold_of, keys_in, of_key, outputs_along, outputs_at, outputs_of, stage_outputs, timeline, waking_of}
 use Rattle.mp_model.specs.QueryLaws.{LaterStagesPostNothing}
 use Rattle.mp_model.specs.Stages.{record_of_output, stage_records}
 use Rattle.mp_job.proofs.Ascents.{ascending-Contains}
@@ -25,11 +25,12 @@ use Rattle.mp_outline.specs.Laws.{OutputsInOrder, group_at}
 use Rattle.mp_outline.proofs.FilterMaps.{made, maker}
 use Rattle.mp_outline.proofs.Found.{found, found_there}
 use Rattle.mp_outline.proofs.Named.{named_once}
-use Rattle.mp_outline.proofs.Outputs.{HasGroup, along_are, group_is, group_stands, outputs_are, outputs_in_order, timeline_rises}
+use Rattle.mp_outline.proofs.Outputs.{HasGroup, IsMadeBy, along_are, group_is, group_stands, outputs_are, outputs_in_order, timeline_rises}
 use Rattle.mp_outline.proofs.Pairs.{Pairs}
 use Rattle.mp_outline.proofs.PairsMade.{Pairs-filter_map}
 use Rattle.mp_outline.proofs.Tags.{tag_irreflexive}
 use Rattle.mp_outline.proofs.Timelines.{groups_are_on}
+use Rattle.mp_outline.proofs.Waking.{waking_is}
 use Rattle.mp_worker_invariant.specs.Given.{outputs_given, records_made, values_given}
 
 -- a record has the time and the tag of the output that made it, whatever its key is
@@ -97,20 +98,29 @@ module _ {Cell : Type 0} (q : QueryFacts Cell) (j : ℕ) where
     abbrev given_here : List Output
     given_here = outputs_at t k (q.gives j (cell_before q j rs k t) (entry_at q j k (of_key k rs) t))
 
+    -- a key that has a group is one of a wake or of a record
+    key_stands : Contains (keys_in q j rs) k
+    key_stands =
+        let woken = map (λ (w : ℕ × ℕ). w.1) (q.waking j) in
+        let keys = map (λ (r : Rec). r.key) rs in
+        ascending-Contains (woken ++ keys) k
+        (⊎_elim
+        (λ (i : Contains (waking_of q j k) t). Contains-append_left woken keys k (map-Contains (λ (w : ℕ × ℕ). w.1) (q.waking j) k (found_there (λ (w : ℕ × ℕ). w.1 ≡ k) (q.waking j) (t, k) (waking_is q j k t i) refl)))
+        (λ (m : IsMadeBy q j rs k t). Contains-append_right woken keys k (map-Contains (λ (r : Rec). r.key) rs k (found_there (λ r. r.key ≡ k) rs m.0 m.1 m.2)))
+        group)
+
     of_key_at : (o : Output) → o.time ≡ t → (Contains (outputs_of q j rs k) o ↔ Contains given_here o)
-    of_key_at o timed = along_at (q.fresh j) (timeline q j k rs) (entry_at q j k (of_key k rs) t) (timeline_rises q j k rs) (group_stands q j k t rs group) o timed
+    of_key_at o timed = along_at (q.opening j k) (timeline q j k rs) (entry_at q j k (of_key k rs) t) (timeline_rises q j k rs) (group_stands q j k t rs group) o timed
 
     pub given_is_output : (o : Output) → Contains given_here o → Contains (stage_outputs q j rs) o
     given_is_output o h =
         let timed = (outputs_are t k (q.gives j (cell_before q j rs k t) (entry_at q j k (of_key k rs) t)) o h).0 in
-        let keys = map (λ (r : Rec). r.key) rs in
-        let key = ascending-Contains keys k (map-Contains (λ (r : Rec). r.key) rs k (found_there (λ r. r.key ≡ k) rs group.0 group.1 group.2)) in
-        flat_map-Contains (outputs_of q j rs) (keys_of rs) o (found_there (λ l. Contains (outputs_of q j rs l) o) (keys_of rs) k key ((of_key_at o timed).1 h))
+        flat_map-Contains (outputs_of q j rs) (keys_in q j rs) o (found_there (λ l. Contains (outputs_of q j rs l) o) (keys_in q j rs) k key_stands ((of_key_at o timed).1 h))
 
     pub output_is_given : (o : Output) → Contains (stage_outputs q j rs) o → o.time ≡ t → o.tag.0 ≡ k → Contains given_here o
     output_is_given o h timed tagged =
-        let a = found (λ l. Contains (outputs_of q j rs l) o) (keys_of rs) (Contains-flat_map (outputs_of q j rs) (keys_of rs) o h) in
-        let b = along_are q j (q.fresh j) (timeline q j a.0 rs) o a.2 in
+        let a = found (λ l. Contains (outputs_of q j rs l) o) (keys_in q j rs) (Contains-flat_map (outputs_of q j rs) (keys_in q j rs) o h) in
+        let b = along_are q j (q.opening j a.0) (timeline q j a.0 rs) o a.2 in
         let c = group_is q j a.0 rs b.0 b.1 in
         let same : a.0 ≡ k = ap (λ (e : Entry). e.key) c.0 ∙ (sym b.3 ∙ tagged) in
         (of_key_at o timed).0 (subst (λ (l : ℕ). Contains (outputs_of q j rs l) o) same a.2)

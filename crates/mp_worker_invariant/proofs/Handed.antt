@@ -60,11 +60,11 @@ applied_grows : (log : Log) (x : Name) → LogGrows log (with_applied log x)
 applied_grows log x = record { ingested = prefix_refl log.ingested; sent = prefix_refl log.sent; took = prefix_refl log.took; applied = prefix_push log.applied x; settled = prefix_refl log.settled }
 
 module _ {Cell : Type 0} (q : QueryFacts Cell) (nothing : LaterStagesPostNothing q) (job : JobFacts) (sound : OutlineIsSound (outline_of q job))
-    (w : ℕ) (log : Log) (legal : LogIsLegal (outline_of q job) w log) (j t k : ℕ) (waits : IsWaiting (outline_of q job) log j (Group j t k)) where
+    (w : ℕ) (log : Log) (legal : LogIsLegal (outline_of q job) w log) (j t k : ℕ) (waits : IsWaiting (outline_of q job) w log j (Group j t k)) where
   -- the group isn't applied yet
   not_applied : (u l : ℕ) → u ≡ t → l ≡ k → In (Group j u l) log.applied → ⊥
   not_applied u l e f h =
-      both_ways (has log.applied (Group j t k)) (pending_new (outline_of q job) log j t k waits.1) (subst (λ (m : ℕ). In (Group j t m) log.applied) f (subst (λ (m : ℕ). In (Group j m l) log.applied) e h))
+      both_ways (has log.applied (Group j t k)) (pending_new (outline_of q job) w log j t k waits.1) (subst (λ (m : ℕ). In (Group j t m) log.applied) f (subst (λ (m : ℕ). In (Group j m l) log.applied) e h))
 
   -- and then is
   is_applied : (u l : ℕ) → u ≡ t → l ≡ k → In (Group j u l) (log.applied ++ Group j t k ∷ [])
@@ -187,7 +187,7 @@ module _ {Cell : Type 0} (q : QueryFacts Cell) (nothing : LaterStagesPostNothing
         }
 
 module _ {Cell : Type 0} (q : QueryFacts Cell) (nothing : LaterStagesPostNothing q) (job : JobFacts) (job_legal : JobIsLegal q job) (sound : OutlineIsSound (outline_of q job)) where
-  pub groups_hand_on : (w : ℕ) (log : Log) (j t k : ℕ) → LogIsLegal (outline_of q job) w log → IsWaiting (outline_of q job) log j (Group j t k) → GroupsHandOn q job w log j t k
+  pub groups_hand_on : (w : ℕ) (log : Log) (j t k : ℕ) → LogIsLegal (outline_of q job) w log → IsWaiting (outline_of q job) w log j (Group j t k) → GroupsHandOn q job w log j t k
   groups_hand_on w log j t k legal waits =
       let records = records_made q j (outputs_given q job j t k) in
       let given = outputs_given q job j t k in

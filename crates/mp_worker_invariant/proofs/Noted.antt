@@ -16,6 +16,7 @@ use Rattle.mp_bins.proofs.Placing.{noted_with}
 use Rattle.mp_bins.proofs.Told.{one_more}
 use Rattle.mp_host_laws.proofs.Logs.{same_test}
 use Rattle.mp_model.specs.Facts.{JobFacts}
+use Rattle.mp_outline.specs.JobOutline.{layout_of}
 use Rattle.mp_worker_invariant.specs.Parts.{AreSentBefore, AreTaken, cursor, is_before, place_after}
 use Rattle.mp_worker_invariant.proofs.Unheard.{unheard}
 
@@ -41,17 +42,17 @@ last_ctrl xs i v = In_right (Ctrl i v) xs (Ctrl i v ∷ []) (In_here (Ctrl i v) 
 
 module _ (job : JobFacts) (w : ℕ) where
   pub taken_stays : (old new : Log) (notes : Notes) → ((i : ℕ) → has old.took (Ctrl i w) ≡ has new.took (Ctrl i w)) → AreTaken job w old notes → AreTaken job w new notes
-  taken_stays old new notes same are = record { shape = are.shape; of_job = are.of_job; taken = λ i. are.taken i ∙ same i }
+  taken_stays old new notes same are = record { layout = are.layout; of_job = are.of_job; taken = λ i. are.taken i ∙ same i }
 
   -- a name that is no control record's is no concern of the notes
   pub taken_else : (log : Log) (notes : Notes) (x : Name) → is_ctrl x ≡ false → AreTaken job w log notes → AreTaken job w (with_took log x) notes
   taken_else log notes x none are = taken_stays log (with_took log x) notes (λ i. unheard is_ctrl log.took (Ctrl i w) x none refl) are
 
   -- one more control record is taken, and noted
-  pub taken_more : (log : Log) (notes new : Notes) (i : ℕ) → i < length job.controls → new.shape ≡ notes.shape → new.noted ≡ with_note notes.noted (record { index = i; control = control_of job.controls i })
+  pub taken_more : (log : Log) (notes new : Notes) (i : ℕ) → i < length job.controls → new.layout ≡ notes.layout → new.noted ≡ with_note notes.noted (record { index = i; control = control_of job.controls i })
       → AreTaken job w log notes → AreTaken job w (with_took log (Ctrl i w)) new
-  taken_more log notes new i listed shape noted are = record {
-    shape = shape ∙ are.shape;
+  taken_more log notes new i listed layout noted are = record {
+    layout = layout ∙ are.layout;
     of_job = one_more job.controls notes new note are.of_job (listed, refl) noted;
     taken = λ k. ap (λ (ns : List Note). is_noted ns k) noted ∙ noted_with notes.noted note k ∙ ap (λ (b : Bool). i == k || b) (are.taken k) ∙ more k;
   }
@@ -74,8 +75,8 @@ module _ (job : JobFacts) (w : ℕ) where
           (has_ctrl log.took i w k w e))
 
   -- at first nothing is taken or noted
-  pub none_taken : (notes : Notes) → notes.shape ≡ job.shape → notes.noted ≡ [] → AreTaken job w empty_log notes
-  none_taken notes shape none = record { shape = shape; of_job = none_noted; taken = λ i. ap (λ (ns : List Note). is_noted ns i) none }
+  pub none_taken : (notes : Notes) → notes.layout ≡ layout_of job → notes.noted ≡ [] → AreTaken job w empty_log notes
+  none_taken notes layout none = record { layout = layout; of_job = none_noted; taken = λ i. ap (λ (ns : List Note). is_noted ns i) none }
     where
       none_noted : AreNotesOf job.controls notes
       none_noted = record { in_order = subst AreInOrder (sym none) tt; each = All-same (IsNoteOf job.controls) notes.noted [] none (All-nil (IsNoteOf job.controls)) }

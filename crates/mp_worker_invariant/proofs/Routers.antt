@@ -7,7 +7,7 @@ use Rattle.mp_names.specs.Outlines.{OutlineIsSound, receiver}
 use Rattle.mp_names.specs.Logs.{Log}
 use Rattle.mp_stamps.specs.declared.seen.Seen.{Seen}
 use Rattle.mp_bins.specs.Bins.{bin_of_key}
-use Rattle.mp_bins.specs.Notes.{owner_at as noted_owner}
+use Rattle.mp_bins.specs.Notes.{Layout, owner_at as noted_owner}
 use Rattle.mp_model.specs.declared.record.Rec.{Rec as Record}
 use Rattle.mp_model.specs.Facts.{JobFacts, QueryFacts}
 use Rattle.mp_outline.specs.JobOutline.{name_of_record, outline_of}
@@ -45,7 +45,7 @@ module _ {Cell : Type 0} {q : QueryFacts Cell} {job : JobFacts} where
 
   -- the owners are known as far as control records have passed
   pub owners_known : {p : Parts Cell} → OutlineIsSound (outline_of q job) → ArePartsOf q job p → (j i : ℕ) → i ≡ j → OwnersAreKnown q job p.notes p.seen i
-  owners_known {p = p} sound are j i e = let known = (asked sound are).moves i in record { shape = are.notes.shape; owners = λ t b passed. (known.owners b t passed).1 }
+  owners_known {p = p} sound are j i e = let known = (asked sound are).moves i in record { shape = ap (λ (l : Layout). l.shape) are.notes.layout; owners = λ t b passed. (known.owners b t passed).1 }
 
   module _ {w : ℕ} {log : Log} {j : ℕ} {old : Routed} (here : IsRouterAt q job w log j old) where
     -- where it gives none up, no record may go

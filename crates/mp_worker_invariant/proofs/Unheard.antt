@@ -210,7 +210,7 @@ module _ {Cell : Type 0} (q : QueryFacts Cell) (job : JobFacts) where
       );
       cells = λ k own.
           state.cells k own
-          ∙ ap (fold_of q j (q.fresh j)) (filter_within (λ (e : Entry). is_taken_in old j s.since e.time k) (λ (e : Entry). is_taken_in new j s.since e.time k) (timeline_of q job j k) (λ e i. taken_alike j old new same s.since e.time k));
+          ∙ ap (fold_of q j (q.opening j k)) (filter_within (λ (e : Entry). is_taken_in old j s.since e.time k) (λ (e : Entry). is_taken_in new j s.since e.time k) (timeline_of q job j k) (λ e i. taken_alike j old new same s.since e.time k));
     }
 
   host_stays : (old new : Log) (h : Hosted Cell) → AreHeardAlike h.stage old new → IsHostOf q job old h → IsHostOf q job new h

@@ -7,7 +7,7 @@ use Rattle.mp_names.specs.declared.names.Tag.{Tag}
 use Rattle.mp_names.specs.declared.pointstamps.ControlCursor.{ControlCursor}
 use Rattle.mp_names.specs.Controls.{control_of}
 use Rattle.mp_names.specs.Names.{Distinct, has, In, IsLeast, IsPrefix, is_rec, is_row}
-use Rattle.mp_names.specs.Outlines.{IsOwedBy, IsOwedTo, Outline, share}
+use Rattle.mp_names.specs.Outlines.{IsBeforeStop, IsOwedBy, IsOwedTo, Outline, share}
 use Rattle.mp_names.specs.Logs.{Log, empty_log, with_applied, with_ingested, with_sent, with_settled, with_took}
 use Rattle.mp_names.specs.Frontiers.{HasPassed, HasReached}
 use Rattle.mp_names.specs.Keeping.{IsHeld, IsUnsettled, IsUnwritten}
@@ -17,7 +17,7 @@ use Rattle.mp_stamps.specs.Seen.{SeenIsDone, seen_at}
 use Rattle.mp_bins.specs.Notes.{Notes, with_note}
 use Rattle.mp_model.specs.declared.record.Output.{Output}
 use Rattle.mp_model.specs.Facts.{JobFacts, QueryFacts}
-use Rattle.mp_outline.specs.JobOutline.{outline_of}
+use Rattle.mp_outline.specs.JobOutline.{layout_of, outline_of}
 use Rattle.mp_route.specs.Routed.{Routed}
 use Rattle.mp_route.specs.Unsent.{MayGo, with_all_sent}
 use Rattle.mp_output.specs.Holding.{HoldsUnwritten}
@@ -100,11 +100,11 @@ module _ {Cell : Type 0} (q : QueryFacts Cell) (job : JobFacts) where
     pub receive_row : (t : ℕ) (g : Tag) (rows : List Output) → IsOwedTo (outline_of q job) p.number (Row t g) → has p.log.took (Row t g) ≡ false
         → HoldsUnwritten (with_took p.log (Row t g)) rows → ArePartsOf q job (with_unwritten p (with_took p.log (Row t g)) rows)
     -- a group is applied, and hands its records to the router of the next stage
-    pub apply : (j t k : ℕ) (old new : Hosted Cell) (r : Routed) → IsHostAt q job p.number p.log j old → IsReadyAt q job p.log p.seen old t k → suc j < job.shape.stages
+    pub apply : (j t k : ℕ) (old new : Hosted Cell) (r : Routed) → IsHostAt q job p.number p.log j old → IsReadyAt q job p.log p.seen old t k → IsBeforeStop job.until t → suc j < job.shape.stages
         → IsHostAt q job p.number (with_applied p.log (Group j t k)) j new → IsRouterAt q job p.number (with_applied p.log (Group j t k)) (suc j) r
         → ArePartsOf q job (with_router (with_host p (with_applied p.log (Group j t k)) j new) (with_applied p.log (Group j t k)) (suc j) r)
     -- a group of the last stage is applied, and gives answer rows
-    pub apply_last : (j t k : ℕ) (old new : Hosted Cell) (rows : List Output) → IsHostAt q job p.number p.log j old → IsReadyAt q job p.log p.seen old t k → suc j ≡ job.shape.stages
+    pub apply_last : (j t k : ℕ) (old new : Hosted Cell) (rows : List Output) → IsHostAt q job p.number p.log j old → IsReadyAt q job p.log p.seen old t k → IsBeforeStop job.until t → suc j ≡ job.shape.stages
         → IsHostAt q job p.number (with_applied p.log (Group j t k)) j new → HoldsRowsBut q job p.number (with_applied p.log (Group j t k)) [] rows
         → ArePartsOf q job (with_unsent (with_host p (with_applied p.log (Group j t k)) j new) (with_applied p.log (Group j t k)) rows)
     -- an answer row is sent
@@ -134,7 +134,7 @@ module _ {Cell : Type 0} (q : QueryFacts Cell) (job : JobFacts) where
       (w : ℕ) (seen : Seen) (notes : Notes) (routers : List Routed) (hosts : List (Hosted Cell)) (movers : List MoversState)
       → w < job.shape.workers
       → SeenIsDone (outline_of q job) w empty_log seen
-      → notes.shape ≡ job.shape
+      → notes.layout ≡ layout_of job
       → notes.noted ≡ []
       → length routers ≡ job.shape.stages
       → AtEach routers (IsRouterAt q job w empty_log)

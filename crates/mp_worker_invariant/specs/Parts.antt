@@ -12,7 +12,7 @@ use Rattle.mp_bins.specs.Laws.{AreNotesOf}
 use Rattle.mp_bins.specs.Notes.{Notes, is_noted}
 use Rattle.mp_model.specs.declared.record.Output.{Output}
 use Rattle.mp_model.specs.Facts.{JobFacts, QueryFacts}
-use Rattle.mp_outline.specs.JobOutline.{name_of_row, outline_of}
+use Rattle.mp_outline.specs.JobOutline.{layout_of, name_of_row, outline_of}
 use Rattle.mp_route.specs.Routed.{Routed}
 use Rattle.mp_route.specs.Unsent.{HoldsUnsent}
 use Rattle.mp_output.specs.Holding.{HoldsUnwritten}
@@ -58,7 +58,7 @@ pub record AreSentBefore (job : JobFacts) (log : Log) (next : ControlCursor) : T
 
 -- Just the control records that the worker took are noted
 pub record AreTaken (job : JobFacts) (w : ℕ) (log : Log) (notes : Notes) : Type 0 where
-  pub shape : notes.shape ≡ job.shape
+  pub layout : notes.layout ≡ layout_of job
   pub of_job : AreNotesOf job.controls notes
   pub taken : (i : ℕ) → is_noted notes.noted i ≡ has log.took (Ctrl i w)
 

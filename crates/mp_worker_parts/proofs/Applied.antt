@@ -14,7 +14,7 @@ use Rattle.mp_names.specs.Keeping.{IsWaiting}
 use Rattle.mp_names.specs.Logs.{Log, is_pending, with_applied}
 use Rattle.mp_stamps.specs.declared.seen.Seen.{Seen}
 use Rattle.mp_bins.specs.Notes.{Notes}
-use Rattle.mp_names.specs.Outlines.{OutlineIsSound}
+use Rattle.mp_names.specs.Outlines.{IsBeforeStop, OutlineIsSound}
 use Rattle.mp_names.specs.Limits.{last_time}
 use Rattle.mp_model.specs.declared.value.Value.{Value}
 use Rattle.mp_model.specs.Facts.{JobFacts, QueryFacts}
@@ -26,6 +26,7 @@ use Rattle.mp_rows_laws.proofs.Applied.{applied}
 use Rattle.mp_job.specs.Legal.{JobIsLegal}
 use Rattle.mp_outline.specs.JobOutline.{name_of_record, name_of_row, outline_of}
 use Rattle.mp_outline.specs.Laws.{group_at}
+use Rattle.mp_outline.proofs.Whole.{never_stops}
 use Rattle.mp_msg.specs.Contents.{IsRecordOf}
 use Rattle.mp_route.specs.Routed.{Routed}
 use Rattle.mp_route.specs.Unsent.{HoldsAllBut, HoldsUnsent}
@@ -43,8 +44,8 @@ use Rattle.mp_worker_invariant.proofs.Items.{same_each, same_length}
 use Rattle.mp_worker_invariant.proofs.Others.{other_routers}
 use Rattle.mp_worker_invariant.proofs.Standing.{host_at, informed, router_at, steps, told}
 use Rattle.mp_worker_parts.specs.Applying.{HandsOn, IsApplying}
-use Rattle.mp_worker_parts.specs.Onward.{content, records_at}
-use Rattle.mp_worker_parts.proofs.Counted.{group_in_time, number_of_records, number_of_rows, values_have_keys, woken_once}
+use Rattle.mp_worker_parts.specs.Onward.{GoOnward, content, records_at}
+use Rattle.mp_worker_parts.proofs.Counted.{group_in_time, number_of_records, number_of_rows, woken_once}
 
 -- a stage has a next one, or is the last
 either_stage : (m n : ℕ) → m ≤ n → (A : Type 0) → (m < n → A) → (m ≡ n → A) → A
@@ -106,25 +107,26 @@ module _ {Cell : Type 0} {q : QueryFacts Cell} {job : JobFacts} {p : Parts Cell}
     none_to_apply none x can = (told sound are).no_apply h at.1 none x (subst (λ (i : ℕ). CanDo q job p (Apply i) x) (sym at.0) can)
 
     module _ (hands_on : HandsOn q) (legal : JobIsLegal q job) (t k : ℕ) (ready : IsReadyAt q job p.log p.seen h t k) where
-      can_apply : CanDo q job p (Apply j) (Group j t k)
-      can_apply = subst (λ (i : ℕ). CanDo q job p (Apply i) (Group i t k)) at.0 ((told sound are).apply h t k at.1 ready)
+      -- the job doesn't stop before it
+      early : IsBeforeStop job.until t
+      early = never_stops q job legal t
 
-      waits : IsWaiting (outline_of q job) p.log j (Group j t k)
-      waits = subst (λ (i : ℕ). IsWaiting (outline_of q job) p.log i (Group i t k)) at.0 ready.least.0
+      can_apply : CanDo q job p (Apply j) (Group j t k)
+      can_apply = subst (λ (i : ℕ). CanDo q job p (Apply i) (Group i t k)) at.0 ((told sound are).apply h t k at.1 ready early)
+
+      waits : IsWaiting (outline_of q job) p.number p.log j (Group j t k)
+      waits = subst (λ (v : ℕ). IsWaiting (outline_of q job) v p.log j (Group j t k)) at.1 (subst (λ (i : ℕ). IsWaiting (outline_of q job) h.worker p.log i (Group i t k)) at.0 ready.least.0)
 
       hand_on : GroupsHandOn q job p.number p.log j t k
       hand_on = groups_hand_on q hands_on.nothing job legal sound p.number p.log j t k are.legal waits
 
       in_time : t ≤ last_time
-      in_time = group_in_time q hands_on.nothing job sound j t k below waits.0 hands_on.later legal.events
+      in_time = group_in_time q hands_on.nothing job sound j t k below waits.0 hands_on.later legal
 
       -- what it gives
       module _ (vs : List Value) (given : vs ≡ values_given q job h.stage t k) where
         given_here : vs ≡ values_given q job j t k
         given_here = subst (λ (i : ℕ). vs ≡ values_given q job i t k) at.0 given
-
-        keyed : suc j < job.shape.stages → All (λ v. IsSome (q.key (suc j) t v)) vs
-        keyed next = let stages = legal.stages in rw given_here (values_have_keys q hands_on.nothing job sound j t k below waits.0 hands_on.keys (omega arith))
 
         records_are : suc j < job.shape.stages → All (IsRecordOf q job (suc j)) (records_at q (suc j) t k vs)
         records_are next = rw given_here (hand_on.record_is next)
@@ -132,20 +134,25 @@ module _ {Cell : Type 0} {q : QueryFacts Cell} {job : JobFacts} {p : Parts Cell}
         rows_are : suc j ≡ job.shape.stages → All (Contains (answer_rows q job.events)) (outputs_at t k vs)
         rows_are ends = rw given_here (hand_on.row_is ends)
 
-        number_is : outputs_of (outline_of q job) j t k ≡ length vs
-        number_is =
-            rw given_here
-            (either_stage (suc j) job.shape.stages (omega arith) _
-            (λ next. let stages = legal.stages in number_of_records q hands_on.nothing job sound j t k below waits.0 next (values_have_keys q hands_on.nothing job sound j t k below waits.0 hands_on.keys (omega arith)))
-            (λ ends. number_of_rows q hands_on.nothing job sound j t k below waits.0 ends legal.stages))
+        number_is : (number : ℕ) → GoOnward q job j t k vs number → outputs_of (outline_of q job) j t k ≡ number
+        number_is number goes =
+            let to_next : suc j ≡ j + 1 = omega arith in
+            either_stage (suc j) job.shape.stages (omega arith) (outputs_of (outline_of q job) j t k ≡ number)
+            (λ next.
+            number_of_records q hands_on.nothing job sound j t k below waits.0 next
+            ∙ sym (goes.next (omega arith)
+            ∙ ap (λ (n : ℕ). length (records_at q n t k vs)) (sym to_next)
+            ∙ ap (λ (us : List Value). length (records_at q (suc j) t k us)) given_here))
+            (λ ends. number_of_rows q hands_on.nothing job sound j t k below waits.0 ends legal.stages ∙ sym (goes.last (omega arith) ∙ ap (λ (us : List Value). length us) given_here))
 
         -- the changes that it brings
-        changes_are : (onward : Loc) → onward ≡ location_after j (outline_of q job).stages → (woke : List ℕ) → AllPairs (λ u v. u ≢ v) woke
-            → ((u : ℕ) → (Contains woke u ↔ ((is_pending (outline_of q job) (with_applied p.log (Group h.stage t k)) (Group h.stage u k) ≡ true) × (is_pending (outline_of q job) p.log (Group h.stage u k) ≡ false))))
-            → AreChanges (outline_of q job) p.number p.log (with_applied p.log (Group j t k)) (one_less (Host j) t ∷ (some_more onward t (length vs) ++ map (one_more (Host j)) woke))
-        changes_are onward to woke once wakes =
-            let wakes_here = subst (λ (i : ℕ). (u : ℕ) → (Contains woke u ↔ ((is_pending (outline_of q job) (with_applied p.log (Group i t k)) (Group i u k) ≡ true) × (is_pending (outline_of q job) p.log (Group i u k) ≡ false)))) at.0 wakes in
-            rw (to, ← number_is) (applied (outline_of q job) p.number p.log sound are.legal j t k woke waits once wakes_here)
+        changes_are : (onward : Loc) → onward ≡ location_after j (outline_of q job).stages → (number : ℕ) → GoOnward q job j t k vs number → (woke : List ℕ) → AllPairs (λ u v. u ≢ v) woke
+            → ((u : ℕ) → (Contains woke u ↔ ((is_pending (outline_of q job) h.worker (with_applied p.log (Group h.stage t k)) (Group h.stage u k) ≡ true) × (is_pending (outline_of q job) h.worker p.log (Group h.stage u k) ≡ false))))
+            → AreChanges (outline_of q job) p.number p.log (with_applied p.log (Group j t k)) (one_less (Host j) t ∷ (some_more onward t number ++ map (one_more (Host j)) woke))
+        changes_are onward to number goes woke once wakes =
+            let by_host = subst (λ (i : ℕ). (u : ℕ) → (Contains woke u ↔ ((is_pending (outline_of q job) h.worker (with_applied p.log (Group i t k)) (Group i u k) ≡ true) × (is_pending (outline_of q job) h.worker p.log (Group i u k) ≡ false)))) at.0 wakes in
+            let wakes_here = subst (λ (v : ℕ). (u : ℕ) → (Contains woke u ↔ ((is_pending (outline_of q job) v (with_applied p.log (Group j t k)) (Group j u k) ≡ true) × (is_pending (outline_of q job) v p.log (Group j u k) ≡ false)))) at.1 by_host in
+            rw (to, ← number_is number goes) (applied (outline_of q job) p.number p.log sound are.legal j t k woke waits once wakes_here)
 
         -- the parts after it
         module _ (new : Hosted Cell) (same_stage : new.stage ≡ h.stage) (same_worker : new.worker ≡ h.worker) (held : IsHostOf q job (with_applied p.log (Group h.stage t k)) new) where
@@ -158,14 +165,14 @@ module _ {Cell : Type 0} {q : QueryFacts Cell} {job : JobFacts} {p : Parts Cell}
           with_records next old r is_old same_router holds =
               let before = router_at are (suc j) next old is_old in
               let handed = subst (λ (us : List Value). HoldsAllBut q job p.number (with_applied p.log (Group j t k)) (map (name_of_record (suc j)) (records_at q (suc j) t k us)) old) (sym given_here) (hand_on.router next old before.0 before.1) in
-              (steps sound are).apply j t k h new r at ready next new_host (same_router ∙ before.0, holds p.number (with_applied p.log (Group j t k)) handed)
+              (steps sound are).apply j t k h new r at ready early next new_host (same_router ∙ before.0, holds p.number (with_applied p.log (Group j t k)) handed)
 
           with_rows : suc j ≡ job.shape.stages → (rows : List Output)
               → ((w : ℕ) (log : Log) → HoldsRowsBut q job w log (map name_of_row (outputs_at t k vs)) p.unsent → HoldsRowsBut q job w log [] rows)
               → ArePartsOf q job (record p { log = with_applied p.log (Group j t k); hosts = set p.hosts j new; unsent = rows })
           with_rows ends rows holds =
               let handed = subst (λ (us : List Value). HoldsRowsBut q job p.number (with_applied p.log (Group j t k)) (map name_of_row (outputs_at t k us)) p.unsent) (sym given_here) (hand_on.rows ends p.unsent are.unsent) in
-              (steps sound are).apply_last j t k h new rows at ready ends new_host (holds p.number (with_applied p.log (Group j t k)) handed)
+              (steps sound are).apply_last j t k h new rows at ready early ends new_host (holds p.number (with_applied p.log (Group j t k)) handed)
 
     -- A group that the host applied: it was the one that may be applied, and its outputs and wakes are these
     module _ (hands_on : HandsOn q) (legal : JobIsLegal q job) (t k : ℕ) (vs : List Value) (woke : List ℕ) (new : Hosted Cell)
@@ -189,10 +196,9 @@ module _ {Cell : Type 0} {q : QueryFacts Cell} {job : JobFacts} {p : Parts Cell}
       applying = record {
         in_time = in_time hands_on legal t k does.ready;
         can = can_apply hands_on legal t k does.ready;
-        keyed = λ next. subst (λ (n : ℕ). All (λ v. IsSome (q.key n t v)) vs) to_next (keyed hands_on legal t k does.ready vs gives (omega arith));
         records = λ next. subst (λ (n : ℕ). All (IsRecordOf q job n) (records_at q n t k vs)) to_next (records_are hands_on legal t k does.ready vs gives (omega arith));
         rows = λ ends. rows_are hands_on legal t k does.ready vs gives (omega arith);
-        changes = λ onward to. changes_are hands_on legal t k does.ready vs gives onward to woke (woken_once q h t k woke wakes) does.woken;
+        changes = λ onward to number goes. changes_are hands_on legal t k does.ready vs gives onward to number goes woke (woken_once q h t k woke wakes) does.woken;
         fits = λ most enough.
             let all = are.all_hosts in
             let there = slice_get-get_or p.hosts j h (omega arith) ∙ ap (λ (x : Hosted Cell). Some x) (sym is) in

@@ -1,21 +1,21 @@
 -- The control records that worker 0 sends, and that a worker takes.
 use Rattle.std.proofs.Common.{◌≡◌, ◌∙◌, ℕ, ◌<◌, ◌≤◌, ◌-◌, ◌^◌, Bool, false, List, length, sym, ap, subst, arith}
 use Rattle.mp_names.specs.declared.controls.Control.{Control}
-use Rattle.mp_names.specs.declared.controls.Shape.{Shape}
 use Rattle.mp_names.specs.declared.kinds.Kind.TheVariants.{SendControl}
 use Rattle.mp_names.specs.declared.names.Name.{Name}
 use Rattle.mp_names.specs.declared.names.Name.TheVariants.{Ctrl, Settled}
 use Rattle.mp_names.specs.Controls.{control_of, no_control}
-use Rattle.mp_names.specs.Names.{has, is_ctrl}
-use Rattle.mp_names.specs.Keeping.{IsHeld}
+use Rattle.mp_names.specs.Names.{has}
 use Rattle.mp_names.specs.Outlines.{OutlineIsSound}
 use Rattle.mp_names.specs.Logs.{Log, is_noted, with_sent, with_took}
 use Rattle.mp_names.proofs.Orders.{least_unique}
+use Rattle.mp_machine.specs.Steps.{IsControlDue}
 use Rattle.mp_bins.specs.declared.owners.Note.{Note}
-use Rattle.mp_bins.specs.Notes.{IsWithin, Notes, is_noted as has_note}
+use Rattle.mp_bins.specs.Notes.{IsWithin, Layout, Notes, is_noted as has_note}
 use Rattle.mp_model.specs.Facts.{JobFacts, QueryFacts}
 use Rattle.mp_job.specs.Legal.{JobIsLegal}
 use Rattle.mp_outline.specs.JobOutline.{outline_of}
+use Rattle.mp_outline.proofs.Whole.{never_paced}
 use Rattle.mp_rows.specs.Entries.{AreChanges}
 use Rattle.mp_rows_laws.specs.Changes.{control_sent_at, control_taken_at}
 use Rattle.mp_rows_laws.proofs.Sent.{control_sent}
@@ -40,7 +40,7 @@ module _ {Cell : Type 0} (q : QueryFacts Cell) (job : JobFacts) (legal : JobIsLe
 
 -- Sending
 
-module _ {Cell : Type 0} {q : QueryFacts Cell} {job : JobFacts} {p : Parts Cell} (sound : OutlineIsSound (outline_of q job)) (are : ArePartsOf q job p) where
+module _ {Cell : Type 0} {q : QueryFacts Cell} {job : JobFacts} {p : Parts Cell} (sound : OutlineIsSound (outline_of q job)) (legal : JobIsLegal q job) (are : ArePartsOf q job p) where
   -- another worker than the first sends none, and neither does the first where all are sent
   pub no_control_of_others : (p.number ≡ 0 → length job.controls ≤ p.next.index) → (x : Name) → CanDo q job p SendControl x → ⊥
   no_control_of_others = (told sound are).no_send_control
@@ -50,15 +50,16 @@ module _ {Cell : Type 0} {q : QueryFacts Cell} {job : JobFacts} {p : Parts Cell}
     receiver_fits = (are.next first).fits
 
     module _ (listed : p.next.index < length job.controls) where
+      -- the job isn't paced
       pub can_send_control : CanDo q job p SendControl (Ctrl p.next.index p.next.receiver)
-      can_send_control = (told sound are).send_control first listed
+      can_send_control = (told sound are).send_control (never_paced q job legal) first listed
 
       pub control_counted : AreChanges (outline_of q job) p.number p.log (with_sent p.log (Ctrl p.next.index p.next.receiver)) (control_sent_at (control_of job.controls p.next.index).time)
-      control_counted = control_sent (outline_of q job) p.number p.log sound p.next.index p.next.receiver can_send_control.0.0
+      control_counted = control_sent (outline_of q job) p.number p.log sound p.next.index p.next.receiver can_send_control.0.0.0
 
       -- no other is next
       pub one_control : (x : Name) → CanDo q job p SendControl x → Ctrl p.next.index p.next.receiver ≡ x
-      one_control x can = least_unique (IsHeld (outline_of q job) p.number p.log is_ctrl) (Ctrl p.next.index p.next.receiver) x can_send_control.0 can.0
+      one_control x can = least_unique (IsControlDue (outline_of q job) p.number p.log) (Ctrl p.next.index p.next.receiver) x can_send_control.0 can.0
 
       -- it was sent
       pub control_kept : ArePartsOf q job (record p { log = with_sent p.log (Ctrl p.next.index p.next.receiver); next = place_after job.shape.workers p.next })
@@ -105,11 +106,11 @@ module _ {Cell : Type 0} (q : QueryFacts Cell) (job : JobFacts) (w : ℕ) (log :
     not_noted = taken.taken i ∙ fresh
 
     -- and may be
-    pub may_note : JobIsLegal q job → IsWithin notes.shape c
+    pub may_note : JobIsLegal q job → IsWithin notes.layout.shape c
     may_note legal =
-        subst (λ (s : Shape). IsWithin s c) (sym taken.shape) (subst (λ (d : Control). IsWithin job.shape d) (sym of_job.2) (control_within q job legal i of_job.0))
+        subst (λ (l : Layout). IsWithin l.shape c) (sym taken.layout) (subst (λ (d : Control). IsWithin job.shape d) (sym of_job.2) (control_within q job legal i of_job.0))
 
 -- notes with another list of notes, whatever the room
-pub notes_are : (old new : Notes) (noted : List Note) → new.shape ≡ old.shape → new.noted ≡ noted → new ≡ record old { noted = noted; room = new.room }
-notes_are old new noted shape is =
-    ap (λ (s : Shape). record { shape = s; noted = new.noted; room = new.room }) shape ∙ ap (λ (ns : List Note). record { shape = old.shape; noted = ns; room = new.room }) is
+pub notes_are : (old new : Notes) (noted : List Note) → new.layout ≡ old.layout → new.noted ≡ noted → new ≡ record old { noted = noted; room = new.room }
+notes_are old new noted layout is =
+    ap (λ (l : Layout). record { layout = l; noted = new.noted; room = new.room }) layout ∙ ap (λ (ns : List Note). record { layout = old.layout; noted = ns; room = new.room }) is

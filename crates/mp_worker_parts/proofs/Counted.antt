@@ -4,7 +4,7 @@ use Rattle.std.specs.List.{cons_option}
 use Rattle.std.specs.Option.{option_map}
 use Rattle.std.proofs.lemmas.Bool.{and_from, and_parts, eq-eqb, eqb-true, false≢true, ne_eqb}
 use Rattle.std.proofs.lemmas.List.{length-map}
-use Rattle.std.proofs.lemmas.List.Elements.{All-contains, All-head, All-tail}
+use Rattle.std.proofs.lemmas.List.Elements.{All-contains, All-filter, All-map, All-nil}
 use Rattle.mp_names.specs.declared.names.Name.{Name}
 use Rattle.mp_names.specs.declared.names.Name.TheVariants.{Group}
 use Rattle.mp_names.specs.Names.{In, Distinct}
@@ -16,12 +16,13 @@ use Rattle.mp_model.specs.declared.record.Rec.{Rec}
 use Rattle.mp_model.specs.declared.value.Value.{Value}
 use Rattle.mp_model.specs.Ascending.{ascending}
 use Rattle.mp_model.specs.Entry.{Entry}
-use Rattle.mp_model.specs.Facts.{JobFacts, QueryFacts}
+use Rattle.mp_model.specs.Facts.{JobFacts, QueryFacts, SavedState, SavedWake}
 use Rattle.mp_model.specs.Folds.{stage_outputs}
-use Rattle.mp_model.specs.Legal.{EventsAreLegal}
-use Rattle.mp_model.specs.QueryLaws.{LaterStagesPostNothing, OutputsHaveKeys, PostsAreLater}
+use Rattle.mp_model.specs.QueryLaws.{LaterStagesPostNothing, PostsAreLater, SavedFits, WakesAreInTime}
 use Rattle.mp_model.specs.Stages.{answer_rows, stage_records}
+use Rattle.mp_model.specs.Tables.{opening_wakes}
 use Rattle.mp_model.proofs.LastTimes.{groups_in_time, stage_in_time}
+use Rattle.mp_job.specs.Legal.{JobIsLegal}
 use Rattle.mp_job.proofs.Ascents.{Rises-ascending}
 use Rattle.mp_rows_laws.specs.Changes.{is_output, outputs_of}
 use Rattle.mp_outline.specs.JobOutline.{name_of_record, name_of_row, outline_of}
@@ -48,25 +49,25 @@ outputs_length : (t k place : ℕ) (values : List Value) → length (outputs_fro
 outputs_length t k place [] = refl
 outputs_length t k place (v ∷ vs) = ap suc (outputs_length t k (place + 1) vs)
 
-one_made : (o : Option ℕ) (f : ℕ → Rec) (rs : List Rec) → IsSome o → length (cons_option (option_map f o) rs) ≡ suc (length rs)
-one_made None f rs e = absurd (false≢true e)
-one_made (Some key) f rs e = refl
+-- No opening wake is too late
 
-records_length : {Cell : Type 0} (q : QueryFacts Cell) (stage t k place : ℕ) (values : List Value) → All (λ v. IsSome (q.key stage t v)) values → length (records_from q stage t k place values) ≡ length values
-records_length q stage t k place [] keyed = refl
-records_length q stage t k place (v ∷ vs) keyed =
-    one_made (q.key stage t v) (λ key. record { time = t; key = key; tag = record { 0 = k; 1 = place }; value = v }) (records_from q stage t k (place + 1) vs) (All-head (λ (u : Value). IsSome (q.key stage t u)) v vs keyed)
-    ∙ ap suc (records_length q stage t k (place + 1) vs (All-tail (λ (u : Value). IsSome (q.key stage t u)) v vs keyed))
+saved_in_time : {Cell : Type 0} (q : QueryFacts Cell) (from : Option SavedState) (j : ℕ) → SavedFits q from → All (λ (w : ℕ × ℕ). w.0 ≤ last_time) (opening_wakes from j)
+saved_in_time q None j fits = All-nil (λ (w : ℕ × ℕ). w.0 ≤ last_time)
+saved_in_time q (Some saved) j fits =
+    All-map (λ (w : ℕ × ℕ). w.0 ≤ last_time) (λ (w : SavedWake). (w.time, w.key)) (filter (λ (w : SavedWake). w.stage == j) saved.wakes)
+    (All-filter (λ (w : SavedWake). w.stage == j) (λ (w : SavedWake). w.time ≤ last_time) saved.wakes fits.in_time)
+
+wakes_in_time : {Cell : Type 0} (q : QueryFacts Cell) (job : JobFacts) → JobIsLegal q job → (j : ℕ) → WakesAreInTime q j
+wakes_in_time q job legal j = subst (All (λ (w : ℕ × ℕ). w.0 ≤ last_time)) (sym (legal.table.waking j)) (saved_in_time q job.from j legal.saved)
+
+-- What a group gives
 
 module _ {Cell : Type 0} (q : QueryFacts Cell) (nothing : LaterStagesPostNothing q) (job : JobFacts) (sound : OutlineIsSound (outline_of q job)) (j t k : ℕ) (below : j < job.shape.stages) (group : In (Group j t k) (groups_of (outline_of q job) j)) where
-  -- each value that a group gives has a key in the next stage
-  pub values_have_keys : OutputsHaveKeys q → suc j < q.stages → All (λ v. IsSome (q.key (suc j) t v)) (values_given q job j t k)
-  values_have_keys keys next = keys j _ (group_at q job j t k) next
-
-  -- and no group is too late
-  pub group_in_time : PostsAreLater q → EventsAreLegal job.events → t ≤ last_time
-  group_in_time later events =
-      All-contains (λ (e : Entry). e.time ≤ last_time) (timeline_of q job j k) (group_at q job j t k) (groups_in_time q j k (stage_records q job.events j) (stage_in_time q later nothing job.events events j)) ((groups_are_on q nothing job sound j t k below).0 group)
+  -- no group is too late
+  pub group_in_time : PostsAreLater q → JobIsLegal q job → t ≤ last_time
+  group_in_time later legal =
+      let wakes = wakes_in_time q job legal in
+      All-contains (λ (e : Entry). e.time ≤ last_time) (timeline_of q job j k) (group_at q job j t k) (groups_in_time q j (wakes j) k (stage_records q job.events j) (stage_in_time q later nothing wakes job.events legal.events j)) ((groups_are_on q nothing job sound j t k below).0 group)
 
   -- The records of the next stage that the group's outputs make
 
@@ -86,13 +87,13 @@ module _ {Cell : Type 0} (q : QueryFacts Cell) (nothing : LaterStagesPostNothing
         subst (λ (y : Name). In y (map (name_of_record (suc j)) (records_made q j (outputs_given q job j t k)))) a.2
         (named_In (name_of_record (suc j)) (records_made q j (outputs_given q job j t k)) r (records_come q nothing job sound j t k below group r a.1 (sym (eqb-true t r.time b.0)) (sym (eqb-true k r.tag.0 b.1))))
 
-    records_counted : All (λ v. IsSome (q.key (suc j) t v)) (values_given q job j t k) → count_by (is_output t k) ((outline_of q job).records (suc j)) ≡ length (values_given q job j t k)
-    records_counted keyed =
+    records_counted : count_by (is_output t k) ((outline_of q job).records (suc j)) ≡ length (records_made q j (outputs_given q job j t k))
+    records_counted =
         just_those (is_output t k) (map (name_of_record (suc j)) (records_made q j (outputs_given q job j t k))) ((outline_of q job).records (suc j)) (made_once q j t k (values_given q job j t k)) (sound.records_once (suc j)) made_are_there there_are_made
-        ∙ (length-map (records_made q j (outputs_given q job j t k)) (name_of_record (suc j)) ∙ records_length q (suc j) t k 0 (values_given q job j t k) keyed)
+        ∙ length-map (records_made q j (outputs_given q job j t k)) (name_of_record (suc j))
 
-    pub number_of_records : All (λ v. IsSome (q.key (suc j) t v)) (values_given q job j t k) → outputs_of (outline_of q job) j t k ≡ length (values_given q job j t k)
-    number_of_records keyed = rw (ne_eqb (suc j) job.shape.stages (λ e. omega arith)) (records_counted keyed)
+    pub number_of_records : outputs_of (outline_of q job) j t k ≡ length (records_made q j (outputs_given q job j t k))
+    number_of_records = rw (ne_eqb (suc j) job.shape.stages (λ e. omega arith)) records_counted
 
   -- The rows of the answer
 

@@ -1,8 +1,10 @@
 -- How the outputs of a group are handed on, one after the other.
-use Rattle.std.proofs.Common.{◌≡◌, ℕ, zero, suc, ◌+◌, ◌<◌, ◌≤◌, Option, None, Some, List, [], ◌∷◌, All, Contains, IsSome, length, map, set, slice_get, sym, ap, ◌∙◌, subst, arith}
+use Rattle.std.proofs.Common.{◌≡◌, ℕ, zero, suc, ◌+◌, ◌<◌, ◌≤◌, Option, None, Some, List, [], ◌∷◌, All, Contains, cond, count_by, is_some, length, map, refl, set, slice_get, sym, ap, ◌∙◌, subst, arith}
 use Rattle.std.specs.List.{cons_option, enumerate_from, filter_map}
 use Rattle.std.specs.Option.{option_map}
+use Rattle.std.proofs.lemmas.Bool.{ne_eqb}
 use Rattle.std.proofs.lemmas.List.Elements.{All-head, All-tail}
+use Rattle.std.proofs.lemmas.List.Sums.{sum_by-cons}
 use Rattle.std.proofs.lemmas.Option.{none-some, same_Some}
 use Rattle.mp_names.specs.declared.names.Name.{Name}
 use Rattle.mp_names.specs.Logs.{Log}
@@ -12,6 +14,7 @@ use Rattle.mp_model.specs.declared.value.Value.{Value}
 use Rattle.mp_model.specs.Facts.{JobFacts, QueryFacts}
 use Rattle.mp_model.specs.Folds.{outputs_at}
 use Rattle.mp_model.specs.Stages.{answer_rows, record_of_output}
+use Rattle.mp_model.specs.Tables.{table_of}
 use Rattle.mp_ordered.specs.InOrder.{put_in_order}
 use Rattle.mp_outline.specs.JobOutline.{name_of_record, name_of_row}
 use Rattle.mp_msg.specs.Contents.{IsRecordOf}
@@ -52,10 +55,27 @@ module _ {Cell : Type 0} (q : QueryFacts Cell) (stage t k : ℕ) where
   pub first_record : (place : ℕ) (v : Value) (vs : List Value) (key : ℕ) → q.key stage t v ≡ Some key → records_from place (v ∷ vs) ≡ record_at key place v ∷ records_from (place + 1) vs
   first_record place v vs key e = ap (λ (o : Option ℕ). cons_option (option_map (λ l. record_at l place v) o) (records_from (place + 1) vs)) e
 
+  -- without a key it makes none
+  pub no_record : (place : ℕ) (v : Value) (vs : List Value) → q.key stage t v ≡ None → records_from place (v ∷ vs) ≡ records_from (place + 1) vs
+  no_record place v vs e = ap (λ (o : Option ℕ). cons_option (option_map (λ l. record_at l place v) o) (records_from (place + 1) vs)) e
+
+  -- as many are made as values have a key
+  pub records_counted : (place : ℕ) (values : List Value) → length (records_from place values) ≡ count_by (λ v. is_some (q.key stage t v)) values
+  records_counted place [] = refl
+  records_counted place (v ∷ vs) = one_counted (q.key stage t v) (records_counted (place + 1) vs) ∙ sym (sum_by-cons (λ (u : Value). cond (is_some (q.key stage t u)) 1 0) v vs)
+    where
+      one_counted : (o : Option ℕ) → length (records_from (place + 1) vs) ≡ count_by (λ u. is_some (q.key stage t u)) vs
+          → length (cons_option (option_map (λ l. record_at l place v) o) (records_from (place + 1) vs)) ≡ cond (is_some o) 1 0 + count_by (λ u. is_some (q.key stage t u)) vs
+      one_counted None rest = omega (arith, rest)
+      one_counted (Some key) rest = omega (arith, rest)
+
+-- in a later stage the keys are the query's own, whatever the time
+pub later_key : {Cell : Type 0} (facts : List ℕ → QueryFacts Cell) (job : JobFacts) (stage t : ℕ) (v : Value) → 0 < stage → (table_of facts job).key stage t v ≡ (facts job.values).key stage t v
+later_key facts job stage t v l = rw (ne_eqb stage 0 (λ e. omega arith)) refl
+
 -- What is left to hand on to a router
 
 pub record RecordsLeft {Cell : Type 0} (q : QueryFacts Cell) (job : JobFacts) (j t k : ℕ) (all : List Value) (start : Routed) (place : ℕ) (values : List Value) (router : Routed) : Type 0 where
-  pub keyed : All (λ v. IsSome (q.key j t v)) values
   pub are : All (IsRecordOf q job j) (records_from q j t k place values)
   pub roomy : length values ≤ router.room
   pub same : router.stage ≡ j
@@ -63,9 +83,9 @@ pub record RecordsLeft {Cell : Type 0} (q : QueryFacts Cell) (job : JobFacts) (j
 
 module _ {Cell : Type 0} (q : QueryFacts Cell) (job : JobFacts) (j t k : ℕ) (start : Routed) where
   -- at first all are
-  pub all_left : (all values : List Value) → values ≡ all → All (λ v. IsSome (q.key j t v)) all → All (IsRecordOf q job j) (records_at q j t k all) → length all ≤ start.room → start.stage ≡ j
+  pub all_left : (all values : List Value) → values ≡ all → All (IsRecordOf q job j) (records_at q j t k all) → length all ≤ start.room → start.stage ≡ j
       → RecordsLeft q job j t k values start 0 values start
-  all_left all values e keyed are room same = subst (λ (vs : List Value). RecordsLeft q job j t k vs start 0 vs start) (sym e) (record { keyed = keyed; are = are; roomy = room; same = same; held = λ w log h. h })
+  all_left all values e are room same = subst (λ (vs : List Value). RecordsLeft q job j t k vs start 0 vs start) (sym e) (record { are = are; roomy = room; same = same; held = λ w log h. h })
 
   -- and in the end none
   pub none_left : (all values rest : List Value) (place : ℕ) (router : Routed) → values ≡ all → length rest ≡ 0 → RecordsLeft q job j t k values start place rest router
@@ -74,12 +94,20 @@ module _ {Cell : Type 0} (q : QueryFacts Cell) (job : JobFacts) (j t k : ℕ) (s
   none_left all values (v ∷ vs) place router e l left w log h = absurd (omega arith)
 
 module _ {Cell : Type 0} (q : QueryFacts Cell) (job : JobFacts) (j t k : ℕ) (all : List Value) (start : Routed) (place : ℕ) (v : Value) (vs : List Value) (router : Routed) (left : RecordsLeft q job j t k all start place (v ∷ vs) router) where
-  -- the next value has a key
-  pub next_keyed : q.key j t v ≡ None → ⊥
-  next_keyed e = let some = subst (λ (o : Option ℕ). IsSome o) e (All-head (λ (u : Value). IsSome (q.key j t u)) v vs left.keyed) in cc
+  -- a value without a key is passed over
+  pub next_passed : q.key j t v ≡ None → RecordsLeft q job j t k all start (place + 1) vs router
+  next_passed e =
+      let none = no_record q j t k place v vs e in
+      let roomy : length (v ∷ vs) ≤ router.room = left.roomy in
+      record {
+        are = subst (λ (rs : List Rec). All (IsRecordOf q job j) rs) none left.are;
+        roomy = omega arith;
+        same = left.same;
+        held = λ w log all. subst (λ (rs : List Rec). HoldsAllBut q job w log (map (name_of_record j) rs) router) none (left.held w log all);
+      }
 
   module _ (key : ℕ) (keyed : q.key j t v ≡ Some key) where
-    -- so it makes a record of the stage
+    -- one that has a key makes a record of the stage
     pub next_is : IsRecordOf q job router.stage (record_at q j t k key place v)
     next_is =
         let are = subst (λ (rs : List Rec). All (IsRecordOf q job j) rs) (first_record q j t k place v vs key keyed) left.are in
@@ -93,7 +121,6 @@ module _ {Cell : Type 0} (q : QueryFacts Cell) (job : JobFacts) (j t k : ℕ) (a
         let first = first_record q j t k place v vs key keyed in
         let roomy : length (v ∷ vs) ≤ router.room = left.roomy in
         record {
-          keyed = All-tail (λ (u : Value). IsSome (q.key j t u)) v vs left.keyed;
           are = All-tail (IsRecordOf q job j) (record_at q j t k key place v) (records_from q j t k (place + 1) vs) (subst (λ (rs : List Rec). All (IsRecordOf q job j) rs) first left.are);
           roomy = omega arith;
           same = same ∙ left.same;

@@ -91,7 +91,7 @@ module _ {Cell : Type 0} (q : QueryFacts Cell) (job : JobFacts) (b : Bundled) (b
     come = subst (λ (v : ℕ). AreToCome (outline_of q job) log v (names_in b)) (sym at.1) (record { once = new.0; owed = λ x i. (new.1 x i).0; fresh = λ x i. (new.1 x i).1 })
 
     pub records_changes : OutlineIsSound (outline_of q job) → (r : Rec) → r ≡ get_or b.recs 0 r
-        → (groups : ℕ) → ((l : Log) → IsHostOf q job l old → LogIsLegal (outline_of q job) old.worker l → AreToCome (outline_of q job) l old.worker (names_in b) → groups ≡ new_groups (outline_of q job) l (names_in b))
+        → (groups : ℕ) → ((l : Log) → IsHostOf q job l old → LogIsLegal (outline_of q job) old.worker l → AreToCome (outline_of q job) l old.worker (names_in b) → groups ≡ new_groups (outline_of q job) old.worker l (names_in b))
         → (n : ℕ) → n ≡ cond (groups == 0) 1 2
         → AreChanges (outline_of q job) w log (with_all_took log (names_in b))
         (take n (change_at (Mail b.stage) r.time (neg_ℤ (pos (length b.recs))) ∷ change_at (Host b.stage) r.time (pos groups) ∷ []))
@@ -99,12 +99,12 @@ module _ {Cell : Type 0} (q : QueryFacts Cell) (job : JobFacts) (b : Bundled) (b
         let o = outline_of q job in
         let xs = names_in b in
         let many = length-map b.recs (name_of_record b.stage) in
-        let begun = told log at.2 its_log come in
+        let begun = told log at.2 its_log come ∙ ap (λ (v : ℕ). new_groups o v log xs) at.1 in
         let all = records_taken o w log sound legal b.stage r.time xs bundle.message.some (λ x i. (each_is_record x i, time_is r first x i, (new.1 x i).0, (new.1 x i).1)) in
         let shown = changes_shown (change_at (Mail b.stage) r.time (neg_ℤ (pos (length b.recs)))) (change_at (Host b.stage) r.time (pos groups)) (groups == 0) n count in
         rw shown
         (subst (λ (m : ℕ). AreChanges o w log (with_all_took log xs) (records_taken_at b.stage r.time (length b.recs) m)) (sym begun)
-        (subst (λ (m : ℕ). AreChanges o w log (with_all_took log xs) (records_taken_at b.stage r.time m (new_groups o log xs))) many all))
+        (subst (λ (m : ℕ). AreChanges o w log (with_all_took log xs) (records_taken_at b.stage r.time m (new_groups o w log xs))) many all))
 
     pub records_held : (new : Hosted Cell) → new.stage ≡ old.stage → new.worker ≡ old.worker → TakesRecords q job b.recs old new → IsHostAt q job w (with_all_took log (names_in b)) b.stage new
     records_held new stage worker takes =

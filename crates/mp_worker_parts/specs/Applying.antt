@@ -1,5 +1,5 @@
 -- What is known of a group that a worker applies.
-use Rattle.std.specs.Prelude.{◌≡◌, ℕ, ◌+◌, ◌<◌, ◌≤◌, List, [], ◌∷◌, ◌++◌, All, Contains, IsSome, Some, get_or, length, map, set, slice_get}
+use Rattle.std.specs.Prelude.{◌≡◌, ℕ, ◌+◌, ◌<◌, ◌≤◌, List, [], ◌∷◌, ◌++◌, All, Contains, Some, get_or, length, map, set, slice_get}
 use Rattle.mp_names.specs.declared.kinds.Kind.TheVariants.{Apply}
 use Rattle.mp_names.specs.declared.locations.Loc.{Loc}
 use Rattle.mp_names.specs.declared.locations.Loc.TheVariants.{Host}
@@ -10,7 +10,7 @@ use Rattle.mp_model.specs.declared.value.Value.{Value}
 use Rattle.mp_model.specs.declared.record.Output.{Output}
 use Rattle.mp_model.specs.Facts.{JobFacts, QueryFacts}
 use Rattle.mp_model.specs.Folds.{cell_before, outputs_at}
-use Rattle.mp_model.specs.QueryLaws.{LaterStagesPostNothing, OutputsHaveKeys, PostsAreLater}
+use Rattle.mp_model.specs.QueryLaws.{LaterStagesPostNothing, PostsAreLater}
 use Rattle.mp_model.specs.Stages.{answer_rows, stage_records}
 use Rattle.mp_rows.specs.Entries.{AreChanges}
 use Rattle.mp_rows_laws.specs.Changes.{location_after, one_less, one_more, some_more}
@@ -24,23 +24,21 @@ use Rattle.mp_host_laws.specs.Hosted.{Hosted}
 use Rattle.mp_host.specs.Ready.{IsReadyHere}
 use Rattle.mp_worker_invariant.specs.Laws.{CanDo}
 use Rattle.mp_worker_invariant.specs.Parts.{ArePartsOf, HoldsRowsBut, Parts}
-use Rattle.mp_worker_parts.specs.Onward.{records_at}
+use Rattle.mp_worker_parts.specs.Onward.{GoOnward, records_at}
 
--- Posts are later, and of the first stage; and what a group gives the next stage has a key there
+-- Posts are later, and of the first stage
 pub record HandsOn {Cell : Type 0} (q : QueryFacts Cell) : Type 0 where
   pub later : PostsAreLater q
   pub nothing : LaterStagesPostNothing q
-  pub keys : OutputsHaveKeys q
 
 -- What is known of a group of a stage that was applied, by its outputs, its wakes and the new host: its time, that the step could be made, what its outputs are, what it changes at the counts, that what is enough for the stage is enough for it, and what the parts are once its outputs are handed on
 pub record IsApplying {Cell : Type 0} (q : QueryFacts Cell) (job : JobFacts) (p : Parts Cell) (j t k : ℕ) (vs : List Value) (woke : List ℕ) (new : Hosted Cell) : Type 0 where
   pub in_time : t ≤ last_time
   pub can : CanDo q job p (Apply j) (Group j t k)
-  pub keyed : j + 1 < job.shape.stages → All (λ v. IsSome (q.key (j + 1) t v)) vs
   pub records : j + 1 < job.shape.stages → All (IsRecordOf q job (j + 1)) (records_at q (j + 1) t k vs)
   pub rows : job.shape.stages ≤ j + 1 → All (Contains (answer_rows q job.events)) (outputs_at t k vs)
-  pub changes : (onward : Loc) → onward ≡ location_after j (outline_of q job).stages
-      → AreChanges (outline_of q job) p.number p.log (with_applied p.log (Group j t k)) (one_less (Host j) t ∷ (some_more onward t (length vs) ++ map (one_more (Host j)) woke))
+  pub changes : (onward : Loc) → onward ≡ location_after j (outline_of q job).stages → (number : ℕ) → GoOnward q job j t k vs number
+      → AreChanges (outline_of q job) p.number p.log (with_applied p.log (Group j t k)) (one_less (Host j) t ∷ (some_more onward t number ++ map (one_more (Host j)) woke))
   pub fits : (most : ℕ)
       → ((h : Hosted Cell) (t k : ℕ) → slice_get p.hosts j ≡ Some h → IsReadyHere job p.seen p.notes h t k
       → length (q.gives h.stage (cell_before q h.stage (stage_records q job.events h.stage) k t) (group_at q job h.stage t k)) + length (woken_by q h t k) ≤ most)

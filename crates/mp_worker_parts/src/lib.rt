@@ -13,5 +13,5 @@ mod room;
 pub use changes::{many_less, many_more, one_less, one_more, push_more};
 pub use cursor::place_after;
 pub use leaving::changes_of_leaving;
-pub use onward::{hold_records, hold_rows, location_after, make_room_onward};
+pub use onward::{count_onward, hold_records, hold_rows, location_after, make_room_onward};
 pub use room::ChangeLists;

@@ -1,9 +1,10 @@
 //! Where the outputs of a group go: to the router of the next stage, and from the last one to the answer rows to be sent.
-ghost use Rattle.std.specs.Prelude.{◌≡◌, ◌≤◌, ◌<◌, ◌+◌, ℕ, [], All, Contains, IsOk, IsSome, None, OnOk, Some, length, map, slice_get};
+ghost use Rattle.std.specs.Prelude.{◌≡◌, ◌≤◌, ◌<◌, ◌+◌, ℕ, [], All, Contains, IsOk, None, OnOk, Some, length, map, slice_get};
 ghost use Rattle.mp_names.specs.Logs.{Log};
 ghost use Rattle.mp_names.specs.Limits.{last_time};
 ghost use Rattle.mp_model.specs.Folds.{outputs_at};
 ghost use Rattle.mp_model.specs.Stages.{answer_rows};
+ghost use Rattle.mp_model.specs.Tables.{table_of};
 ghost use Rattle.mp_outline.specs.JobOutline.{name_of_record, name_of_row};
 ghost use Rattle.mp_msg.specs.Contents.{IsRecordOf};
 ghost use Rattle.mp_route.specs.Routed.{Routed};
@@ -50,8 +51,32 @@ pub fn make_room_onward<Q: Query, J: Naming>(
     }
 }
 
-/// Gives the outputs of a group, which has this time and key, to the router of a stage, each as a record of its own key and
-/// with its place in its tag. The router has room for them, so `AllocError` never comes.
+/// How many outputs of a group, which has this time and key, make a record of a stage: those that have a key there.
+pub fn count_onward<Q: Query, J: Naming>(
+    query: &Q,
+    stage: u32,
+    time: Time,
+    group: u64,
+    outputs: &[Value],
+) -> usize
+    requires rules { Q.values query.now ≡ J.job.values }
+    requires time { time ≤ last_time }
+    requires next { 0 < stage }
+    ensures records { let q = table_of Q.facts J.job in
+        result ≡ length (records_at q stage time group outputs.now) }
+    ensures few { result ≤ length outputs.now }
+{
+    let mut count = 0;
+    for value in outputs {
+        if query.key(stage, time, value).is_some() {
+            count += 1;
+        }
+    }
+    count
+}
+
+/// Gives the outputs of a group, which has this time and key, to the router of a stage, each that has a key there as a record
+/// of it and with its place in its tag; the others are dropped. The router has room for them, so `AllocError` never comes.
 pub fn hold_records<Q: Query, J: Naming>(
     query: &Q,
     stage: u32,
@@ -60,33 +85,33 @@ pub fn hold_records<Q: Query, J: Naming>(
     outputs: Vec<Value>,
     router: &mut Router<Q, J>,
 ) -> Result<(), AllocError>
-    requires rules { Q.rules query.now ≡ J.job.rules }
+    requires rules { Q.values query.now ≡ J.job.values }
     requires time { time ≤ last_time }
-    requires keys { let q = Q.facts J.job.rules in
-        All (λ v. IsSome (q.key stage time v)) outputs.items }
+    requires next { 0 < stage }
     requires stage { router.old.stage ≡ stage }
-    requires records { let q = Q.facts J.job.rules in
+    requires records { let q = table_of Q.facts J.job in
         All (IsRecordOf q J.job stage) (records_at q stage time group outputs.items) }
     requires room { length outputs.items ≤ router.old.room }
     ensures done { IsOk result }
     ensures stage { router.new.stage ≡ router.old.stage }
-    ensures held { let q = Q.facts J.job.rules in
+    ensures held { let q = table_of Q.facts J.job in
         (w : ℕ) (log : Log)
         → HoldsAllBut q J.job w log (map (name_of_record stage) (records_at q stage time group outputs.items)) router.old
         → HoldsUnsent q J.job w log router.new }
 {
     let mut place = 0;
     for value in outputs {
+        let tag = Tag(group, place);
+        place += 1;
         let Some(key) = query.key(stage, time, &value) else {
-            unreachable!()
+            continue;
         };
         router.hold(Rec {
             time,
             key,
-            tag: Tag(group, place),
+            tag,
             value,
         })?;
-        place += 1;
     }
     Ok(())
 }
@@ -99,10 +124,10 @@ pub fn hold_rows<Q: Query, J: Naming>(
     outputs: Vec<Value>,
     unsent: &mut Unsent<Q, J>,
 ) -> Result<(), AllocError>
-    requires rows { All (Contains (answer_rows (Q.facts J.job.rules) J.job.events)) (outputs_at time group outputs.items) }
+    requires rows { All (Contains (answer_rows (table_of Q.facts J.job) J.job.events)) (outputs_at time group outputs.items) }
     requires room { length outputs.items ≤ unsent.old.room }
     ensures done { IsOk result }
-    ensures held { let q = Q.facts J.job.rules in
+    ensures held { let q = table_of Q.facts J.job in
         (w : ℕ) (log : Log)
         → HoldsRowsBut q J.job w log (map name_of_row (outputs_at time group outputs.items)) unsent.old.rows
         → HoldsRowsBut q J.job w log [] unsent.new.rows }

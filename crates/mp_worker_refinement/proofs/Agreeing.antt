@@ -7,7 +7,7 @@ use Rattle.mp_names.specs.declared.locations.Loc.{Loc}
 use Rattle.mp_names.specs.declared.locations.Loc.TheVariants.{CtlMail, Mail, State, Host, OutMail}
 use Rattle.mp_names.specs.declared.names.Name.{Name}
 use Rattle.mp_names.specs.declared.names.Name.TheVariants.{Packet, Group, Settled}
-use Rattle.mp_names.specs.Outlines.{Outline, time_of}
+use Rattle.mp_names.specs.Outlines.{Outline, control_at, time_of}
 use Rattle.mp_names.specs.Logs.{Log}
 use Rattle.mp_names.specs.Frontiers.{HasPassed, HasReached}
 use Rattle.mp_names.specs.Locations.{IsLocation}
@@ -38,12 +38,12 @@ module _ (o : Outline) (w : ℕ) where
   settle a b same j _ h = h
 
   apply : (a b : Worker) → SeesAs o a b → (j : ℕ) → j < o.stages → (x : Name) → MayApply o w a j x → MayApply o w (seeing a b) j x
-  apply a b same j l (Group i t k) h = (passed a b same (Mail j) t l h.0, passed a b same (State j) t l h.1, h.2)
+  apply a b same j l (Group i t k) h = (passed a b same (Mail j) t l h.0, passed a b same (State j) t l h.1, h.2, h.3)
   apply a b same j l _ h = h
 
   agree : (a b : Worker) → SeesAs o a b → (kind : Kind) (x : Name) → KindFits o kind → IsNext o w a kind x → IsReady o w a kind x → IsNext o w (seeing a b) kind x × IsReady o w (seeing a b) kind x
   agree a b same Ingest x fits next ready = (next, tt)
-  agree a b same SendControl x fits next ready = (next, tt)
+  agree a b same SendControl x fits next ready = (next, (λ paced j i lj li less. passed a b same (Host j) (control_at o i).time lj (ready paced j i lj li less)))
   agree a b same (Route j) x fits next ready = (next, passed a b same CtlMail (time_of o x) tt ready)
   agree a b same (Receive v) x fits next ready = (tt, tt)
   agree a b same (Extract j) x fits next ready =

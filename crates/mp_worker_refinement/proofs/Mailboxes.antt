@@ -136,7 +136,7 @@ module _ (o : Outline) (ok : OutlineIsSound o) (depth : ℕ) (world : World) (po
 
   pub allowed : (kind : Kind) (x : Name) (xs : List Name) → IsNext o w (world.worker w) kind x → receiver_of o xs ≡ receiver o x → MailboxAllows (HadRoom post) o w kind xs
       → ((v : ℕ) → kind ≡ Receive v → (rest : List Name) × (others : List (List Name)) × (world.mailbox v w ≡ (x ∷ rest) ∷ others)) → MailAllows o depth world.mailbox w kind x
-  allowed SendControl x xs next to lets first = room x next.0.1 (rw to at lets)
+  allowed SendControl x xs next to lets first = room x next.0.0.1 (rw to at lets)
   allowed (Route j) x xs next to lets first = room x next.0.1 (rw to at lets)
   allowed (Receive v) x xs next to lets first = first v refl
   allowed (Extract j) x xs next to lets first = room x (due_owed o w (world.worker w) j x next.0) (rw to at lets)
@@ -144,7 +144,7 @@ module _ (o : Outline) (ok : OutlineIsSound o) (depth : ℕ) (world : World) (po
   allowed _ x xs next to lets first = tt
 
   pub hindered : (kind : Kind) (x : Name) → KindFits o kind → IsNext o w (world.worker w) kind x → MailboxBlocks (WasFull post) (WasEmpty post) o w kind x → MailAllows o depth world.mailbox w kind x → ⊥
-  hindered SendControl x fits next h allows = full x next.0.1 h allows
+  hindered SendControl x fits next h allows = full x next.0.0.1 h allows
   hindered (Route j) x fits next h allows = full x next.0.1 h allows
   hindered (Receive v) x fits next h allows = cons_nil (x ∷ allows.0) allows.1 (sym allows.2 ∙ sym (holds v w fits lw) ∙ h)
   hindered (Extract j) x fits next h allows = full x (due_owed o w (world.worker w) j x next.0) h allows

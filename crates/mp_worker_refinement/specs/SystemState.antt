@@ -1,11 +1,10 @@
 -- Workers that take turns on one thread, and when they are in a state of the machine.
 use Rattle.std.specs.Prelude.{◌≡◌, ℕ, ◌<◌, List, Some, length, slice_get, slice_set}
 use Rattle.mp_names.specs.declared.locations.Loc.{Loc}
-use Rattle.mp_names.specs.declared.locations.Frontier.TheVariants.{Done}
 use Rattle.mp_names.specs.declared.names.Name.{Name}
 use Rattle.mp_names.specs.declared.names.Name.TheVariants.{Row, Written}
 use Rattle.mp_names.specs.declared.names.Tag.{Tag}
-use Rattle.mp_names.specs.Frontiers.{log_at}
+use Rattle.mp_names.specs.Frontiers.{HasEnded, log_at}
 use Rattle.mp_names.specs.Names.{In}
 use Rattle.mp_names.specs.Outlines.{Outline}
 use Rattle.mp_names.specs.Locations.{IsLocation}
@@ -55,7 +54,7 @@ pub record Refines (o : Outline) (depth : ℕ) (t : SystemState) (world : World)
 abbrev pub with_worker : SystemState → ℕ → WorkerState → Queues (List Name) → SystemState
 with_worker t w s post = record t { workers = slice_set t.workers w s; post = post }
 
--- The worker knows that all is over: each frontier that it saw is Done, and worker 0 has written each row that it took
+-- The worker knows that all is over: each frontier that it saw has come to the end, and worker 0 has written each row that it took
 pub record KnowsTheEnd (o : Outline) (s : WorkerState) : Type 0 where
-  pub done : (at : Loc) → IsLocation o.stages at → seen_at s.seen at ≡ Done
+  pub done : (at : Loc) → IsLocation o.stages at → HasEnded o.until (seen_at s.seen at)
   pub written : s.number ≡ 0 → (t : ℕ) (g : Tag) → In (Row t g) s.log.took → In (Written t) s.log.settled

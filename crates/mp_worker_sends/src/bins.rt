@@ -9,6 +9,7 @@ ghost use Rattle.mp_worker_refinement.specs.Served.{IsAtPost, PostFollows};
 ghost use Rattle.mp_worker_refinement.specs.State.{CanMake};
 ghost use Rattle.mp_worker_refinement.specs.Steps.{StepsByMail};
 ghost use Rattle.mp_worker_sends.specs.Rooms.{HasRoomToExtract};
+ghost use Rattle.mp_model.specs.Tables.{table_of};
 
 use crate::push::send;
 use mp_handoff::count_of_keys;
@@ -32,11 +33,11 @@ pub fn extract<'a, Q: Query, J: Naming, P: Post<Msg<Q, J>>>(
     post: &mut P,
 ) -> Result<Option<Names>, AllocError>
     requires stage { stage < J.job.shape.stages }
-    requires at_post { let o = outline_of (Q.facts J.job.rules) J.job in
+    requires at_post { let o = outline_of (table_of Q.facts J.job) J.job in
         IsAtPost P.workers P.depth P.serves P.denotes o parts.old.worker.number parts.old.worker.log post.old }
-    ensures steps { let o = outline_of (Q.facts J.job.rules) J.job in
+    ensures steps { let o = outline_of (table_of Q.facts J.job) J.job in
         StepsByMail (P.had_room post.old) (P.was_full post.old) (P.was_empty post.old) o (Extract stage) parts.old.worker parts.new.worker result }
-    ensures mail { let o = outline_of (Q.facts J.job.rules) J.job in
+    ensures mail { let o = outline_of (table_of Q.facts J.job) J.job in
         PostFollows P.workers P.depth P.serves P.denotes P.waits o parts.old.worker.number parts.old.worker.log parts.new.worker.log post.old post.new }
 {
     let Some(moved) = due(parts, stage) else {
@@ -51,9 +52,9 @@ pub fn extract<'a, Q: Query, J: Naming, P: Post<Msg<Q, J>>>(
 // The move of the packet that is to leave the stage now, `None` exactly where none may.
 fn due<'a, Q: Query, J: Naming>(parts: &Parts<'a, Q, J>, stage: u32) -> Option<Move>
     requires stage { stage < J.job.shape.stages }
-    ensures none { let o = outline_of (Q.facts J.job.rules) J.job in
+    ensures none { let o = outline_of (table_of Q.facts J.job) J.job in
         IfNone result ((x : Name) → CanMake o (Extract stage) parts.now.worker x → ⊥) }
-    ensures due { let o = outline_of (Q.facts J.job.rules) J.job in let s = parts.now.worker in
+    ensures due { let o = outline_of (table_of Q.facts J.job) J.job in let s = parts.now.worker in
         IfSome result (IsDueNow o s.number s.log s.seen stage) }
 {
     parts.movers[stage as usize].due(&parts.seen, &parts.owners)
@@ -81,11 +82,11 @@ fn make_room_to_extract<'a, Q: Query, J: Naming>(
     moved: Move,
 ) -> Result<Vec<Change>, AllocError>
     requires stage { stage < J.job.shape.stages }
-    requires due { let o = outline_of (Q.facts J.job.rules) J.job in let s = parts.old.worker in
+    requires due { let o = outline_of (table_of Q.facts J.job) J.job in let s = parts.old.worker in
         IsDueNow o s.number s.log s.seen stage moved }
     ensures same { parts.new.worker ≡ parts.old.worker }
     ensures room { IfOk result (λ changes. HasRoomToExtract stage (length changes.items) parts.new) }
-    ensures changes { let q = Q.facts J.job.rules in let s = parts.new.worker in IfOk result (λ changes. (h : Hosted Q.Cell)
+    ensures changes { let q = table_of Q.facts J.job in let s = parts.new.worker in IfOk result (λ changes. (h : Hosted Q.Cell)
         → slice_get parts.new.hosts stage ≡ Some h → AreChangesOfLeaving q J.job s.number s.log stage moved h changes.items) }
 {
     let host = &parts.hosts[stage as usize];
@@ -107,16 +108,16 @@ fn send_bin<'a, Q: Query, J: Naming, P: Post<Msg<Q, J>>>(
     post: &mut P,
 ) -> Result<Option<Names>, AllocError>
     requires stage { stage < J.job.shape.stages }
-    requires due { let o = outline_of (Q.facts J.job.rules) J.job in let s = parts.old.worker in
+    requires due { let o = outline_of (table_of Q.facts J.job) J.job in let s = parts.old.worker in
         IsDueNow o s.number s.log s.seen stage moved }
     requires room { HasRoomToExtract stage (length changes.items) parts.old }
-    requires changes { let q = Q.facts J.job.rules in let s = parts.old.worker in (h : Hosted Q.Cell)
+    requires changes { let q = table_of Q.facts J.job in let s = parts.old.worker in (h : Hosted Q.Cell)
         → slice_get parts.old.hosts stage ≡ Some h → AreChangesOfLeaving q J.job s.number s.log stage moved h changes.items }
-    requires at_post { let o = outline_of (Q.facts J.job.rules) J.job in
+    requires at_post { let o = outline_of (table_of Q.facts J.job) J.job in
         IsAtPost P.workers P.depth P.serves P.denotes o parts.old.worker.number parts.old.worker.log post.old }
-    ensures steps { let o = outline_of (Q.facts J.job.rules) J.job in
+    ensures steps { let o = outline_of (table_of Q.facts J.job) J.job in
         StepsByMail (P.had_room post.old) (P.was_full post.old) (P.was_empty post.old) o (Extract stage) parts.old.worker parts.new.worker result }
-    ensures mail { let o = outline_of (Q.facts J.job.rules) J.job in
+    ensures mail { let o = outline_of (table_of Q.facts J.job) J.job in
         PostFollows P.workers P.depth P.serves P.denotes P.waits o parts.old.worker.number parts.old.worker.log parts.new.worker.log post.old post.new }
 {
     let movers = &mut parts.movers[stage as usize];

@@ -3,6 +3,7 @@ ghost use Rattle.mp_names.specs.declared.kinds.Kind.TheVariants.{SendControl};
 ghost use Rattle.mp_outline.specs.JobOutline.{outline_of};
 ghost use Rattle.mp_worker_refinement.specs.Served.{IsAtPost, PostFollows};
 ghost use Rattle.mp_worker_refinement.specs.Steps.{StepsByMail};
+ghost use Rattle.mp_model.specs.Tables.{table_of};
 
 use crate::push::send;
 use mp_mailbox::Post;
@@ -22,11 +23,11 @@ pub fn send_control<'a, Q: Query, J: Naming, P: Post<Msg<Q, J>>>(
     parts: &mut Parts<'a, Q, J>,
     post: &mut P,
 ) -> Result<Option<Names>, AllocError>
-    requires at_post { let o = outline_of (Q.facts J.job.rules) J.job in
+    requires at_post { let o = outline_of (table_of Q.facts J.job) J.job in
         IsAtPost P.workers P.depth P.serves P.denotes o parts.old.worker.number parts.old.worker.log post.old }
-    ensures steps { let o = outline_of (Q.facts J.job.rules) J.job in
+    ensures steps { let o = outline_of (table_of Q.facts J.job) J.job in
         StepsByMail (P.had_room post.old) (P.was_full post.old) (P.was_empty post.old) o SendControl parts.old.worker parts.new.worker result }
-    ensures mail { let o = outline_of (Q.facts J.job.rules) J.job in
+    ensures mail { let o = outline_of (table_of Q.facts J.job) J.job in
         PostFollows P.workers P.depth P.serves P.denotes P.waits o parts.old.worker.number parts.old.worker.log parts.new.worker.log post.old post.new }
 {
     let ControlCursor { index, receiver } = parts.next;

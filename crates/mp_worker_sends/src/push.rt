@@ -7,6 +7,7 @@ ghost use Rattle.mp_msg.specs.Bundles.{receiver_of};
 ghost use Rattle.mp_worker_refinement.specs.Served.{IsAtPost, PostFollows};
 ghost use Rattle.mp_worker_refinement.specs.Sending.{MaySend, with_all_sent};
 ghost use Rattle.mp_worker_refinement.specs.Steps.{Tells};
+ghost use Rattle.mp_model.specs.Tables.{table_of};
 
 use mp_mailbox::Post;
 use mp_model::{Naming, Query};
@@ -23,15 +24,15 @@ pub(crate) fn send<Q: Query, J: Naming, P: Post<Msg<Q, J>>>(
     names: NewNames,
     changes: &[Change],
 ) -> Result<Names, Msg<Q, J>>
-    requires outline { OutlineIsSound (outline_of (Q.facts J.job.rules) J.job) }
+    requires outline { OutlineIsSound (outline_of (table_of Q.facts J.job) J.job) }
     requires worker { log.old.worker < J.job.shape.workers }
-    requires may { MaySend (outline_of (Q.facts J.job.rules) J.job) log.old.worker log.old.log message }
-    requires to { to ≡ receiver_of (outline_of (Q.facts J.job.rules) J.job) message }
+    requires may { MaySend (outline_of (table_of Q.facts J.job) J.job) log.old.worker log.old.log message }
+    requires to { to ≡ receiver_of (outline_of (table_of Q.facts J.job) J.job) message }
     requires names { names ≡ message }
-    requires changes { let o = outline_of (Q.facts J.job.rules) J.job in
+    requires changes { let o = outline_of (table_of Q.facts J.job) J.job in
         AreChanges o log.old.worker log.old.log (with_all_sent log.old.log message) changes.now }
     requires room { (length message ≤ log.old.room_for_names) × (length changes.now ≤ log.old.room_for_changes) }
-    requires at_post { let o = outline_of (Q.facts J.job.rules) J.job in
+    requires at_post { let o = outline_of (table_of Q.facts J.job) J.job in
         IsAtPost P.workers P.depth P.serves P.denotes o log.old.worker log.old.log post.old }
 
     ensures names { IfOk result (λ told. Tells told message) }
@@ -44,7 +45,7 @@ pub(crate) fn send<Q: Query, J: Naming, P: Post<Msg<Q, J>>>(
 
     ensures worker { log.new.worker ≡ log.old.worker }
     ensures posted { log.new.posted ≡ log.old.posted }
-    ensures mail { let o = outline_of (Q.facts J.job.rules) J.job in
+    ensures mail { let o = outline_of (table_of Q.facts J.job) J.job in
         PostFollows P.workers P.depth P.serves P.denotes P.waits o log.old.worker log.old.log log.new.log post.old post.new }
 {
     let told = message.names();

@@ -7,7 +7,7 @@ use Rattle.mp_stamps.specs.declared.seen.Seen.{Seen}
 use Rattle.mp_bins.specs.Notes.{IsShape, Notes}
 use Rattle.mp_model.specs.Facts.{JobFacts, QueryFacts}
 use Rattle.mp_board.specs.Boards.{ShowsFrontiers}
-use Rattle.mp_outline.specs.JobOutline.{outline_of}
+use Rattle.mp_outline.specs.JobOutline.{layout_of, outline_of}
 use Rattle.mp_rows.specs.WorkerLog.{WorkerLog}
 use Rattle.mp_route.specs.Routed.{Routed}
 use Rattle.mp_host_laws.specs.Hosted.{Hosted}
@@ -26,11 +26,11 @@ module _ {Cell : Type 0} (q : QueryFacts Cell) (job : JobFacts) (sound : Outline
   module _ (w : ℕ) (seen : Seen) (inside : w < job.shape.workers) (opening : ShowsFrontiers (outline_of q job) (replicate job.shape.workers empty_log) seen) where
     pub parts_at_first :
         (log : WorkerLog) (posted : Log) (notes : Notes) (routers : List Routed) (hosts : List (Hosted Cell)) (movers : List MoversState) (unsent unwritten : Unwritten)
-        → log.worker ≡ w → log.log ≡ empty_log → posted ≡ empty_log → notes.shape ≡ job.shape → notes.noted ≡ [] → length routers ≡ job.shape.stages
+        → log.worker ≡ w → log.log ≡ empty_log → posted ≡ empty_log → notes.layout ≡ layout_of job → notes.noted ≡ [] → length routers ≡ job.shape.stages
         → AtEach routers (IsRouterAt q job w empty_log) → length hosts ≡ job.shape.stages → AtEach hosts (IsHostAt q job w empty_log)
         → length movers ≡ job.shape.stages → AtEach movers (AreMoversAt q job w empty_log) → unsent.rows ≡ [] → unwritten.rows ≡ []
         → ArePartsOf q job (parts_with log posted seen notes (cursor 0 0) routers hosts movers unsent unwritten)
-    parts_at_first log posted notes routers hosts movers unsent unwritten number empty nothing shape none all_routers at_routers all_hosts at_hosts all_movers at_movers no_unsent no_unwritten =
+    parts_at_first log posted notes routers hosts movers unsent unwritten number empty nothing layout none all_routers at_routers all_hosts at_hosts all_movers at_movers no_unsent no_unwritten =
         let done = opening_is_told (outline_of q job) w seen sound inside opening in
         rw (number, empty, nothing, no_unsent, no_unwritten)
-        (parts_begin q job w seen notes routers hosts movers inside done shape none all_routers at_routers all_hosts at_hosts all_movers at_movers)
+        (parts_begin q job w seen notes routers hosts movers inside done layout none all_routers at_routers all_hosts at_hosts all_movers at_movers)

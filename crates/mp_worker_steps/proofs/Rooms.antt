@@ -55,10 +55,10 @@ module _ {Cell : Type 0} (q : QueryFacts Cell) (job : JobFacts) (w : ℕ) (log :
       (ap (λ (m : MoversState). m.stage) same ∙ at.0, ap (λ (m : MoversState). m.worker) same ∙ at.1, record { unsettled = moved.unsettled; sent = moved.sent; known = moved.known; settled = moved.settled; packets = moved.packets })
 
 -- notes of which only the room is another
-same_taken : (job : JobFacts) (w : ℕ) (log : Log) (old new : Notes) → new.shape ≡ old.shape → new.noted ≡ old.noted → AreTaken job w log old → AreTaken job w log new
-same_taken job w log old new shape noted are = record {
-  shape = shape ∙ are.shape;
-  of_job = subst (λ (ns : List Note). AreNotesOf job.controls (record { shape = new.shape; noted = ns; room = new.room })) (sym noted) (record { in_order = are.of_job.in_order; each = are.of_job.each });
+same_taken : (job : JobFacts) (w : ℕ) (log : Log) (old new : Notes) → new.layout ≡ old.layout → new.noted ≡ old.noted → AreTaken job w log old → AreTaken job w log new
+same_taken job w log old new layout noted are = record {
+  layout = layout ∙ are.layout;
+  of_job = subst (λ (ns : List Note). AreNotesOf job.controls (record { layout = new.layout; noted = ns; room = new.room })) (sym noted) (record { in_order = are.of_job.in_order; each = are.of_job.each });
   taken = λ i. ap (λ (ns : List Note). is_noted ns i) noted ∙ are.taken i;
 }
 
@@ -84,6 +84,6 @@ module _ {Cell : Type 0} {q : QueryFacts Cell} {job its : JobFacts} {p : Parts C
       rw (all_written n p.routers roomy count (same_length content p.routers roomy same), still) (kept_as kept (routers_roomy kept.sound kept.parts roomy same))
 
   -- room is made in the log, the notes and the rows
-  pub front_roomy : (new : WorkerLog) → new.worker ≡ p.number → (more : Notes) (others : List Output) → new.log ≡ p.log → (more.shape ≡ p.notes.shape) × (more.noted ≡ p.notes.noted) → others ≡ p.unwritten
+  pub front_roomy : (new : WorkerLog) → new.worker ≡ p.number → (more : Notes) (others : List Output) → new.log ≡ p.log → (more.layout ≡ p.notes.layout) × (more.noted ≡ p.notes.noted) → others ≡ p.unwritten
       → IsKept q job its (record p { number = new.worker; log = new.log; notes = more; unwritten = others })
   front_roomy new e more others f n r = rw r (kept_by kept new e f (other_notes kept.parts more (same_taken job p.number p.log p.notes more n.0 n.1 kept.parts.notes)))

@@ -15,6 +15,7 @@ use Rattle.mp_bins.specs.Notes.{IsWithin, Notes, is_noted as has_note, with_note
 use Rattle.mp_model.specs.Facts.{JobFacts, QueryFacts}
 use Rattle.mp_model.specs.declared.value.Value.{Value}
 use Rattle.mp_outline.specs.JobOutline.{outline_of}
+use Rattle.mp_outline.proofs.Whole.{nothing_opens}
 use Rattle.mp_rows.specs.Entries.{AreChanges}
 use Rattle.mp_rows_laws.specs.Changes.{control_taken_at, one_less, one_more, packet_taken_at, some_more}
 use Rattle.mp_msg.specs.Contents.{IsControlOf, IsPacketOf}
@@ -46,13 +47,13 @@ use Rattle.mp_worker_steps.specs.Applying.{HasRoomToApply, IsEnoughFor}
 -- Of a control record: it may be noted and isn't yet; what it changes at the counts; and the parts once it is noted
 pub record ControlComes {Cell : Type 0} (q : QueryFacts Cell) (job its : JobFacts) (p : Parts Cell) (i : ℕ) (c : Control) (m : MoversState) : Type 0 where
   pub not_yet : has_note p.notes.noted i ≡ false
-  pub within : IsWithin p.notes.shape c
+  pub within : IsWithin p.notes.layout.shape c
   pub room : 1 ≤ m.room
   pub counted : (noted : Bool)
       → ((l : Log) (k : ℕ) → IsMoversOf (outline_of q job) l m → IsNewControl (outline_of q job) l m c.time k
       → (noted ≡ is_noted (outline_of q job) l m.stage c.time) × (has l.settled (Settled m.stage c.time) ≡ false))
       → AreChanges (outline_of q job) p.number p.log (with_took p.log (Ctrl i p.number)) (control_taken_at c.stage c.time noted)
-  pub taken : (notes : Notes) → notes.shape ≡ p.notes.shape → notes.noted ≡ with_note p.notes.noted (record { index = i; control = c })
+  pub taken : (notes : Notes) → notes.layout ≡ p.notes.layout → notes.noted ≡ with_note p.notes.noted (record { index = i; control = c })
       → (new : MoversState) → new.stage ≡ m.stage → new.worker ≡ m.worker
       → ((l : Log) (k : ℕ) → IsMoversOf (outline_of q job) l m → IsNewControl (outline_of q job) l m c.time k → IsMoversOf (outline_of q job) (with_took l (Ctrl k m.worker)) new)
       → IsKept q job its (with_movers (with_notes p (with_took p.log (Ctrl i p.number)) notes) (with_took p.log (Ctrl i p.number)) c.stage new)
@@ -70,8 +71,8 @@ pub record PacketComes {Cell : Type 0} (q : QueryFacts Cell) (job its : JobFacts
 pub record GroupFits {Cell : Type 0} (job : JobFacts) (p : Parts Cell) (room_for_names room_for_changes : ℕ) (rows : Unwritten) (lists : ChangeLists)
     (j t : ℕ) (vs : List Value) (woke : List ℕ) : Type 0 where
   pub names : 1 ≤ room_for_names
-  pub changes : (onward : Loc) (listed : List Change)
-      → listed ≡ one_less (Host j) t ∷ (some_more onward t (length vs) ++ map (one_more (Host j)) woke) → length listed ≤ room_for_changes
+  pub changes : (onward : Loc) (number : ℕ) (listed : List Change)
+      → listed ≡ one_less (Host j) t ∷ (some_more onward t number ++ map (one_more (Host j)) woke) → length listed ≤ room_for_changes
   pub empty : lists.changes.items ≡ []
   pub list : length woke + 2 ≤ vec_capacity lists.changes
   pub router : j + 1 < job.shape.stages → (r : Routed) → r ≡ get_or p.routers (j + 1) r → length vs ≤ r.room
@@ -100,10 +101,10 @@ module _ {Cell : Type 0} {q : QueryFacts Cell} {job its : JobFacts} {p : Parts C
           within = may_note q job p.number p.log i c content fresh m at p.notes kept.parts.notes kept.legal;
           room = subst (λ (x : MoversState). 1 ≤ x.room) (sym found) (room.movers c.stage m inside);
           counted = control_changes q job p.number p.log i c content fresh m at;
-          taken = λ notes shape noted after stage worker held.
+          taken = λ notes layout noted after stage worker held.
               let owed : IsOwedTo (outline_of q job) p.number (Ctrl i p.number) = (controls_are_owed q job i p.number c content, refl) in
               let there = control_held q job p.number p.log i c content fresh m at after stage worker held in
-              kept_as kept (control_taken kept.sound kept.parts i c content.2 owed fresh notes (notes_are p.notes notes _ shape noted) after there);
+              kept_as kept (control_taken kept.sound kept.parts i c content.2 owed fresh notes (notes_are p.notes notes _ layout noted) after there);
         }
 
     pub packet_comes : {j b t : ℕ} {s : BinContent Cell} → IsPacketOf q job j b t s → AreOwedAndNew (outline_of q job) now.worker.number now.worker.log (Packet j b t ∷ [])
@@ -119,7 +120,7 @@ module _ {Cell : Type 0} {q : QueryFacts Cell} {job its : JobFacts} {p : Parts C
           state = subst (λ i. IsPacketOf q job i b t s) (sym at.0) packet;
           room = subst (λ (x : Hosted Cell). 1 ≤ x.room_for_bins) (sym found) (room.hosts j h inside).1;
           few = few_numbers q kept.hands_on.nothing job j b t s packet.1 h;
-          counted = λ ns denotes told. packet_changes q job kept.sound p.number p.log j h at b t s ns denotes kept.parts.legal owed fresh packet.1 told;
+          counted = λ ns denotes told. packet_changes q job kept.sound (nothing_opens q job kept.legal) p.number p.log j h at b t s ns denotes kept.parts.legal owed fresh packet.1 told;
           taken = λ after put takes.
               let there = packet_held q job p.number p.log j h at b t s after kept.parts.legal owed fresh put takes in
               kept_as kept ((steps kept.sound kept.parts).receive_packet j b t after owed fresh there);
@@ -134,7 +135,7 @@ module _ {Cell : Type 0} {q : QueryFacts Cell} {job its : JobFacts} {p : Parts C
         let enough = room.1.changes in
         record {
           names = room.1.names;
-          changes = λ onward listed e. let l = changes_length (Host j) onward t (length vs) woke in rw e (omega arith);
+          changes = λ onward number listed e. let l = changes_length (Host j) onward t number woke in rw e (omega arith);
           empty = room.1.empty;
           list = let capacity = room.1.list in omega arith;
           router = λ next r found.

@@ -4,14 +4,17 @@ ghost use Rattle.std.specs.Vec.{vec_capacity};
 ghost use Rattle.mp_names.specs.declared.locations.Loc.TheVariants.{Host as HostLoc};
 ghost use Rattle.mp_names.specs.declared.kinds.Kind.TheVariants.{Apply};
 ghost use Rattle.mp_names.specs.declared.names.Name.{Name};
+ghost use Rattle.mp_names.specs.Limits.{last_time};
 ghost use Rattle.mp_names.specs.Logs.{Log};
 ghost use Rattle.mp_model.specs.Facts.{JobFacts};
+ghost use Rattle.mp_model.specs.Tables.{table_of};
 ghost use Rattle.mp_rows_laws.specs.Changes.{one_less, one_more, some_more};
-ghost use Rattle.mp_outline.specs.JobOutline.{outline_of};
+ghost use Rattle.mp_outline.specs.JobOutline.{layout_of, outline_of};
 ghost use Rattle.mp_host_laws.specs.HostOf.{HostMatchesLogAndSeen, OwnersAreCurrent};
 ghost use Rattle.mp_host.specs.Ready.{IsReadyHere};
 ghost use Rattle.mp_worker_invariant.specs.Parts.{Parts as PartsFacts};
 ghost use Rattle.mp_worker_parts.specs.Applying.{IsApplying};
+ghost use Rattle.mp_worker_parts.specs.Onward.{GoOnward};
 ghost use Rattle.mp_worker_refinement.specs.State.{CanMake};
 ghost use Rattle.mp_worker_refinement.specs.Steps.{StepsAlone};
 ghost use Rattle.mp_worker_steps.specs.Applying.{HasRoomToApply, IsEnoughFor, SomeGroupIsReady};
@@ -26,7 +29,8 @@ use mp_names::{Loc, Name};
 use mp_rows::{Change, LogList};
 use mp_stamps::Seen;
 use mp_worker_parts::{
-    hold_records, hold_rows, location_after, make_room_onward, one_less, one_more, push_more,
+    count_onward, hold_records, hold_rows, location_after, make_room_onward, one_less, one_more,
+    push_more,
 };
 use std::alloc::{AllocError, Global};
 
@@ -36,7 +40,7 @@ impl<'a, Q: Query, J: Naming> Parts<'a, Q, J> {
     /// no group may be applied. `AllocError`: no memory, and nothing changes.
     pub fn apply(&mut self, stage: u32) -> Result<Option<Names>, AllocError>
         requires stage { stage < J.job.shape.stages }
-        ensures { let o = outline_of (Q.facts J.job.rules) J.job in
+        ensures { let o = outline_of (table_of Q.facts J.job) J.job in
             StepsAlone o (Apply stage) self.old.worker self.new.worker result }
     {
         let Some(most) = self.most_of_ready(stage) else {
@@ -49,11 +53,11 @@ impl<'a, Q: Query, J: Naming> Parts<'a, Q, J> {
     // No fewer than the outputs and the wakes of the group of a stage that may be applied, `None` exactly where there is none.
     fn most_of_ready(&self, stage: u32) -> Option<u64>
         requires stage { stage < J.job.shape.stages }
-        ensures none { let o = outline_of (Q.facts J.job.rules) J.job in
+        ensures none { let o = outline_of (table_of Q.facts J.job) J.job in
             IfNone result ((x : Name) → CanMake o (Apply stage) self.now.worker x → ⊥) }
         ensures ready { IfSome result (λ _. SomeGroupIsReady J.job stage self.now) }
         ensures enough { IfSome result (λ most. most + 2 < 2 ^ 64
-            → IsEnoughFor (Q.facts J.job.rules) J.job stage most self.now) }
+            → IsEnoughFor (table_of Q.facts J.job) J.job stage most self.now) }
     {
         let host = &self.hosts[stage as usize];
         host.most_if_ready(self.alloc, &self.seen, &self.owners)
@@ -82,11 +86,12 @@ impl<'a, Q: Query, J: Naming> Parts<'a, Q, J> {
         requires ready { SomeGroupIsReady J.job stage self.old }
         requires room { (most : ℕ)
             × HasRoomToApply (stage + 1) most self.old
-            × IsEnoughFor (Q.facts J.job.rules) J.job stage most self.old }
-        ensures { let o = outline_of (Q.facts J.job.rules) J.job in
+            × IsEnoughFor (table_of Q.facts J.job) J.job stage most self.old }
+        ensures { let o = outline_of (table_of Q.facts J.job) J.job in
             StepsAlone o (Apply stage) self.old.worker self.new.worker result }
     {
         let stages = self.job.shape().stages;
+        let query = self.job.query();
         let host = &mut self.hosts[stage as usize];
         let applied = apply_group(self.alloc, stage, host, &self.seen, &self.owners)?;
         let name = Name::Group {
@@ -95,12 +100,12 @@ impl<'a, Q: Query, J: Naming> Parts<'a, Q, J> {
             key: applied.key,
         };
         let onward = location_after(stage, stages);
+        let number = number_onward::<Q, J>(query, stage, stages, &applied);
         let changes = &mut self.lists.changes;
-        push_changes(changes, stage, onward, &applied)?;
+        push_changes(changes, stage, onward, number, &applied)?;
         self.log.push(LogList::Applied, name, changes.as_slice())?;
         if stage + 1 < stages {
             let router = &mut self.routers[stage as usize + 1];
-            let query = self.job.query();
             hold_records(
                 query,
                 stage + 1,
@@ -128,11 +133,11 @@ fn apply_group<'a, Q: Query, J: Naming>(
     owners: &Owners,
 ) -> Result<Applied, AllocError>
     requires stage { stage < J.job.shape.stages }
-    requires shape { owners.now.shape ≡ J.job.shape }
-    requires informed { let q = Q.facts J.job.rules in
+    requires shape { owners.now.layout ≡ layout_of J.job }
+    requires informed { let q = table_of Q.facts J.job in
         (log : Log) × HostMatchesLogAndSeen q J.job log seen.now host.old × OwnersAreCurrent q J.job owners.now seen.now host.old.stage }
     requires ready { ((t k : ℕ) → IsReadyHere J.job seen.now owners.now host.old t k → ⊥) → ⊥ }
-    ensures told { let q = Q.facts J.job.rules in IfOk result (λ a. (its : JobFacts) (p : PartsFacts Q.Cell)
+    ensures told { let q = table_of Q.facts J.job in IfOk result (λ a. (its : JobFacts) (p : PartsFacts Q.Cell)
         → IsKept q J.job its p → host.old ≡ get_or p.hosts stage host.old → seen.now ≡ p.seen → owners.now ≡ p.notes
         → IsApplying q J.job p stage a.time a.key a.outputs.items a.woke.items host.new) }
     ensures unchanged { OnErr result (host.new ≡ host.old) }
@@ -143,22 +148,46 @@ fn apply_group<'a, Q: Query, J: Naming>(
     Ok(applied)
 }
 
-// Lists the changes that a group brings to the counts: it waits no longer, what it gives is to be sent, and the groups that
-// it wakes wait. The list is empty and has room for them.
+// How many outputs of a group of a stage go on: those that make a record of the next stage, and after the last stage all.
+fn number_onward<Q: Query, J: Naming>(
+    query: &Q,
+    stage: u32,
+    stages: u32,
+    applied: &Applied,
+) -> usize
+    requires values { Q.values query.now ≡ J.job.values }
+    requires stages { stages ≡ J.job.shape.stages }
+    requires stage { stage < stages }
+    requires time { applied.now.time ≤ last_time }
+    ensures onward { let q = table_of Q.facts J.job in let a = applied.now in
+        GoOnward q J.job stage a.time a.key a.outputs.items result }
+    ensures few { result < 2 ^ 63 }
+{
+    let outputs = applied.outputs.as_slice();
+    if stage + 1 == stages {
+        return outputs.len();
+    }
+    count_onward::<Q, J>(query, stage + 1, applied.time, applied.key, outputs)
+}
+
+// Lists the changes that a group brings to the counts: it waits no longer, so many of its outputs are to be sent, and the
+// groups that it wakes wait. The list is empty and has room for them.
 fn push_changes(
     changes: &mut Vec<Change>,
     stage: u32,
     onward: Loc,
+    number: usize,
     applied: &Applied,
 ) -> Result<(), AllocError>
     requires empty { changes.old.items ≡ [] }
     requires room { length applied.now.woke.items + 2 ≤ vec_capacity changes.old }
+    requires few { number < 2 ^ 63 }
     ensures done { IsOk result }
     ensures changes { changes.new.items
-        ≡ one_less (HostLoc stage) applied.now.time ∷ (some_more onward applied.now.time (length applied.now.outputs.items) ++ map (one_more (HostLoc stage)) applied.now.woke.items) }
+        ≡ one_less (HostLoc stage) applied.now.time ∷ (some_more onward applied.now.time number ++ map (one_more (HostLoc stage)) applied.now.woke.items) }
 {
     changes.push(one_less(Loc::Host(stage), applied.time))?;
-    push_more(changes, onward, applied.time, applied.outputs.len())?;
+    push_more(changes, onward, applied.time, number)?;
     for time in applied.woke.as_slice() {
         changes.push(one_more(Loc::Host(stage), *time))?;
     }

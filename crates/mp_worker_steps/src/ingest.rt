@@ -7,6 +7,7 @@ ghost use Rattle.mp_worker_parts.specs.Ingesting.{IsNextRecord};
 ghost use Rattle.mp_worker_refinement.specs.State.{CanMake};
 ghost use Rattle.mp_worker_refinement.specs.Steps.{MakesAlone, StepsAlone};
 ghost use Rattle.mp_worker_steps.specs.Rooms.{HasRoomToIngest};
+ghost use Rattle.mp_model.specs.Tables.{table_of};
 
 use crate::parts::Parts;
 use mp_model::{Naming, Query, Rec};
@@ -20,7 +21,7 @@ impl<'a, Q: Query, J: Naming> Parts<'a, Q, J> {
     /// The next record of the worker's share goes to the router of stage 0: its name, or `None` exactly where all of the
     /// share is ingested. `AllocError`: no memory, and nothing changes.
     pub fn ingest(&mut self) -> Result<Option<Names>, AllocError>
-        ensures { let o = outline_of (Q.facts J.job.rules) J.job in
+        ensures { let o = outline_of (table_of Q.facts J.job) J.job in
             StepsAlone o Ingest self.old.worker self.new.worker result }
     {
         let Some(rec) = self.next_record()? else {
@@ -32,9 +33,9 @@ impl<'a, Q: Query, J: Naming> Parts<'a, Q, J> {
 
     // The next record of the worker's share, `None` exactly where all of it is ingested. `AllocError`: no memory.
     fn next_record(&self) -> Result<Option<Rec>, AllocError>
-        ensures none { let o = outline_of (Q.facts J.job.rules) J.job in
+        ensures none { let o = outline_of (table_of Q.facts J.job) J.job in
             IfOk result (λ next. IfNone next ((x : Name) → CanMake o Ingest self.now.worker x → ⊥)) }
-        ensures next { let q = Q.facts J.job.rules in let s = self.now.worker in
+        ensures next { let q = table_of Q.facts J.job in let s = self.now.worker in
             IfOk result (λ next. IfSome next (IsNextRecord q J.job s.number s.log)) }
     {
         let next = self.log.ingested() as usize;
@@ -55,9 +56,9 @@ impl<'a, Q: Query, J: Naming> Parts<'a, Q, J> {
 
     // Ingests the record that is next. There is room for it.
     fn ingest_record(&mut self, rec: Rec) -> Names
-        requires next { let q = Q.facts J.job.rules in let s = self.old.worker in IsNextRecord q J.job s.number s.log rec }
+        requires next { let q = table_of Q.facts J.job in let s = self.old.worker in IsNextRecord q J.job s.number s.log rec }
         requires room { HasRoomToIngest self.old }
-        ensures { MakesAlone (outline_of (Q.facts J.job.rules) J.job) Ingest self.old.worker self.new.worker result }
+        ensures { MakesAlone (outline_of (table_of Q.facts J.job) J.job) Ingest self.old.worker self.new.worker result }
     {
         let time = rec.time;
         let name = Name::Rec {

@@ -1,8 +1,9 @@
 //! What the parts tell of their worker.
-ghost use Rattle.std.specs.Prelude.{◌≡◌, ◌<◌, ◌↔◌, All, IfOk, IsTrue, length, map};
+ghost use Rattle.std.specs.Prelude.{◌≡◌, ◌<◌, ◌↔◌, All, IfOk, IsTrue, None, length, map};
 ghost use Rattle.mp_names.specs.Logs.{LogIsLegal};
 ghost use Rattle.mp_names.specs.Outlines.{OutlineIsSound};
 ghost use Rattle.mp_stamps.specs.Seen.{SeenIsDone};
+ghost use Rattle.mp_model.specs.Tables.{table_of};
 ghost use Rattle.mp_outline.specs.JobOutline.{outline_of};
 ghost use Rattle.mp_output.specs.Holding.{AllAreWritten};
 ghost use Rattle.mp_tally.specs.Tallies.{MovedHasKeys, name_of_moved, sent_packets};
@@ -48,7 +49,7 @@ impl<'a, Q: Query, J: Naming> Parts<'a, Q, J> {
     pub fn tally(&self, alloc: Global) -> Result<Tally, AllocError>
         ensures groups { IfOk result (λ t. t.groups ≡ length self.now.worker.log.applied) }
         ensures moved { IfOk result (λ t. map name_of_moved t.moved.items ≡ sent_packets J.job.shape.stages self.now.worker.log) }
-        ensures keys { IfOk result (λ t. All (MovedHasKeys (Q.facts J.job.rules) J.job) t.moved.items) }
+        ensures keys { IfOk result (λ t. All (MovedHasKeys (table_of Q.facts J.job) J.job) t.moved.items) }
     {
         let groups = self.log.applied();
         let moved = moved_so_far(alloc, self.movers.as_slice())?;
@@ -56,13 +57,14 @@ impl<'a, Q: Query, J: Naming> Parts<'a, Q, J> {
     }
 
     /// Does nothing. What is known of the worker, whatever others have done: its log is legal, and all that the frontiers
-    /// that it saw have passed is done in it.
+    /// that it saw have passed is done in it. For the time being no job has a stop time.
     pub fn log_is_known(&self)
         ensures inside { self.now.worker.number < J.job.shape.workers }
-        ensures sound { OutlineIsSound (outline_of (Q.facts J.job.rules) J.job) }
-        ensures legal { let o = outline_of (Q.facts J.job.rules) J.job in
+        ensures until { J.job.until ≡ None }
+        ensures sound { OutlineIsSound (outline_of (table_of Q.facts J.job) J.job) }
+        ensures legal { let o = outline_of (table_of Q.facts J.job) J.job in
             LogIsLegal o self.now.worker.number self.now.worker.log }
-        ensures done { let o = outline_of (Q.facts J.job.rules) J.job in
+        ensures done { let o = outline_of (table_of Q.facts J.job) J.job in
             SeenIsDone o self.now.worker.number self.now.worker.log self.now.worker.seen }
     {
         let _ = &self.log;

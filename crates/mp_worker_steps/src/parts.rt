@@ -1,5 +1,6 @@
 //! The parts of a worker.
 ghost use Rattle.std.specs.Prelude.{◌≡◌, ◌<◌};
+ghost use Rattle.mp_model.specs.Tables.{table_of};
 
 use mp_bins::Owners;
 use mp_handoff::Movers;
@@ -54,6 +55,7 @@ pub struct Parts<'a, Q: Query, J: Naming> {
 impl<'a, Q: Query, J: Naming> Model for Parts<'a, Q, J> {
     ghost use Rattle.mp_worker_steps.specs.Contents.{Contents};
     ghost use Rattle.mp_worker_steps.specs.Kept.{IsKept, parts_with};
+    ghost use Rattle.mp_model.specs.Tables.{table_of};
 
     ghost Value = { Contents Q.Cell };
 
@@ -71,6 +73,6 @@ impl<'a, Q: Query, J: Naming> Model for Parts<'a, Q, J> {
     } };
 
     ghost invariant = { λ p.
-        IsKept (Q.facts J.job.rules) J.job p.job.now
+        IsKept (table_of Q.facts J.job) J.job p.job.now
         (parts_with p.log p.posted.value.log p.seen p.owners p.next p.routers.items p.hosts.items p.movers.items p.unsent p.rows) };
 }

@@ -4,6 +4,7 @@ ghost use Rattle.mp_names.specs.declared.kinds.Kind.TheVariants.{Receive};
 ghost use Rattle.mp_outline.specs.JobOutline.{outline_of};
 ghost use Rattle.mp_worker_refinement.specs.Served.{IsAtPost, PostFollows};
 ghost use Rattle.mp_worker_refinement.specs.Steps.{StepsByMail};
+ghost use Rattle.mp_model.specs.Tables.{table_of};
 
 use crate::parts::Parts;
 use mp_mailbox::Post;
@@ -21,11 +22,11 @@ impl<'a, Q: Query, J: Naming> Parts<'a, Q, J> {
         post: &mut P,
     ) -> Result<Option<Names>, AllocError>
         requires from { from < J.job.shape.workers }
-        requires at_post { let o = outline_of (Q.facts J.job.rules) J.job in
+        requires at_post { let o = outline_of (table_of Q.facts J.job) J.job in
             IsAtPost P.workers P.depth P.serves P.denotes o self.old.worker.number self.old.worker.log post.old }
-        ensures steps { let o = outline_of (Q.facts J.job.rules) J.job in
+        ensures steps { let o = outline_of (table_of Q.facts J.job) J.job in
             StepsByMail (P.had_room post.old) (P.was_full post.old) (P.was_empty post.old) o (Receive from) self.old.worker self.new.worker result }
-        ensures mail { let o = outline_of (Q.facts J.job.rules) J.job in
+        ensures mail { let o = outline_of (table_of Q.facts J.job) J.job in
             PostFollows P.workers P.depth P.serves P.denotes P.waits o self.old.worker.number self.old.worker.log self.new.worker.log post.old post.new }
     {
         let number = self.number();

@@ -2,6 +2,7 @@
 ghost use Rattle.std.specs.Prelude.{◌≡◌, ◌≤◌, ◌<◌, ◌+◌, ◌^◌, All, OnOk};
 ghost use Rattle.mp_names.specs.Limits.{most_in_bundle};
 ghost use Rattle.mp_worker_steps.specs.Rooms.{HasRoomToTake, SameHosts, SameMovers};
+ghost use Rattle.mp_model.specs.Tables.{table_of};
 
 use crate::parts::Parts;
 use mp_bins::Owners;
@@ -17,7 +18,7 @@ impl<'a, Q: Query, J: Naming> Parts<'a, Q, J> {
     /// Makes room for one message, whatever it holds. `AllocError`: no memory, and nothing but rooms changes.
     pub(crate) fn make_room_to_take(&mut self) -> Result<(), AllocError>
         ensures same { self.new.worker ≡ self.old.worker }
-        ensures room { OnOk result (HasRoomToTake (Q.facts J.job.rules) J.job self.new) }
+        ensures room { OnOk result (HasRoomToTake (table_of Q.facts J.job) J.job self.new) }
     {
         let times = self.job.times().len();
         self.lists.make_room(times)?;
@@ -39,7 +40,7 @@ fn make_room_to_take<Q: Query, J: Naming>(
     ensures same_log { (log.new.worker ≡ log.old.worker) × (log.new.log ≡ log.old.log) }
     ensures posted { log.new.posted ≡ log.old.posted }
     ensures same_rows { rows.new.rows ≡ rows.old.rows }
-    ensures same_owners { (owners.new.shape ≡ owners.old.shape) × (owners.new.noted ≡ owners.old.noted) }
+    ensures same_owners { (owners.new.layout ≡ owners.old.layout) × (owners.new.noted ≡ owners.old.noted) }
     ensures log { OnOk result ((most_in_bundle ≤ log.new.room_for_names) × (times + 2 ≤ log.new.room_for_changes)) }
     ensures rows { OnOk result (1 ≤ rows.new.room) }
     ensures owners { OnOk result (1 ≤ owners.new.room) }

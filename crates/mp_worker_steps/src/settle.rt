@@ -3,6 +3,7 @@ ghost use Rattle.std.specs.Prelude.{◌<◌};
 ghost use Rattle.mp_names.specs.declared.kinds.Kind.TheVariants.{Settle};
 ghost use Rattle.mp_outline.specs.JobOutline.{outline_of};
 ghost use Rattle.mp_worker_refinement.specs.Steps.{StepsAlone};
+ghost use Rattle.mp_model.specs.Tables.{table_of};
 
 use crate::parts::Parts;
 use mp_model::{Naming, Query};
@@ -18,7 +19,7 @@ impl<'a, Q: Query, J: Naming> Parts<'a, Q, J> {
     /// nothing changes.
     pub fn settle(&mut self, stage: u32) -> Result<Option<Names>, AllocError>
         requires stage { stage < J.job.shape.stages }
-        ensures { let o = outline_of (Q.facts J.job.rules) J.job in
+        ensures { let o = outline_of (table_of Q.facts J.job) J.job in
             StepsAlone o (Settle stage) self.old.worker self.new.worker result }
     {
         self.log.make_room(1)?;

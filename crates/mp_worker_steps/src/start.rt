@@ -6,6 +6,7 @@ ghost use Rattle.mp_outline.specs.JobOutline.{outline_of};
 ghost use Rattle.mp_output.specs.Rows.{GivesRows};
 ghost use Rattle.mp_worker_invariant.specs.Parts.{AreMoversAt, AtEach, IsHostAt, IsRouterAt};
 ghost use Rattle.mp_worker_steps.specs.Contents.{new_worker};
+ghost use Rattle.mp_model.specs.Tables.{table_of};
 
 use crate::Parts;
 use mp_bins::Owners;
@@ -33,14 +34,14 @@ impl<'a, Q: Query, J: Naming> Parts<'a, Q, J> {
     ) -> Result<Parts<'a, Q, J>, AllocError>
         requires job { job.now ≡ J.job }
         requires number { number < J.job.shape.workers }
-        requires rows { GivesRows (Q.facts J.job.rules) }
-        requires opening { ShowsFrontiers (outline_of (Q.facts J.job.rules) J.job) (replicate J.job.shape.workers empty_log) seen }
+        requires rows { GivesRows (table_of Q.facts J.job) }
+        requires opening { ShowsFrontiers (outline_of (table_of Q.facts J.job) J.job) (replicate J.job.shape.workers empty_log) seen }
         ensures { IfOk result (λ parts. parts.worker ≡ new_worker number seen) }
     {
         let shape = job.shape();
         let log = Log::open(alloc, number);
         let posted = Snapshot::of(&log);
-        let owners = Owners::new(alloc, shape)?;
+        let owners = Owners::with_firsts(alloc, shape, job.firsts())?;
         let routers = new_routers(alloc, shape.stages)?;
         let hosts = new_hosts(alloc, job, number)?;
         let movers = new_movers(alloc, shape.stages, number)?;
@@ -73,7 +74,7 @@ fn new_routers<Q: Query, J: Naming>(
 ) -> Result<Vec<Router<Q, J>>, AllocError>
     requires { stages ≡ J.job.shape.stages }
     ensures all { IfOk result (λ v. length v.items ≡ stages) }
-    ensures each { IfOk result (λ v. (w : ℕ) → AtEach v.items (IsRouterAt (Q.facts J.job.rules) J.job w empty_log)) }
+    ensures each { IfOk result (λ v. (w : ℕ) → AtEach v.items (IsRouterAt (table_of Q.facts J.job) J.job w empty_log)) }
 {
     let mut routers = Vec::new(alloc);
     for stage in 0..stages {
@@ -91,7 +92,7 @@ fn new_hosts<'a, Q: Query, J: Naming>(
     requires job { job.now ≡ J.job }
     requires worker { worker < J.job.shape.workers }
     ensures all { IfOk result (λ v. length v.items ≡ J.job.shape.stages) }
-    ensures each { IfOk result (λ v. AtEach v.items (IsHostAt (Q.facts J.job.rules) J.job worker empty_log)) }
+    ensures each { IfOk result (λ v. AtEach v.items (IsHostAt (table_of Q.facts J.job) J.job worker empty_log)) }
 {
     let mut hosts = Vec::new(alloc);
     for stage in 0..job.shape().stages {
@@ -109,7 +110,7 @@ fn new_movers<Q: Query, J: Naming>(
     requires stages { stages ≡ J.job.shape.stages }
     requires worker { worker < J.job.shape.workers }
     ensures all { IfOk result (λ v. length v.items ≡ J.job.shape.stages) }
-    ensures each { IfOk result (λ v. AtEach v.items (AreMoversAt (Q.facts J.job.rules) J.job worker empty_log)) }
+    ensures each { IfOk result (λ v. AtEach v.items (AreMoversAt (table_of Q.facts J.job) J.job worker empty_log)) }
 {
     let mut movers = Vec::new(alloc);
     for stage in 0..stages {

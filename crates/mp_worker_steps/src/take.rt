@@ -10,6 +10,7 @@ ghost use Rattle.mp_msg.specs.Contents.{IsControlOf, IsPacketOf, IsRowOf};
 ghost use Rattle.mp_worker_invariant.specs.Kept.{AreOwedAndNew};
 ghost use Rattle.mp_worker_steps.specs.Contents.{with_taken};
 ghost use Rattle.mp_worker_steps.specs.Rooms.{HasRoomToTake};
+ghost use Rattle.mp_model.specs.Tables.{table_of};
 
 use crate::parts::Parts;
 use mp_handoff::ControlChanges;
@@ -23,8 +24,8 @@ use std::alloc::AllocError;
 impl<'a, Q: Query, J: Naming> Parts<'a, Q, J> {
     /// Takes a message that came to this worker to the part that it is for. There is room for it.
     pub(crate) fn take(&mut self, message: Msg<Q, J>)
-        requires new { AreOwedAndNew (outline_of (Q.facts J.job.rules) J.job) self.old.worker.number self.old.worker.log message }
-        requires room { HasRoomToTake (Q.facts J.job.rules) J.job self.old }
+        requires new { AreOwedAndNew (outline_of (table_of Q.facts J.job) J.job) self.old.worker.number self.old.worker.log message }
+        requires room { HasRoomToTake (table_of Q.facts J.job) J.job self.old }
         ensures { self.new.worker ≡ with_taken message self.old.worker }
     {
         match message.into_body() {
@@ -44,7 +45,7 @@ impl<'a, Q: Query, J: Naming> Parts<'a, Q, J> {
     fn take_control(&mut self, index: u32, control: Control)
         requires content { IsControlOf J.job index self.old.worker.number control }
         requires fresh { has self.old.worker.log.took (Ctrl index self.old.worker.number) ≡ false }
-        requires room { HasRoomToTake (Q.facts J.job.rules) J.job self.old }
+        requires room { HasRoomToTake (table_of Q.facts J.job) J.job self.old }
         ensures { self.new.worker ≡ with_taken (Ctrl index self.old.worker.number ∷ []) self.old.worker }
     {
         let time = control.time;
@@ -67,9 +68,9 @@ impl<'a, Q: Query, J: Naming> Parts<'a, Q, J> {
 
     // Records go to the host of their stage.
     fn take_records(&mut self, bundle: Bundle)
-        requires bundle { IsBundle (Q.facts J.job.rules) J.job bundle }
-        requires new { AreOwedAndNew (outline_of (Q.facts J.job.rules) J.job) self.old.worker.number self.old.worker.log (names_in bundle) }
-        requires room { HasRoomToTake (Q.facts J.job.rules) J.job self.old }
+        requires bundle { IsBundle (table_of Q.facts J.job) J.job bundle }
+        requires new { AreOwedAndNew (outline_of (table_of Q.facts J.job) J.job) self.old.worker.number self.old.worker.log (names_in bundle) }
+        requires room { HasRoomToTake (table_of Q.facts J.job) J.job self.old }
         ensures { self.new.worker ≡ with_taken (names_in bundle) self.old.worker }
     {
         let stage = bundle.stage();
@@ -96,9 +97,9 @@ impl<'a, Q: Query, J: Naming> Parts<'a, Q, J> {
 
     // The state of a bin is in hand from now on.
     fn take_packet(&mut self, stage: u32, bin: u32, time: Time, state: BinState<Q::Cell>)
-        requires state { IsPacketOf (Q.facts J.job.rules) J.job stage bin time state }
-        requires new { AreOwedAndNew (outline_of (Q.facts J.job.rules) J.job) self.old.worker.number self.old.worker.log (Packet stage bin time ∷ []) }
-        requires room { HasRoomToTake (Q.facts J.job.rules) J.job self.old }
+        requires state { IsPacketOf (table_of Q.facts J.job) J.job stage bin time state }
+        requires new { AreOwedAndNew (outline_of (table_of Q.facts J.job) J.job) self.old.worker.number self.old.worker.log (Packet stage bin time ∷ []) }
+        requires room { HasRoomToTake (table_of Q.facts J.job) J.job self.old }
         ensures { self.new.worker ≡ with_taken (Packet stage bin time ∷ []) self.old.worker }
     {
         let host = &mut self.hosts[stage as usize];
@@ -116,9 +117,9 @@ impl<'a, Q: Query, J: Naming> Parts<'a, Q, J> {
 
     // An answer row goes to those that are to be written.
     fn take_row(&mut self, time: Time, tag: Tag, fields: Fields)
-        requires row { IsRowOf (Q.facts J.job.rules) J.job time tag fields }
-        requires new { AreOwedAndNew (outline_of (Q.facts J.job.rules) J.job) self.old.worker.number self.old.worker.log (Row time tag ∷ []) }
-        requires room { HasRoomToTake (Q.facts J.job.rules) J.job self.old }
+        requires row { IsRowOf (table_of Q.facts J.job) J.job time tag fields }
+        requires new { AreOwedAndNew (outline_of (table_of Q.facts J.job) J.job) self.old.worker.number self.old.worker.log (Row time tag ∷ []) }
+        requires room { HasRoomToTake (table_of Q.facts J.job) J.job self.old }
         ensures { self.new.worker ≡ with_taken (Row time tag ∷ []) self.old.worker }
     {
         let name = Name::Row { time, tag };

@@ -4,6 +4,7 @@ ghost use Rattle.mp_outside.specs.Sink.{OnlyAppends};
 ghost use Rattle.mp_outline.specs.JobOutline.{outline_of};
 ghost use Rattle.mp_worker_refinement.specs.Steps.{StepsAlone};
 ghost use Rattle.mp_worker_steps.specs.Writing.{Writes};
+ghost use Rattle.mp_model.specs.Tables.{table_of};
 
 use crate::parts::Parts;
 use mp_model::{Naming, Query};
@@ -19,9 +20,9 @@ impl<'a, Q: Query, J: Naming> Parts<'a, Q, J> {
     /// the sink's count of faults rose in this call or stands at its last value, 2^64 - 1. `NoMemory`: an allocation failed.
     /// With either the worker is as it was, and a part of the lines from their front may be written.
     pub fn write<S: Sink>(&mut self, sink: &mut S) -> Result<Option<Names>, OutRefused>
-        ensures steps { let o = outline_of (Q.facts J.job.rules) J.job in
+        ensures steps { let o = outline_of (table_of Q.facts J.job) J.job in
             StepsAlone o Write self.old.worker self.new.worker result }
-        ensures writes { Writes (Q.facts J.job.rules) J.job S.written S.faults self.old.worker sink.old sink.new result }
+        ensures writes { Writes (table_of Q.facts J.job) J.job S.written S.faults self.old.worker sink.old sink.new result }
         ensures appends_only { OnlyAppends S.frame S.faults sink.old sink.new }
     {
         if self.log.worker() != 0 {

@@ -1,29 +1,30 @@
--- The prices of sales are within their limit, and there are few of them.
-use Rattle.std.specs.Prelude.{ℕ, ◌*◌, ◌≤◌, ◌==◌, ◌&&◌, Option, Some, None, List, [], ◌∷◌, All, IfSome, length, max, nat_le}
-use Rattle.std.specs.List.{enumerate_from}
+-- The prices of sales are within their limit.
+use Rattle.std.specs.Prelude.{ℕ, ◌≡◌, ◌≤◌, ◌==◌, ◌&&◌, true, Option, Some, None, List, [], ◌∷◌, All, IfSome, max, nat_le}
 use Rattle.std.specs.Option.{option_map, option_to_list, unwrap_or}
 use Rattle.std.proofs.Common.{arith}
-use Rattle.std.proofs.lemmas.Bool.{cond_both}
+use Rattle.std.proofs.lemmas.Bool.{cond_both, false≢true}
 use Rattle.std.proofs.lemmas.List.Elements.{All-nil, All-cons, All-head, All-tail, All-weaker}
-use Rattle.std.proofs.lemmas.List.FromFn.{length-enumerate_from}
 use Rattle.mp_names.specs.Limits.{greatest_price}
-use Rattle.mp_model.specs.declared.record.Event.{Event}
+use Rattle.mp_names.specs.Outlines.{is_before_stop}
 use Rattle.mp_model.specs.declared.record.Output.{Output}
 use Rattle.mp_model.specs.declared.record.Rec.{Rec}
 use Rattle.mp_model.specs.declared.value.Value.{Value}
-use Rattle.mp_model.specs.declared.value.Value.TheVariants.{Auction, Bid, Sale}
+use Rattle.mp_model.specs.declared.value.Value.TheVariants.{Bid, Sale}
+use Rattle.mp_model.specs.Entry.{Entry}
+use Rattle.mp_model.specs.Facts.{JobFacts, QueryFacts}
 use Rattle.mp_model.specs.Folds.{stage_outputs}
 use Rattle.mp_model.specs.Legal.{EventsAreLegal, IsLegalAt}
-use Rattle.mp_model.specs.QueryLaws.{RecordIsLegal}
-use Rattle.mp_model.specs.Stages.{record_of, record_of_output, stage_records}
+use Rattle.mp_model.specs.QueryLaws.{RecordIsLegal, SavedFits}
+use Rattle.mp_model.specs.Stages.{record_of_output, stage_records}
 use Rattle.mp_model.proofs.LegalRecords.{input_records_legal}
 use Rattle.mp_model.proofs.Lists.{All-filter_map}
-use Rattle.mp_model.proofs.Tables.{length-filter_map, length_option}
 use Rattle.mp_q_auction.specs.declared.bidding.Bidding.{Bidding}
 use Rattle.mp_q_auction.specs.declared.bidding.Lot.{Lot}
-use Rattle.mp_q_auction.specs.Laws.Along.{few_outputs, outputs_keep}
+use Rattle.mp_q_auction.specs.declared.closed.AuctionCell.{AuctionCell}
+use Rattle.mp_q_auction.specs.Laws.Along.{opening_keeps, outputs_keep}
 use Rattle.mp_q_auction.specs.Bidding.{after_records, after_value, is_closed, sold_at, sold_in}
-use Rattle.mp_q_auction.specs.Closed.{closed_by, closing_of, output_of}
+use Rattle.mp_q_auction.specs.Closed.{closed_by, sale_by}
+use Rattle.mp_q_auction.specs.SaleLaws.{closed_in}
 use Rattle.mp_q_auction.specs.Sales.{SalesFacts, price_of}
 
 -- a price is within its limit, if it is there
@@ -67,27 +68,27 @@ record_is_fair : (key : Option ℕ) (o : Output) → IsFair (price_of o.value)
 record_is_fair None o h = tt
 record_is_fair (Some k) o h = h
 
--- an auction closes once
-closes_once : (v : Value) → length (closing_of v) ≤ 1
-closes_once (Auction id seller category reserve expires) = omega arith
-closes_once _ = omega arith
+module _ {Kept : Type 0} (of : Lot → ℕ) (sales : List ℕ → SalesFacts Kept) where
+  -- the best price of a cell that may be saved is within the limit
+  allowed_is_fair : (vs : List ℕ) (k t : ℕ) (cell : AuctionCell Kept) → (closed_by of (sales vs)).allows 0 k t cell ≡ true → IsFair cell.bidding.best
+  allowed_is_fair vs k t cell allowed = absurd (false≢true allowed)
 
-module _ {Sales : Type 0} (of : Lot → ℕ) (sales : SalesFacts Sales) (events : List Event) where
-  -- there are no more sales than twice the events
-  pub few_sales : length (stage_records (closed_by of sales) events 1) ≤ 2 * length events
-  few_sales =
-      let q = closed_by of sales in
-      let rs = stage_records q events 0 in
-      omega (arith, length-filter_map (record_of_output q 1) (stage_outputs q 0 rs), few_outputs q 0 (λ r. closes_once r.value) (λ cell e. length_option (output_of of sales 0 cell e)) rs, length-filter_map (λ (p : ℕ × Event). record_of q p.0 p.1) (enumerate_from 0 events), length-enumerate_from 0 events)
+  module _ (job : JobFacts) where
+    abbrev table : QueryFacts (AuctionCell Kept)
+    table = closed_in of sales job
 
-  -- and their prices are within the limit of those of bids
-  pub sales_are_fair : EventsAreLegal events → All (λ r. IsFair (price_of r.value)) (stage_records (closed_by of sales) events 1)
-  sales_are_fair legal =
-      let q = closed_by of sales in
-      let rs = stage_records q events 0 in
-      let given = outputs_keep q 0 (λ cell. IsFair cell.bidding.best) RecordIsLegal (λ v. IsFair (price_of v)) tt
-      (λ cell e h all. records_keep e.time cell.bidding e.recs all h)
-      (λ cell e h. sale_is_fair of (sold_in cell.bidding e) (cond_both e.woken (sold_at e.time cell.bidding.lot cell.bidding.best) None (λ (o : Option (Lot × ℕ)). IfSome o (λ s. s.1 ≤ greatest_price)) (λ _. sold_is_fair e.time cell.bidding.lot cell.bidding.best h) (λ _. tt)))
-      rs (input_records_legal q events legal) in
-      All-filter_map (λ (r : Rec). IsFair (price_of r.value)) (record_of_output q 1) (stage_outputs q 0 rs)
-      (All-weaker (λ (o : Output). IsFair (price_of o.value)) (λ (o : Output). IfSome (record_of_output q 1 o) (λ (r : Rec). IsFair (price_of r.value))) (λ o h. record_is_fair (q.key 1 o.time o.value) o h) (stage_outputs q 0 rs) given)
+    given_is_fair : (cell : AuctionCell Kept) (e : Entry) → IsFair cell.bidding.best → All (λ v. IsFair (price_of v)) (table.gives 0 cell e)
+    given_is_fair cell e h =
+        cond_both (is_before_stop job.until e.time) (option_to_list (sale_by of cell.bidding e)) [] (λ (vs : List Value). All (λ v. IsFair (price_of v)) vs)
+        (λ _. sale_is_fair of (sold_in cell.bidding e) (cond_both e.woken (sold_at e.time cell.bidding.lot cell.bidding.best) None (λ (o : Option (Lot × ℕ)). IfSome o (λ s. s.1 ≤ greatest_price)) (λ _. sold_is_fair e.time cell.bidding.lot cell.bidding.best h) (λ _. tt)))
+        (λ _. All-nil (λ (v : Value). IsFair (price_of v)))
+
+    -- the prices of sales are within the limit of those of bids
+    pub sales_are_fair : EventsAreLegal job.events → SavedFits (closed_by of (sales job.values)) job.from → All (λ r. IsFair (price_of r.value)) (stage_records table job.events 1)
+    sales_are_fair legal saved =
+        let rs = stage_records table job.events 0 in
+        let begins = opening_keeps (closed_by of (sales job.values)) 0 (λ cell. IsFair cell.bidding.best) tt (allowed_is_fair job.values) job.from saved in
+        let given = outputs_keep table 0 (λ cell. IsFair cell.bidding.best) RecordIsLegal (λ v. IsFair (price_of v)) begins
+        (λ cell e h all. records_keep e.time cell.bidding e.recs all h) given_is_fair rs (input_records_legal table job.events legal) in
+        All-filter_map (λ (r : Rec). IsFair (price_of r.value)) (record_of_output table 1) (stage_outputs table 0 rs)
+        (All-weaker (λ (o : Output). IsFair (price_of o.value)) (λ (o : Output). IfSome (record_of_output table 1 o) (λ (r : Rec). IsFair (price_of r.value))) (λ o h. record_is_fair (table.key 1 o.time o.value) o h) (stage_outputs table 0 rs) given)

@@ -1,23 +1,41 @@
--- The table of q5 keeps the laws of a query.
-use Rattle.std.specs.Prelude.{ℕ, zero, suc, ◌≡◌, ◌++◌, ◌≤◌, Bool, true, false, Option, Some, None, List, [], ◌∷◌, All, IsSome, if◌then◌else◌, refl}
+-- The table of q5 keeps the laws of a query, whatever the values of its rules.
+use Rattle.std.specs.Prelude.{ℕ, zero, suc, ◌≡◌, ◌+◌, ◌-◌, ◌*◌, ◌/◌, ◌++◌, ◌<◌, ◌≤◌, Bool, true, false, Option, Some, None, List, [], ◌∷◌, All, IsSome, if◌then◌else◌, map, refl}
+use Rattle.std.specs.List.{range_with_len}
 use Rattle.std.specs.Option.{option_to_list}
 use Rattle.std.proofs.Common.{◌∙◌, ap, arith}
+use Rattle.std.proofs.lemmas.Bool.{false≢true}
 use Rattle.std.proofs.lemmas.List.Elements.{All-nil, All-cons}
+use Rattle.std.proofs.lemmas.Nat.{mul-le}
 use Rattle.mp_names.specs.Limits.{greatest_time, last_time}
 use Rattle.mp_model.specs.declared.value.Value.{Value}
 use Rattle.mp_model.specs.declared.value.Value.TheVariants.{Bid, Count}
 use Rattle.mp_model.specs.Always.{always_fits}
+use Rattle.mp_model.specs.Rules.{settled}
 use Rattle.mp_model.proofs.Tables.{length-filter_map, length_option, not_zero}
-use Rattle.mp_model.specs.QueryLaws.{HasStages, PostsAreLater, LaterStagesPostNothing, OutputsHaveKeys, MostIsEnough, FreshStaysFresh, RisesWithin, SumsFit}
+use Rattle.mp_model.specs.QueryLaws.{BeginsFresh, HasStages, PostsAreLater, LaterStagesPostNothing, OutputsHaveKeys, MostIsEnough, FreshStaysFresh, RisesWithin, SumsFit, TextsTellCells}
 use Rattle.mp_q_window.specs.Counts.{rows_of}
-use Rattle.mp_q_window.specs.Q5.{bid_ends, count_time, q5_facts}
-use Rattle.mp_q_window.specs.Recent.{after_group, count_in}
+use Rattle.mp_q_window.specs.Laws.Settled.{first_within, second_within, settled_within}
+use Rattle.mp_q_window.specs.Q5.{bid_ends, count_time, q5_facts, q5_rules, q5_with, slide_in, slide_rule, slides_in, slides_rule}
+use Rattle.mp_q_window.specs.Recent.{after_group, count_in, text_of}
+
+-- the slide and the number of slides are allowed
+slide_is : (vs : List ℕ) → (1 ≤ slide_in vs) × (slide_in vs ≤ 7200)
+slide_is vs = first_within slide_rule (slides_rule ∷ []) (settled q5_rules vs) 600 (settled_within q5_rules vs refl)
+
+slides_is : (vs : List ℕ) → (1 ≤ slides_in vs) × (slides_in vs ≤ 6)
+slides_is vs = second_within slide_rule slides_rule (settled q5_rules vs) 6 (settled_within q5_rules vs refl)
+
+-- multiples rise, from one that is above a time on
+multiples_rise : (slide q high low a n : ℕ) → 1 ≤ slide → low < (q + a) * slide → (q + a + n) * slide ≤ high + slide
+    → RisesWithin low high (map (λ i. (q + i) * slide) (range_with_len a n))
+multiples_rise slide q high low a zero some below fits = tt
+multiples_rise slide q high low a (suc n) some below fits =
+    (below, omega arith, multiples_rise slide q high ((q + a) * slide) (a + 1) n some (omega arith) (omega arith))
 
 -- the ends of windows rise, are later than the bid, and not too late
-ends_later : (t : ℕ) (v : Value) → t ≤ greatest_time → RisesWithin t last_time (bid_ends t v)
-ends_later t (Bid auction bidder price) h =
-    (omega arith, omega arith, (omega arith, omega arith, (omega arith, omega arith, (omega arith, omega arith, (omega arith, omega arith, (omega arith, omega arith, tt))))))
-ends_later t _ h = tt
+ends_later : (slide slides t : ℕ) (v : Value) → 1 ≤ slide → slide * slides ≤ 43200 → t ≤ greatest_time → RisesWithin t last_time (bid_ends slide slides t v)
+ends_later slide slides t (Bid auction bidder price) some short h = multiples_rise slide (t / slide + 1) last_time t 0 slides some (omega arith) (omega arith)
+ends_later slide slides t _ some short h = tt
 
 -- a count has a key in stage 1, if there is one
 count_has_key : (t auction count : ℕ) (woken none : Bool)
@@ -37,34 +55,44 @@ no_count : (woken : Bool) → (let count : Option Value = if woken then None els
 no_count true = refl
 no_count false = refl
 
--- there are two stages
-pub has_stages : HasStages q5_facts
-has_stages = (omega arith, omega arith)
+module _ (slide slides : ℕ) where
+  -- there are two stages
+  pub has_stages : HasStages (q5_with slide slides)
+  has_stages = (omega arith, omega arith)
+
+  -- counts post nothing
+  pub later_stages_post_nothing : LaterStagesPostNothing (q5_with slide slides)
+  later_stages_post_nothing j r = rw (not_zero j) refl
+
+  -- each count has a key in stage 1
+  pub outputs_have_keys : OutputsHaveKeys (q5_with slide slides)
+  outputs_have_keys zero cell e below = count_has_key e.time e.key _ e.woken _
+  outputs_have_keys (suc j) cell e below = absurd (omega arith)
+
+  -- a group has one count at most, and one row at most for each record
+  pub most_is_enough : MostIsEnough (q5_with slide slides)
+  most_is_enough zero cell e = length_option (count_in (slide * slides) cell e)
+  most_is_enough (suc j) cell e = rw (not_zero j) (length-filter_map _ e.recs)
+
+  -- without records there are no rows
+  pub fresh_stays_fresh : FreshStaysFresh (q5_with slide slides)
+  fresh_stays_fresh zero e none =
+      (ap (λ rs. after_group (slide * (slides - 1)) [] (record e { recs = rs })) none ∙ none_kept e.woken, no_count e.woken)
+  fresh_stays_fresh (suc j) e none = rw (not_zero j) (refl, ap rows_of none)
+
+  -- each key begins with no times
+  pub begins_fresh : BeginsFresh (q5_with slide slides)
+  begins_fresh = (refl, refl)
+
+  -- no times may be saved
+  pub texts_tell_cells : TextsTellCells text_of (q5_with slide slides)
+  texts_tell_cells j k t cell allowed = absurd (false≢true allowed)
 
 -- a bid posts the ends of its windows
-pub posts_are_later : PostsAreLater q5_facts
-posts_are_later r legal = ends_later r.time r.value legal.in_time
-
--- counts post nothing
-pub later_stages_post_nothing : LaterStagesPostNothing q5_facts
-later_stages_post_nothing j r = rw (not_zero j) refl
-
--- each count has a key in stage 1
-pub outputs_have_keys : OutputsHaveKeys q5_facts
-outputs_have_keys zero cell e below = count_has_key e.time e.key _ e.woken _
-outputs_have_keys (suc j) cell e below = absurd (omega arith)
-
--- a group has one count at most, and one row at most for each record
-pub most_is_enough : MostIsEnough q5_facts
-most_is_enough zero cell e = length_option (count_in cell e)
-most_is_enough (suc j) cell e = rw (not_zero j) (length-filter_map _ e.recs)
-
--- without records there are no rows
-pub fresh_stays_fresh : FreshStaysFresh q5_facts
-fresh_stays_fresh zero e none =
-    (ap (λ rs. after_group [] (record e { recs = rs })) none ∙ none_kept e.woken, no_count e.woken)
-fresh_stays_fresh (suc j) e none = rw (not_zero j) (refl, ap rows_of none)
+pub posts_are_later : (vs : List ℕ) → PostsAreLater (q5_facts vs)
+posts_are_later vs r legal =
+    ends_later (slide_in vs) (slides_in vs) r.time r.value (slide_is vs).0 (mul-le (slide_in vs) (slides_in vs) 7200 6 (slide_is vs).1 (slides_is vs).1) legal.in_time
 
 -- counts are lengths of lists
 pub sums_fit : SumsFit q5_facts
-sums_fit = always_fits q5_facts (λ j cell e. refl)
+sums_fit = always_fits q5_facts (λ vs j cell e. refl)

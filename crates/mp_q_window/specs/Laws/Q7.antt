@@ -1,21 +1,28 @@
--- The table of q7 keeps the laws of a query.
-use Rattle.std.specs.Prelude.{ℕ, ◌≡◌, ◌≤◌, Bool, true, false, Option, Some, None, [], if◌then◌else◌, refl}
+-- The table of q7 keeps the laws of a query, whatever the value of its rule.
+use Rattle.std.specs.Prelude.{ℕ, ◌≡◌, ◌≤◌, Bool, true, false, Option, None, List, [], if◌then◌else◌, refl}
 use Rattle.std.specs.Option.{option_map, option_to_list}
 use Rattle.std.proofs.Common.{◌∙◌, ap, arith}
+use Rattle.std.proofs.lemmas.Bool.{false≢true}
 use Rattle.mp_names.specs.Limits.{greatest_time, last_time}
 use Rattle.mp_model.specs.declared.value.Value.{Value}
 use Rattle.mp_model.specs.declared.value.Value.TheVariants.{Bid}
 use Rattle.mp_model.specs.Always.{always_fits}
+use Rattle.mp_model.specs.Rules.{settled}
 use Rattle.mp_model.proofs.Tables.{length_option, not_zero}
-use Rattle.mp_model.specs.QueryLaws.{HasStages, PostsAreLater, LaterStagesPostNothing, OutputsHaveKeys, MostIsEnough, FreshStaysFresh, RisesWithin, SumsFit}
+use Rattle.mp_model.specs.QueryLaws.{BeginsFresh, HasStages, PostsAreLater, LaterStagesPostNothing, MostIsEnough, FreshStaysFresh, RisesWithin, SumsFit, TextsTellCells}
 use Rattle.mp_q_window.specs.declared.best.Offer.{Offer}
-use Rattle.mp_q_window.specs.Best.{after_group, row_of, row_with}
-use Rattle.mp_q_window.specs.Q7.{key_of, q7_facts}
+use Rattle.mp_q_window.specs.Best.{after_group, row_of, row_with, text_of}
+use Rattle.mp_q_window.specs.Laws.Settled.{first_within, settled_within}
+use Rattle.mp_q_window.specs.Q7.{key_of, q7_facts, q7_rules, q7_with, width_in, width_rule}
+
+-- the length of a window is allowed
+width_is : (vs : List ℕ) → (1 ≤ width_in vs) × (width_in vs ≤ 43200)
+width_is vs = first_within width_rule [] (settled q7_rules vs) 600 (settled_within q7_rules vs refl)
 
 -- a window ends later than each of its times, and not too late
-ends_later : (t : ℕ) (v : Value) → t ≤ greatest_time → RisesWithin t last_time (option_to_list (key_of t v))
-ends_later t (Bid auction bidder price) h = (omega arith, omega arith, tt)
-ends_later t _ h = tt
+ends_later : (width t : ℕ) (v : Value) → 1 ≤ width → width ≤ 43200 → t ≤ greatest_time → RisesWithin t last_time (option_to_list (key_of width t v))
+ends_later width t (Bid auction bidder price) some short h = (omega arith, omega arith, tt)
+ends_later width t _ some short h = tt
 
 -- without a best offer there is no row
 no_row : (woken : Bool) → option_to_list (if woken then option_map row_with None else None) ≡ []
@@ -27,31 +34,36 @@ none_kept : (woken : Bool) → (let kept : Option Offer = if woken then None els
 none_kept true = refl
 none_kept false = refl
 
--- there is one stage
-pub has_stages : HasStages q7_facts
-has_stages = (omega arith, omega arith)
+module _ (width : ℕ) where
+  -- there is one stage
+  pub has_stages : HasStages (q7_with width)
+  has_stages = (omega arith, omega arith)
+
+  -- there is no later stage
+  pub later_stages_post_nothing : LaterStagesPostNothing (q7_with width)
+  later_stages_post_nothing j r = rw (not_zero j) refl
+
+  -- a group has one row at most
+  pub most_is_enough : MostIsEnough (q7_with width)
+  most_is_enough j cell e = length_option (row_of cell e)
+
+  -- without bids there are no rows
+  pub fresh_stays_fresh : FreshStaysFresh (q7_with width)
+  fresh_stays_fresh j e none =
+      (ap (λ rs. after_group None (record e { recs = rs })) none ∙ none_kept e.woken, no_row e.woken)
+
+  -- each key begins without an offer
+  pub begins_fresh : BeginsFresh (q7_with width)
+  begins_fresh = (refl, refl)
+
+  -- no offer may be saved
+  pub texts_tell_cells : TextsTellCells text_of (q7_with width)
+  texts_tell_cells j k t cell allowed = absurd (false≢true allowed)
 
 -- a bid posts the end of its window
-pub posts_are_later : PostsAreLater q7_facts
-posts_are_later r legal = ends_later r.time r.value legal.in_time
-
--- there is no later stage
-pub later_stages_post_nothing : LaterStagesPostNothing q7_facts
-later_stages_post_nothing j r = rw (not_zero j) refl
-
--- there is no next stage
-pub outputs_have_keys : OutputsHaveKeys q7_facts
-outputs_have_keys j cell e below = absurd (omega arith)
-
--- a group has one row at most
-pub most_is_enough : MostIsEnough q7_facts
-most_is_enough j cell e = length_option (row_of cell e)
-
--- without bids there are no rows
-pub fresh_stays_fresh : FreshStaysFresh q7_facts
-fresh_stays_fresh j e none =
-    (ap (λ rs. after_group None (record e { recs = rs })) none ∙ none_kept e.woken, no_row e.woken)
+pub posts_are_later : (vs : List ℕ) → PostsAreLater (q7_facts vs)
+posts_are_later vs r legal = ends_later (width_in vs) r.time r.value (width_is vs).0 (width_is vs).1 legal.in_time
 
 -- nothing is summed or counted
 pub sums_fit : SumsFit q7_facts
-sums_fit = always_fits q7_facts (λ j cell e. refl)
+sums_fit = always_fits q7_facts (λ vs j cell e. refl)

@@ -9,7 +9,7 @@ use Rattle.mp_bins.proofs.changes.put_down.Goals as goal
 
 pub replace-requires : goal.replace-requires
 replace-requires c =
-    let shape = c.args.shape in
+    let layout = c.args.owners.now in
     let ns = c.args.notes.now.items in
     let note = c.args.note in
     let at = place_of_note ns note in
@@ -18,14 +18,14 @@ replace-requires c =
     let then = c.move_then-then.result in
     let new_here = c.move_at-new_here.result in
     let new_then = c.move_then-new_then.result in
-    let f = c.first_owner-first.ensures in
-    let owner = c.first_owner-first.result in
-    let first = first_owner shape note.control.bin in
+    let f = c.of-first.ensures.owner in
+    let owner = c.of-first.result in
+    let first = first_owner layout note.control.stage note.control.bin in
     let inside = place_inside ns note in
     let split = place_parts ns note c.requires.order in
     let is_next = c.next_time-next.ensures in
     let new_is = c.insert_reserved.ensures.put ∙ put_is_with ns note c.requires.not_yet in
-    let are : AreTouched shape ns c.requires.order note at inside split next is_next here then new_here new_then = record {
+    let are : AreTouched layout ns c.requires.order note at inside split next is_next here then new_here new_then = record {
       here_is = picked_too ns ns note.control.stage note.control.bin note.control.time owner first here refl f (c.move_at-here.ensures.some, c.move_at-here.ensures.none);
       then_is = then_too ns ns note.control.stage note.control.bin owner first next then refl f (c.move_then-then.ensures.some, c.move_then-then.ensures.none);
       new_here_is = picked_too c.insert_reserved.new.self.items (with_note ns note) note.control.stage note.control.bin note.control.time owner first new_here new_is f (c.move_at-new_here.ensures.some, c.move_at-new_here.ensures.none);
@@ -34,13 +34,13 @@ replace-requires c =
     record {
       ranked = c.requires.changes.ranked;
       room = omega arith;
-      there = here_there shape ns c.requires.order note at inside split next is_next c.args.changes.now.items c.requires.changes here then new_here new_then are;
-      fresh = here_fresh shape ns c.requires.order note at inside split next is_next c.args.changes.now.items c.requires.changes here then new_here new_then are;
+      there = here_there layout ns c.requires.order note at inside split next is_next c.args.changes.now.items c.requires.changes here then new_here new_then are;
+      fresh = here_fresh layout ns c.requires.order note at inside split next is_next c.args.changes.now.items c.requires.changes here then new_here new_then are;
     }
 
 pub replace-requires-2 : goal.replace-requires-2
 replace-requires-2 c =
-    let shape = c.args.shape in
+    let layout = c.args.owners.now in
     let ns = c.args.notes.now.items in
     let note = c.args.note in
     let at = place_of_note ns note in
@@ -49,14 +49,14 @@ replace-requires-2 c =
     let then = c.move_then-then.result in
     let new_here = c.move_at-new_here.result in
     let new_then = c.move_then-new_then.result in
-    let f = c.first_owner-first.ensures in
-    let owner = c.first_owner-first.result in
-    let first = first_owner shape note.control.bin in
+    let f = c.of-first.ensures.owner in
+    let owner = c.of-first.result in
+    let first = first_owner layout note.control.stage note.control.bin in
     let inside = place_inside ns note in
     let split = place_parts ns note c.requires.order in
     let is_next = c.next_time-next.ensures in
     let new_is = c.insert_reserved.ensures.put ∙ put_is_with ns note c.requires.not_yet in
-    let are : AreTouched shape ns c.requires.order note at inside split next is_next here then new_here new_then = record {
+    let are : AreTouched layout ns c.requires.order note at inside split next is_next here then new_here new_then = record {
       here_is = picked_too ns ns note.control.stage note.control.bin note.control.time owner first here refl f (c.move_at-here.ensures.some, c.move_at-here.ensures.none);
       then_is = then_too ns ns note.control.stage note.control.bin owner first next then refl f (c.move_then-then.ensures.some, c.move_then-then.ensures.none);
       new_here_is = picked_too c.insert_reserved.new.self.items (with_note ns note) note.control.stage note.control.bin note.control.time owner first new_here new_is f (c.move_at-new_here.ensures.some, c.move_at-new_here.ensures.none);
@@ -65,13 +65,13 @@ replace-requires-2 c =
     record {
       ranked = c.replace.ensures.ranked;
       room = omega arith;
-      there = then_there shape ns c.requires.order note at inside split next is_next c.args.changes.now.items c.requires.changes here then new_here new_then are c.replace.new.changes.items c.replace.ensures.replaced;
-      fresh = then_fresh shape ns c.requires.order note at inside split next is_next c.args.changes.now.items c.requires.changes here then new_here new_then are c.replace.new.changes.items c.replace.ensures.replaced;
+      there = then_there layout ns c.requires.order note at inside split next is_next c.args.changes.now.items c.requires.changes here then new_here new_then are c.replace.new.changes.items c.replace.ensures.replaced;
+      fresh = then_fresh layout ns c.requires.order note at inside split next is_next c.args.changes.now.items c.requires.changes here then new_here new_then are c.replace.new.changes.items c.replace.ensures.replaced;
     }
 
 pub returns-clause-changes : goal.returns-clause-changes
 returns-clause-changes c =
-    let shape = c.args.shape in
+    let layout = c.args.owners.now in
     let ns = c.args.notes.now.items in
     let note = c.args.note in
     let at = place_of_note ns note in
@@ -80,20 +80,20 @@ returns-clause-changes c =
     let then = c.move_then-then.result in
     let new_here = c.move_at-new_here.result in
     let new_then = c.move_then-new_then.result in
-    let f = c.first_owner-first.ensures in
-    let owner = c.first_owner-first.result in
-    let first = first_owner shape note.control.bin in
+    let f = c.of-first.ensures.owner in
+    let owner = c.of-first.result in
+    let first = first_owner layout note.control.stage note.control.bin in
     let inside = place_inside ns note in
     let split = place_parts ns note c.requires.order in
     let is_next = c.next_time-next.ensures in
     let new_is = c.insert_reserved.ensures.put ∙ put_is_with ns note c.requires.not_yet in
-    let are : AreTouched shape ns c.requires.order note at inside split next is_next here then new_here new_then = record {
+    let are : AreTouched layout ns c.requires.order note at inside split next is_next here then new_here new_then = record {
       here_is = picked_too ns ns note.control.stage note.control.bin note.control.time owner first here refl f (c.move_at-here.ensures.some, c.move_at-here.ensures.none);
       then_is = then_too ns ns note.control.stage note.control.bin owner first next then refl f (c.move_then-then.ensures.some, c.move_then-then.ensures.none);
       new_here_is = picked_too c.insert_reserved.new.self.items (with_note ns note) note.control.stage note.control.bin note.control.time owner first new_here new_is f (c.move_at-new_here.ensures.some, c.move_at-new_here.ensures.none);
       new_then_is = then_too c.insert_reserved.new.self.items (with_note ns note) note.control.stage note.control.bin owner first next new_then new_is f (c.move_then-new_then.ensures.some, c.move_then-new_then.ensures.none);
     } in
-    subst (λ (ms : List Note). AreChangesOf shape ms c.replace-2.new.changes.items) (sym new_is) (in_line shape ns c.requires.order note at inside split next is_next c.args.changes.now.items c.requires.changes here then new_here new_then are c.replace.new.changes.items c.replace.ensures.replaced c.replace-2.new.changes.items c.replace-2.ensures.replaced c.replace-2.ensures.ranked)
+    subst (λ (ms : List Note). AreChangesOf layout ms c.replace-2.new.changes.items) (sym new_is) (in_line layout ns c.requires.order note at inside split next is_next c.args.changes.now.items c.requires.changes here then new_here new_then are c.replace.new.changes.items c.replace.ensures.replaced c.replace-2.new.changes.items c.replace-2.ensures.replaced c.replace-2.ensures.ranked)
 
 pub move_at-new_here-requires : goal.move_at-new_here-requires
 move_at-new_here-requires c =

@@ -1,11 +1,13 @@
-use Rattle.std.proofs.Common.{◌≡◌, ◌≤◌, ◌^◌, ◌∙◌, List, ◌++◌, ap, length, subst, sym}
+use Rattle.std.proofs.Common.{◌≡◌, ◌≤◌, ◌^◌, ◌∙◌, ℕ, List, ◌++◌, ap, length, rules, subst, sym}
 use Rattle.mp_names.specs.declared.pointstamps.Change.{Change}
 use Rattle.mp_names.specs.Logs.{empty_log}
 use Rattle.mp_outline.specs.JobOutline.{outline_of}
 use Rattle.mp_rows.specs.Entries.{AreContributions}
+use Rattle.mp_board.specs.Opening.{AreOpened}
 use Rattle.mp_board.proofs.Opened.{opened_next}
 use Rattle.mp_model.specs.Folds.{times_in}
 use Rattle.mp_model.specs.Stages.{input_records}
+use Rattle.mp_model.specs.Tables.{table_of}
 use Rattle.mp_job.specs.Times.{control_times}
 use Rattle.mp_job.proofs.Ascents.{IsStrictlyIncreasing-ascending}
 use Rattle.mp_board.proofs.opening.opening_counts.Goals as goal
@@ -13,12 +15,12 @@ use Rattle.mp_board.proofs.opening.opening_counts.Goals as goal
 pub over-requires-clause-rising : goal.over-requires-clause-rising
 over-requires-clause-rising g c =
     let job = c.args.job.now in
-    rw c.times.ensures (IsStrictlyIncreasing-ascending (times_in (g.Q.Query.facts job.rules) 0 (input_records (g.Q.Query.facts job.rules) job.events) ++ control_times job.controls))
+    rw c.times.ensures (IsStrictlyIncreasing-ascending (times_in (table_of g.Q.Query.facts job) 0 (input_records (table_of g.Q.Query.facts job) job.events) ++ control_times job.controls))
 
 pub loop-worker-preserved : goal.loop-worker-preserved
 loop-worker-preserved g c =
     let job = c.args.job.now in
-    let o = outline_of (g.Q.Query.facts job.rules) job in
+    let o = outline_of (table_of g.Q.Query.facts job) job in
     let l = c.loop-worker in
     let items = c.deref.result.now in
     let is : items ≡ c.in_ok-opening_entries.field-0.items = c.deref.ensures.value ∙ ap (λ v. v.items) c.in_ok-entries.ensures.same in
@@ -28,3 +30,9 @@ loop-worker-preserved g c =
       opened = opened_next o l.worker l.counts c.add_all.new.counts items few are l.invariant.opened c.add_all.ensures.counted c.add_all.ensures.dropped c.add_all.ensures.same c.add_all.ensures.room;
       same = record { stages = c.add_all.ensures.same.stages ∙ l.invariant.same.stages; times = c.add_all.ensures.same.times ∙ l.invariant.same.times };
     }
+
+pub returns-clause-opened : goal.returns-clause-opened
+returns-clause-opened g c =
+    let job = c.args.job.now in
+    let all : c.loop-worker.worker ≡ job.shape.workers = search rules in
+    subst (λ (n : ℕ). AreOpened (outline_of (table_of g.Q.Query.facts job) job) n c.loop-worker.counts) all c.loop-worker.invariant.opened

@@ -3,9 +3,10 @@ use Rattle.mp_outline.specs.JobOutline.{outline_of}
 use Rattle.mp_stamps.specs.Counts.{SamePlaces}
 use Rattle.mp_board.specs.Opening.{AreOpened}
 use Rattle.mp_board.proofs.opening.opening_counts.Given as goal
+use Rattle.mp_model.specs.Tables.{table_of}
 
 abbrev pub invariant-loop-worker : goal.invariant-loop-worker
 invariant-loop-worker g l = record {
-  opened : AreOpened (outline_of (g.Q.Query.facts l.job.rules) l.job) l.worker l.counts;
+  opened : AreOpened (outline_of (table_of g.Q.Query.facts l.job) l.job) l.worker l.counts;
   same : SamePlaces l.initial.counts l.counts;
 }

@@ -2,7 +2,11 @@
 use Rattle.std.proofs.Common.{◌∙◌, ap, sym}
 use Rattle.std.specs.Option.{option_copied}
 use Rattle.mp_command.proofs.TwoMoves.{copied_some, got_written}
+use Rattle.mp_cli.proofs.Bins.{few_bins}
 use Rattle.mp_cli.proofs.demo.demo.Goals as goal
+
+pub two_moves-requires-clause-bins : goal.two_moves-requires-clause-bins
+two_moves-requires-clause-bins g c = rw c.shape_of.ensures (few_bins c.run_in_memory-asked.result.bins c.run_in_memory-asked.ensures.within.bins)
 
 pub unreachable-requires : goal.unreachable-requires
 unreachable-requires g c =

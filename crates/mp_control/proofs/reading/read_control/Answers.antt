@@ -1,6 +1,9 @@
-use Rattle.std.proofs.lemmas.Result.{IfOk-weaker}
+use Rattle.std.proofs.Common.{◌≡◌, Ok, rules}
+use Rattle.mp_control.specs.Controls.{controls_of}
 use Rattle.mp_control.proofs.LegalControls.{controls_fit}
 use Rattle.mp_control.proofs.reading.read_control.Goals as goal
 
 pub returns-clause-legal : goal.returns-clause-legal
-returns-clause-legal c = IfOk-weaker c.read_lines.result _ _ (λ controls is. controls_fit c.args.shape.now c.args.text.now controls.items c.requires.workers is) c.read_lines.ensures.items
+returns-clause-legal c =
+    let is : controls_of c.args.text.now c.args.shape.now ≡ Ok c.into_controls.result.items = search rules in
+    controls_fit c.args.shape.now c.args.text.now c.into_controls.result.items c.requires.workers is

@@ -9,7 +9,7 @@ overflow_mul-result c =
     let o = some_outline c.args.shape.workers c.args.shape.stages in
     let n = length_kinds o in
     let m = c.count_of_kinds.ensures o refl refl in
-    let few = mul-le c.from.result c.count_of_kinds.result 16 (2 ^ 35) (omega arith) (omega arith) in
+    let few = mul-le c.from.result c.count_of_kinds.result 64 (2 ^ 35) (omega arith) (omega arith) in
     omega arith
 
 pub returns-clause-count : goal.returns-clause-count
@@ -20,5 +20,5 @@ returns-clause-few c =
     let o = some_outline c.args.shape.workers c.args.shape.stages in
     let n = length_kinds o in
     let m = c.count_of_kinds.ensures o refl refl in
-    let few = mul-le c.from.result c.count_of_kinds.result 16 (2 ^ 34 + 2 ^ 33) (omega arith) (omega arith) in
+    let few = mul-le c.from.result c.count_of_kinds.result 64 (2 ^ 34 + 2 ^ 33) (omega arith) (omega arith) in
     omega arith

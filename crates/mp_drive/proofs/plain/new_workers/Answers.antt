@@ -2,10 +2,11 @@ use Rattle.std.proofs.Common.{[], ◌∷◌, length, ap, arith, length-append}
 use Rattle.mp_outline.specs.JobOutline.{outline_of}
 use Rattle.mp_drive.proofs.Opened.{is_new, one_more_new}
 use Rattle.mp_drive.proofs.plain.new_workers.Goals as goal
+use Rattle.mp_model.specs.Tables.{table_of}
 
 pub loop-number-preserved : goal.loop-number-preserved
 loop-number-preserved g c =
-    let o = outline_of (g.Q.Query.facts g.J.Naming.job.rules) g.J.Naming.job in
+    let o = outline_of (table_of g.Q.Query.facts g.J.Naming.job) g.J.Naming.job in
     let i = c.loop-number.invariant in
     let number = c.loop-number.number in
     let workers = c.loop-number.workers.items in

@@ -6,6 +6,7 @@ use Rattle.mp_output.proofs.Writing.{on_err}
 use Rattle.mp_outline.specs.JobOutline.{outline_of}
 use Rattle.mp_drive.proofs.Followed.{ends_after}
 use Rattle.mp_drive.proofs.run.replay.Goals as goal
+use Rattle.mp_model.specs.Tables.{table_of}
 
 pub returns-in_err-plain-clause-part : goal.returns-in_err-plain-clause-part
 returns-in_err-plain-clause-part g c = on_err c.from_residual.result (0, sym (grown-nothing (g.S.Sink.written c.args.sink.now)))
@@ -22,5 +23,5 @@ returns-clause-part g c =
 
 pub returns-clause-made : goal.returns-clause-made
 returns-clause-made g c =
-    let o = outline_of (g.Q.Query.facts g.J.Naming.job.rules) g.J.Naming.job in
+    let o = outline_of (table_of g.Q.Query.facts g.J.Naming.job) g.J.Naming.job in
     ends_after o c.args.depth c.args.seed c.in_ok-plain.plain.state c.drive_seed.new.self.state c.drive_seed.result c.in_ok-plain.ensures.start c.in_ok-plain.ensures.depth c.drive_seed.ensures.made c.drive_seed.ensures.finished

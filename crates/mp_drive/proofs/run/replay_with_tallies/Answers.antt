@@ -4,6 +4,7 @@ use Rattle.std.proofs.Math.Seq.{take-length}
 use Rattle.mp_outside.specs.Sink.{grown}
 use Rattle.mp_outside.proofs.SinkLemmas.{grown-nothing}
 use Rattle.mp_model.specs.Answers.{one_thread_answer}
+use Rattle.mp_model.specs.Tables.{table_of}
 use Rattle.mp_output.proofs.Writing.{on_err}
 use Rattle.mp_outline.specs.JobOutline.{outline_of}
 use Rattle.mp_drive.proofs.Followed.{ends_after}
@@ -21,7 +22,7 @@ returns-in_err-steps-clause-part g c =
 pub returns-in_err-tallies-clause-part : goal.returns-in_err-tallies-clause-part
 returns-in_err-tallies-clause-part g c =
     let before = g.S.Sink.written c.args.sink.now in
-    let answer = one_thread_answer (g.Q.Query.facts g.J.Naming.job.rules) g.J.Naming.job.events in
+    let answer = one_thread_answer (table_of g.Q.Query.facts g.J.Naming.job) g.J.Naming.job.events in
     let whole = c.in_ok-steps.ensures.answer before (sym (grown-nothing before) ∙ ap (grown before) (sym c.in_ok-plain.ensures.nothing_written)) in
     on_err c.from_residual-in_err-tallies.result (length answer, whole ∙ ap (grown before) (sym (take-length answer)))
 
@@ -35,5 +36,5 @@ returns-clause-tallies g c = λ w t same. c.in_ok-tallies.ensures.at_the_end w t
 
 pub returns-clause-made : goal.returns-clause-made
 returns-clause-made g c =
-    let o = outline_of (g.Q.Query.facts g.J.Naming.job.rules) g.J.Naming.job in
+    let o = outline_of (table_of g.Q.Query.facts g.J.Naming.job) g.J.Naming.job in
     ends_after o c.args.depth c.args.seed c.in_ok-plain.plain.state c.drive_seed.new.self.state (Ok c.in_ok-steps.steps) c.in_ok-plain.ensures.start c.in_ok-plain.ensures.depth c.in_ok-steps.ensures.made c.in_ok-steps.ensures.finished

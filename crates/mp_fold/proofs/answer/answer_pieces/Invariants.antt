@@ -6,4 +6,4 @@ use Rattle.mp_fold.proofs.answer.answer_pieces.Given as goal
 
 abbrev pub invariant-loop-place : goal.invariant-loop-place
 invariant-loop-place g l =
-    l.pieces ++ flat_map line_of l.place-iterator ≡ one_thread_answer (g.Q.Query.facts (g.Q.Query.rules l.query)) l.events
+    l.pieces ++ flat_map line_of l.place-iterator ≡ one_thread_answer (g.Q.Query.facts (g.Q.Query.values l.query)) l.events

@@ -5,7 +5,7 @@ use Rattle.mp_fold.proofs.folds.fold_key.Given as goal
 
 abbrev pub invariant-loop-time : goal.invariant-loop-time
 invariant-loop-time g l =
-    let q = g.Q.Query.facts (g.Q.Query.rules l.query) in
+    let q = g.Q.Query.facts (g.Q.Query.values l.query) in
     let rest = map (entry_at q l.stage l.key l.own.items) (drop l.time-index l.time-items) in record {
       so_far : l.outputs.items ++ outputs_along q l.stage l.cell rest ≡ l.initial.outputs.items ++ outputs_along q l.stage (q.fresh l.stage) (map (entry_at q l.stage l.key l.own.items) l.time-items);
       fits : FitsAlong q l.stage l.cell rest;

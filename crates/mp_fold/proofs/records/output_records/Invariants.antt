@@ -6,5 +6,5 @@ use Rattle.mp_fold.proofs.records.output_records.Given as goal
 
 abbrev pub invariant-loop-output : goal.invariant-loop-output
 invariant-loop-output g l =
-    let q = g.Q.Query.facts (g.Q.Query.rules l.query) in
+    let q = g.Q.Query.facts (g.Q.Query.values l.query) in
     l.recs.items ++ filter_map (record_of_output q l.stage) (drop l.output-index l.outputs) ≡ filter_map (record_of_output q l.stage) l.outputs

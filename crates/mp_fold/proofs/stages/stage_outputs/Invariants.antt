@@ -6,5 +6,5 @@ use Rattle.mp_fold.proofs.stages.stage_outputs.Given as goal
 
 abbrev pub invariant-loop-key : goal.invariant-loop-key
 invariant-loop-key g l =
-    let q = g.Q.Query.facts (g.Q.Query.rules l.query) in
+    let q = g.Q.Query.facts (g.Q.Query.values l.query) in
     l.outputs.items ++ flat_map (outputs_of q l.stage l.recs) (drop l.key-index l.key-items) ≡ flat_map (outputs_of q l.stage l.recs) l.key-items

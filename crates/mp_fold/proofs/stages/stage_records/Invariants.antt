@@ -5,4 +5,4 @@ use Rattle.mp_fold.proofs.stages.stage_records.Given as goal
 
 abbrev pub invariant-loop-before : goal.invariant-loop-before
 invariant-loop-before g l =
-    l.recs.items ≡ stage_records (g.Q.Query.facts (g.Q.Query.rules l.query)) l.events l.before
+    l.recs.items ≡ stage_records (g.Q.Query.facts (g.Q.Query.values l.query)) l.events l.before

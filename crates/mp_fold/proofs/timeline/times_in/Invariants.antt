@@ -5,5 +5,5 @@ use Rattle.mp_fold.proofs.timeline.times_in.Given as goal
 
 abbrev pub invariant-loop-rec : goal.invariant-loop-rec
 invariant-loop-rec g l =
-    let q = g.Q.Query.facts (g.Q.Query.rules l.query) in
+    let q = g.Q.Query.facts (g.Q.Query.values l.query) in
     l.times.items ++ times_in q l.stage (drop l.rec-index l.recs) ≡ times_in q l.stage l.recs

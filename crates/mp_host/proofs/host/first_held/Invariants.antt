@@ -4,4 +4,4 @@ use Rattle.mp_host_laws.specs.Hosted.{first_held}
 use Rattle.mp_host.proofs.host.first_held.Given as goal
 
 abbrev pub invariant-loop-bin : goal.invariant-loop-bin
-invariant-loop-bin g l = l.held.items ≡ first_held l.job l.worker l.bin
+invariant-loop-bin g l = l.held.items ≡ first_held l.job l.stage l.worker l.bin

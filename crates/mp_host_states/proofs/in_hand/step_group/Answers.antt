@@ -11,7 +11,7 @@ use Rattle.mp_host_states.proofs.in_hand.step_group.Goals as goal
 
 pub step_state-requires-clause-fits : goal.step_state-requires-clause-fits
 step_state-requires-clause-fits g c = λ κs b.
-    let q = g.Q.Query.facts (g.Q.Query.rules c.args.query.now) in
+    let q = g.Q.Query.facts (g.Q.Query.values c.args.query.now) in
     let one = c.index_mut-one.result.now in
     let is = c.index_mut-one.ensures.value ∙ ap (λ (s : States g.row.Q-Cell.Denot). get_or s.held c.place_of-at.result one) c.states.view_is in
     let cell = cell_found c.args.states.now c.args.group.now.time c.args.group.now.key c.place_of-at.result c.place_of-at.ensures one is (q.fresh c.args.stage) in
@@ -64,7 +64,7 @@ invariant_of-states-2 g c =
 
 pub returns-clause-stepped : goal.returns-clause-stepped
 returns-clause-stepped g c =
-    let q = g.Q.Query.facts (g.Q.Query.rules c.args.query.now) in
+    let q = g.Q.Query.facts (g.Q.Query.values c.args.query.now) in
     let one = c.index_mut-one.result.now in
     let is = c.index_mut-one.ensures.value ∙ ap (λ (s : States g.row.Q-Cell.Denot). get_or s.held c.place_of-at.result one) c.states.view_is in
     let e = c.in_ok-outputs.ensures in
@@ -73,7 +73,7 @@ returns-clause-stepped g c =
 
 pub returns-clause-outputs : goal.returns-clause-outputs
 returns-clause-outputs g c =
-    let q = g.Q.Query.facts (g.Q.Query.rules c.args.query.now) in
+    let q = g.Q.Query.facts (g.Q.Query.values c.args.query.now) in
     let one = c.index_mut-one.result.now in
     let is = c.index_mut-one.ensures.value ∙ ap (λ (s : States g.row.Q-Cell.Denot). get_or s.held c.place_of-at.result one) c.states.view_is in
     let cell = cell_found c.args.states.now c.args.group.now.time c.args.group.now.key c.place_of-at.result c.place_of-at.ensures one is (q.fresh c.args.stage) in

@@ -4,4 +4,4 @@ use Rattle.std.specs.List.{flat_map}
 use Rattle.mp_host_states.proofs.posts.count_posts.Given as goal
 
 abbrev pub invariant-loop-rec : goal.invariant-loop-rec
-invariant-loop-rec g l = l.count ≡ min (length (flat_map ((g.Q.Query.facts (g.Q.Query.rules l.query)).posts l.stage) (take l.rec-index l.recs))) (2 ^ 64 - 1)
+invariant-loop-rec g l = l.count ≡ min (length (flat_map ((g.Q.Query.facts (g.Q.Query.values l.query)).posts l.stage) (take l.rec-index l.recs))) (2 ^ 64 - 1)

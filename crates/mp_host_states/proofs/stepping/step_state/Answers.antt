@@ -5,7 +5,7 @@ use Rattle.mp_host_states.proofs.stepping.step_state.Goals as goal
 
 pub step_in-requires-clause-fits : goal.step_in-requires-clause-fits
 step_in-requires-clause-fits g c = λ κs b.
-    let q = g.Q.Query.facts (g.Q.Query.rules c.args.query.now) in
+    let q = g.Q.Query.facts (g.Q.Query.values c.args.query.now) in
     step_fits q c.args.stage c.state.inside.cells c.args.group.now (rw (← c.state.view_is) at c.requires.fits)
 
 pub take_wake-requires : goal.take_wake-requires
@@ -22,17 +22,17 @@ returns-clause-wakes g c =
 
 pub returns-clause-cells : goal.returns-clause-cells
 returns-clause-cells g c =
-    let q = g.Q.Query.facts (g.Q.Query.rules c.args.query.now) in
+    let q = g.Q.Query.facts (g.Q.Query.values c.args.query.now) in
     rw (← c.state.view_is) (step_cells q c.args.stage c.state.inside.cells c.args.group.now c.step_in.new.cells c.in_ok-outputs.ensures.cells)
 
 pub returns-clause-kept : goal.returns-clause-kept
 returns-clause-kept g c =
-    let q = g.Q.Query.facts (g.Q.Query.rules c.args.query.now) in
+    let q = g.Q.Query.facts (g.Q.Query.values c.args.query.now) in
     rw (← c.state.view_is) (step_keeps q c.args.stage c.state.inside.cells c.args.group.now c.step_in.new.cells c.in_ok-outputs.ensures.kept)
 
 pub returns-clause-outputs : goal.returns-clause-outputs
 returns-clause-outputs g c =
-    let q = g.Q.Query.facts (g.Q.Query.rules c.args.query.now) in
+    let q = g.Q.Query.facts (g.Q.Query.values c.args.query.now) in
     rw (← c.state.view_is, cell_is (q.fresh c.args.stage) c.state.inside.cells c.args.group.now.key) c.in_ok-outputs.ensures.outputs
 
 pub returns-clause-in_order : goal.returns-clause-in_order

@@ -1,6 +1,8 @@
-use Rattle.std.proofs.Common.{◌≡◌, ◌+◌, ◌-◌, ◌<◌, ◌++◌, ◌∷◌, [], List, ℕ, suc, ap, sym, ◌∙◌, ◌≤◌, subst, append_assoc, append-nil, arith}
+use Rattle.std.proofs.Common.{◌≡◌, ◌+◌, ◌-◌, ◌<◌, ◌^◌, ◌++◌, ◌∷◌, [], List, ℕ, suc, ap, sym, ◌∙◌, ◌≤◌, subst, append_assoc, append-nil, arith}
 use Rattle.mp_model.specs.Legal.{EventsAreLegal}
+use Rattle.mp_model.specs.Plain.{EventsArePlain}
 use Rattle.mp_make.proofs.Legal.{made_are_legal}
+use Rattle.mp_make.proofs.PlainNames.{made_are_plain}
 use Rattle.mp_model.specs.declared.record.Event.{Event}
 use Rattle.mp_make.specs.Made.{event_at, events_from}
 use Rattle.mp_make.proofs.made.make_events.Goals as goal
@@ -30,3 +32,8 @@ whole items all index n x before over =
 pub returns-clause-legal : goal.returns-clause-legal
 returns-clause-legal c = λ few.
     subst EventsAreLegal (whole _ _ c.loop-index.index c.args.count c.loop-index.draws c.loop-index.invariant c.loop-index-test.false) (made_are_legal c.args.count c.args.seed few)
+
+pub returns-clause-plain : goal.returns-clause-plain
+returns-clause-plain c =
+    let few : c.args.count < 2 ^ 64 = omega arith in
+    subst EventsArePlain (whole _ _ c.loop-index.index c.args.count c.loop-index.draws c.loop-index.invariant c.loop-index-test.false) (made_are_plain c.args.count c.args.seed few)

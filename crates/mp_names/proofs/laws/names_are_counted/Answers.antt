@@ -17,3 +17,11 @@ returns-clause-three_bids c = refl
 pub returns-clause-wake_moves_with_its_bin : goal.returns-clause-wake_moves_with_its_bin
 unfolding ascending owner_before packets_of groups_of control_times answer_times owed_names name_count
 returns-clause-wake_moves_with_its_bin c = refl
+
+pub returns-clause-stopped_moves : goal.returns-clause-stopped_moves
+unfolding ascending owner_before packets_of groups_of control_times answer_times owed_names name_count
+returns-clause-stopped_moves c = refl
+
+pub returns-clause-wake_goes_on : goal.returns-clause-wake_goes_on
+unfolding ascending owner_before packets_of groups_of control_times answer_times owed_names name_count
+returns-clause-wake_goes_on c = refl

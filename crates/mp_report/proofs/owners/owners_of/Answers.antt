@@ -12,7 +12,7 @@ loop-index-preserved c =
     let n = c.loop-index.index in
     let note : Note = record { index = n; control = get_or c.args.controls.now n no_control } in
     record {
-      shape = c.in_ok-note.ensures.shape ∙ before.shape;
+      layout = c.in_ok-note.ensures.layout ∙ before.layout;
       notes = one_more c.args.controls.now c.loop-index.owners c.note.new.self note before.notes (omega arith, refl) grew;
       noted = λ i l. still_noted c.loop-index.owners.noted c.note.new.self.noted note i grew l before.noted;
       later = λ i l. still_later c.loop-index.owners.noted c.note.new.self.noted note i grew l before.later;

@@ -6,7 +6,7 @@ use Rattle.mp_report.proofs.owners.owners_of.Given as goal
 
 abbrev pub invariant-loop-index : goal.invariant-loop-index
 invariant-loop-index l = record {
-  shape : l.owners.shape ≡ l.fn.shape;
+  layout : l.owners.layout ≡ record { shape = l.fn.shape; firsts = l.firsts };
   notes : AreNotesOf l.controls l.owners;
   noted : (i : ℕ) → i < l.index → is_noted l.owners.noted i ≡ true;
   later : (i : ℕ) → l.index ≤ i → is_noted l.owners.noted i ≡ false;

@@ -10,13 +10,14 @@ use Rattle.mp_report.specs.Told.{groups_told, keys_told}
 use Rattle.mp_report.proofs.Prefixes.{prefix_then}
 use Rattle.mp_report.proofs.Tallied.{told_in_part, told_report, told_text}
 use Rattle.mp_report.proofs.writing.write_report.Goals as goal
+use Rattle.mp_model.specs.Tables.{table_of}
 
 pub returns-in_err-moves-clause-part : goal.returns-in_err-moves-clause-part
 returns-in_err-moves-clause-part g c =
     let laws = g.met.Q.Query g.world.𝓛 g.world.𝓜 g.world.𝓡 ((λ s x. x), (λ x. x), (λ x. x), λ x. x) in
     let job = c.args.job.now in
-    let q = g.Q.Query.facts job.rules in
-    let sound = outline_is_sound q (laws.has_stages job.rules) (laws.posts_are_later job.rules) (laws.later_stages_post_nothing job.rules) job c.moves_of.ensures.legal in
+    let q = table_of g.Q.Query.facts job in
+    let sound = outline_is_sound q (laws.has_stages job.values) (laws.posts_are_later job.values) (laws.later_stages_post_nothing job.values) job c.moves_of.ensures.legal in
     let before = g.S.Sink.written c.args.sink.now in
     on_err c.from_residual.result (told_in_part q job sound c.args.tallies.now c.requires before before [] (told_text q job sound c.args.tallies.now c.requires, refl) (sym (grown-nothing before)))
 
@@ -24,9 +25,9 @@ pub returns-in_err-write_moves-clause-part : goal.returns-in_err-write_moves-cla
 returns-in_err-write_moves-clause-part g c =
     let laws = g.met.Q.Query g.world.𝓛 g.world.𝓜 g.world.𝓡 ((λ s x. x), (λ x. x), (λ x. x), λ x. x) in
     let job = c.args.job.now in
-    let q = g.Q.Query.facts job.rules in
+    let q = table_of g.Q.Query.facts job in
     let tallies = c.args.tallies.now in
-    let sound = outline_is_sound q (laws.has_stages job.rules) (laws.posts_are_later job.rules) (laws.later_stages_post_nothing job.rules) job c.moves_of.ensures.legal in
+    let sound = outline_is_sound q (laws.has_stages job.values) (laws.posts_are_later job.values) (laws.later_stages_post_nothing job.values) job c.moves_of.ensures.legal in
     let moves = moves_of (outline_of q job) in
     let same = c.deref.ensures.value ∙ c.in_ok-moves.ensures.moves in
     let part = rw same at c.in_err-write_moves.ensures.part in
@@ -37,9 +38,9 @@ pub returns-clause-whole : goal.returns-clause-whole
 returns-clause-whole g c =
     let laws = g.met.Q.Query g.world.𝓛 g.world.𝓜 g.world.𝓡 ((λ s x. x), (λ x. x), (λ x. x), λ x. x) in
     let job = c.args.job.now in
-    let q = g.Q.Query.facts job.rules in
+    let q = table_of g.Q.Query.facts job in
     let tallies = c.args.tallies.now in
-    let sound = outline_is_sound q (laws.has_stages job.rules) (laws.posts_are_later job.rules) (laws.later_stages_post_nothing job.rules) job c.moves_of.ensures.legal in
+    let sound = outline_is_sound q (laws.has_stages job.values) (laws.posts_are_later job.values) (laws.later_stages_post_nothing job.values) job c.moves_of.ensures.legal in
     let same = c.deref.ensures.value ∙ c.in_ok-moves.ensures.moves in
     let moved = rw same at c.in_ok-write_moves.ensures.whole in
     on_ok_weaker c.write_workers.result
@@ -50,9 +51,9 @@ pub returns-clause-part : goal.returns-clause-part
 returns-clause-part g c =
     let laws = g.met.Q.Query g.world.𝓛 g.world.𝓜 g.world.𝓡 ((λ s x. x), (λ x. x), (λ x. x), λ x. x) in
     let job = c.args.job.now in
-    let q = g.Q.Query.facts job.rules in
+    let q = table_of g.Q.Query.facts job in
     let tallies = c.args.tallies.now in
-    let sound = outline_is_sound q (laws.has_stages job.rules) (laws.posts_are_later job.rules) (laws.later_stages_post_nothing job.rules) job c.moves_of.ensures.legal in
+    let sound = outline_is_sound q (laws.has_stages job.values) (laws.posts_are_later job.values) (laws.later_stages_post_nothing job.values) job c.moves_of.ensures.legal in
     let lines = move_lines (keys_told tallies) (moves_of (outline_of q job)) in
     let same = c.deref.ensures.value ∙ c.in_ok-moves.ensures.moves in
     let moved = rw same at c.in_ok-write_moves.ensures.whole in

@@ -2,4 +2,4 @@ use Rattle.mp_test_runs.proofs.GivingRows.{q1_gives_rows}
 use Rattle.mp_test_runs.proofs.bundles.seventy_in_two_bundles.Goals as goal
 
 pub follows-requires-clause-rows : goal.follows-requires-clause-rows
-follows-requires-clause-rows g c κs = q1_gives_rows
+follows-requires-clause-rows g c κs = q1_gives_rows c.in_ok-job.job

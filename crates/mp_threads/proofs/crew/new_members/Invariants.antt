@@ -10,6 +10,6 @@ invariant-loop-number g l = record {
   many : length l.members.items ≡ l.number;
   numbers : (k : ℕ) (m : MemberState) → slice_get l.members.items k ≡ Some m → m.worker.number ≡ k;
   new : All HasDoneNothing l.members.items;
-  seats : l.seats.items ≡ drop l.number l.fn.seats.items;
+  hubs : l.hubs.items ≡ drop l.number l.fn.hubs.items;
   posts : l.posts.items ≡ drop l.number l.fn.posts.items;
 }

@@ -12,10 +12,7 @@ pub returns-in_default-clause-goes_on : goal.returns-in_default-clause-goes_on
 returns-in_default-clause-goes_on g c = goes_further _ _ _ _ _ _ _ _ _ _ _ c.loop.invariant.on c.in_ok-own.ensures.goes_on
 
 pub returns-in-Over-clause-first : goal.returns-in-Over-clause-first
-returns-in-Over-clause-first g c = λ all. let own = (c.in-Over.ensures cc).0 in record { knows = c.in_ok-own.ensures.finished own; full = c.in_ok-own.ensures.full own }
-
-pub returns-in-Over-clause-over : goal.returns-in-Over-clause-over
-returns-in-Over-clause-over g c = λ all. c.in-Ok.ensures.over (c.in-Over.ensures cc).1
+returns-in-Over-clause-first g c = λ all. let own = c.in-Over.ensures cc in record { knows = c.in_ok-own.ensures.finished own; full = c.in_ok-own.ensures.full own }
 
 pub returns-in-Over-clause-goes_on : goal.returns-in-Over-clause-goes_on
 returns-in-Over-clause-goes_on g c = goes_further _ _ _ _ _ _ _ _ _ _ _ c.loop.invariant.on c.in_ok-own.ensures.goes_on

@@ -2,6 +2,7 @@ use Rattle.std.proofs.Common.{[], ◌∷◌, ap, arith, length, length-append, s
 use Rattle.mp_tally.specs.Tallies.{IsTallyOf}
 use Rattle.mp_threads.proofs.Tallied.{one_more_at, stands_at}
 use Rattle.mp_threads.proofs.tallies.tallies_of.Goals as goal
+use Rattle.mp_model.specs.Tables.{table_of}
 
 pub tally_of-requires-clause-finished : goal.tally_of-requires-clause-finished
 tally_of-requires-clause-finished g c κs within =
@@ -13,7 +14,7 @@ tally_of-requires-clause-finished g c κs within =
 pub loop-worker-preserved : goal.loop-worker-preserved
 loop-worker-preserved g c =
     let job = g.J.Naming.job in
-    let q = g.Q.Query.facts job.rules in
+    let q = table_of g.Q.Query.facts job in
     let i = c.loop-worker.invariant in
     let workers = c.args.workers.now in
     let index = c.loop-worker.worker-index in

@@ -1,11 +1,12 @@
 use Rattle.mp_outline.proofs.Soundness.{outline_is_sound}
 use Rattle.mp_worker_invariant.proofs.Asked.{parts_are_asked}
 use Rattle.mp_worker_invariant.proofs.laws.parts_are_asked.Goals as goal
+use Rattle.mp_model.specs.Tables.{table_of}
 
 pub returns : goal.returns
 returns g c = λ job p legal.
     let laws = g.met.Q.Query g.world.𝓛 g.world.𝓜 g.world.𝓡 ((λ s x. x), (λ x. x), (λ x. x), λ x. x) in
-    let q = g.Q.Query.facts job.rules in
-    let nothing = laws.later_stages_post_nothing job.rules in
-    let sound = outline_is_sound q (laws.has_stages job.rules) (laws.posts_are_later job.rules) nothing job legal in
+    let q = table_of g.Q.Query.facts job in
+    let nothing = laws.later_stages_post_nothing job.values in
+    let sound = outline_is_sound q (laws.has_stages job.values) (laws.posts_are_later job.values) nothing job legal in
     parts_are_asked q job sound p

@@ -7,16 +7,18 @@ use Rattle.mp_worker_invariant.specs.Parts.{AreMoversAt}
 use Rattle.mp_worker_invariant.proofs.Items.{again_there, put_at}
 use Rattle.mp_worker_invariant.proofs.Others.{other_movers}
 use Rattle.mp_worker_invariant.proofs.Standing.{host_at, movers_at}
+use Rattle.mp_outline.proofs.Whole.{nothing_opens}
 use Rattle.mp_worker_parts.specs.Leaving.{AreChangesOfLeaving}
 use Rattle.mp_worker_parts.proofs.Applied.{same_host_there}
 use Rattle.mp_worker_parts.proofs.Extracting.{changes_of_packet, with_room}
 use Rattle.mp_worker_steps.proofs.Keeping.{kept_as}
 use Rattle.mp_worker_sends.proofs.bins.make_room_to_extract.Goals as goal
+use Rattle.mp_model.specs.Tables.{table_of}
 
 pub invariant_of-parts-2 : goal.invariant_of-parts-2
 invariant_of-parts-2 g c =
     let job = g.J.Naming.job in
-    let q = g.Q.Query.facts job.rules in
+    let q = table_of g.Q.Query.facts job in
     let kept = c.parts.invariant in
     let i = c.parts.inside in
     let j = c.args.stage in
@@ -49,9 +51,9 @@ returns-clause-changes g c =
     let changes = c.in_ok-changes.changes.items in
     let same : changes ≡ packet_sent_at j c.args.moved.time ns.numbers.items = c.in_ok-changes.ensures ∙ ap (packet_sent_at j c.args.moved.time) c.as_slice.ensures.value in
     let told = changes_of_packet kept.sound kept.parts j c.requires.stage c.args.moved (rw (← c.parts.view_is) at c.requires.due) h (host_at kept.parts j c.requires.stage h c.index-host.ensures)
-    ns.ensures.denotes changes (λ one out taken. (ns.numbers.items, ns.ensures.told one out taken, same)) in
+    (nothing_opens (table_of g.Q.Query.facts job) job kept.legal) ns.ensures.denotes changes (λ one out taken. (ns.numbers.items, ns.ensures.told one out taken, same)) in
     rw c.in_ok-make_room.ensures.made
-    (λ x there. subst (λ (y : Hosted g.row.Q-Cell.Denot). AreChangesOfLeaving (g.Q.Query.facts job.rules) job i.log.worker i.log.log j c.args.moved y changes) (sym (same_host_there i.hosts.items j h x below c.index-host.ensures there)) told)
+    (λ x there. subst (λ (y : Hosted g.row.Q-Cell.Denot). AreChangesOfLeaving (table_of g.Q.Query.facts job) job i.log.worker i.log.log j c.args.moved y changes) (sym (same_host_there i.hosts.items j h x below c.index-host.ensures there)) told)
 
 pub invariant_of-parts : goal.invariant_of-parts
 invariant_of-parts g c = rw c.in_err-make_room.ensures.unchanged c.parts.invariant

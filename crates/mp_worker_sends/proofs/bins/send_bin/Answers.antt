@@ -10,6 +10,7 @@ use Rattle.mp_host_laws.specs.declared.held.Held.{Held}
 use Rattle.mp_host_laws.specs.Hosted.{Hosted}
 use Rattle.mp_host_laws.specs.Moving.{IsTakenOut}
 use Rattle.mp_model.specs.Facts.{JobFacts, QueryFacts}
+use Rattle.mp_model.specs.Tables.{table_of}
 use Rattle.mp_msg.specs.Contents.{IsPacketOf}
 use Rattle.mp_msg.specs.States.{BinContent, IsStateBefore}
 use Rattle.mp_outline.specs.JobOutline.{outline_of}
@@ -82,7 +83,7 @@ sent-requires-clause-keys g c κs within =
     let told = leaves kept c.requires.stage (rw (← c.parts.view_is) at c.requires.due) c.index_mut-host.ensures.value c.in-Some.ensures.taken c.in-Some.ensures.held in
     let s = c.in-Some.field-0.state in
     let movers = movers_at kept.parts c.args.stage c.requires.stage c.index_mut-movers.result.now c.index_mut-movers.ensures.value in
-    (s, subst (λ k. IsStateBefore (g.Q.Query.facts g.J.Naming.job.rules) g.J.Naming.job k c.args.moved.bin c.args.moved.time s) (sym movers.0) told.state, c.count_of_keys-keys.ensures)
+    (s, subst (λ k. IsStateBefore (table_of g.Q.Query.facts g.J.Naming.job) g.J.Naming.job k c.args.moved.bin c.args.moved.time s) (sym movers.0) told.state, c.count_of_keys-keys.ensures)
 
 pub unreachable-requires-in_default-into_body : goal.unreachable-requires-in_default-into_body
 unreachable-requires-in_default-into_body g c =
@@ -121,7 +122,7 @@ put_back-requires-clause-fits g c κs within =
 pub invariant_of-parts-2 : goal.invariant_of-parts-2
 invariant_of-parts-2 g c =
     let kept = c.parts.invariant in
-    let q = g.Q.Query.facts g.J.Naming.job.rules in
+    let q = table_of g.Q.Query.facts g.J.Naming.job in
     let one = c.in-Some in
     let h = c.index_mut-host.result.now in
     let at = host_at kept.parts c.args.stage c.requires.stage h c.index_mut-host.ensures.value in

@@ -29,7 +29,7 @@ pub send-requires-clause-may : goal.send-requires-clause-may
 send-requires-clause-may g c κs within =
     let kept = c.parts.invariant in
     let there = listed_next kept c.worker.ensures c.if-worker-ne0.false c.controls.ensures c.in-Some.ensures.lookup.3.0 in
-    rw (c.in_ok-make_room.ensures.made, c.control-message.ensures) (held_may _ kept.sound _ _ kept.parts.legal is_ctrl _ (can_send_control kept.sound kept.parts there.0 there.1).0.0)
+    rw (c.in_ok-make_room.ensures.made, c.control-message.ensures) (held_may _ kept.sound _ _ kept.parts.legal is_ctrl _ (can_send_control kept.sound kept.legal kept.parts there.0 there.1).0.0.0)
 
 pub send-requires-clause-changes : goal.send-requires-clause-changes
 send-requires-clause-changes g c κs within =
@@ -38,7 +38,7 @@ send-requires-clause-changes g c κs within =
     let n = c.parts.inside.next.index in
     let all = c.controls.ensures ∙ ap (λ (f : JobFacts). f.controls) kept.same in
     let control : c.in-Some.control.now ≡ control_of g.J.Naming.job.controls n = c.in-Some.ensures.lookup.3.1 no_control ∙ ap (λ (cs : List Control). control_of cs n) all in
-    rw (c.in_ok-make_room.ensures.made, c.control-message.ensures, c.one_less.ensures, c.one_more.ensures, control) (control_counted kept.sound kept.parts there.0 there.1)
+    rw (c.in_ok-make_room.ensures.made, c.control-message.ensures, c.one_less.ensures, c.one_more.ensures, control) (control_counted kept.sound kept.legal kept.parts there.0 there.1)
 
 pub send-requires-clause-at_post : goal.send-requires-clause-at_post
 send-requires-clause-at_post g c κs within = rw c.in_ok-make_room.ensures.made (rw (← c.parts.view_is) at c.requires.at_post)
@@ -50,7 +50,7 @@ returns-in_default-send g c =
     let made = c.in_ok-make_room.ensures.made in
     let e = c.in_default-send.ensures in
     let full = rw made at e.full in
-    let one = one_control kept.sound kept.parts there.0 there.1 in
+    let one = one_control kept.sound kept.legal kept.parts there.0 there.1 in
     rw (← c.parts.view_is)
     (record { steps = ((λ x can. rw (← one x (can_do kept SendControl x can)) full), rw (rw made at e.worker, rw made at e.unchanged) refl); mail = rw made at e.mail })
 
@@ -61,7 +61,7 @@ invariant_of-parts-2 g c =
     let workers = ap (λ (s : Shape). s.workers) c.shape.ensures.shape ∙ ap (λ (f : JobFacts). f.shape.workers) kept.same in
     let sent = rw (c.in_ok-make_room.ensures.made, c.control-message.ensures) at c.in-Ok.ensures.sent in
     rw (c.place_after-parts-inside.ensures ∙ ap (λ w. place_after w c.parts.inside.next) workers)
-    (kept_by kept c.send.new.log (rw c.in_ok-make_room.ensures.made at c.in-Ok.ensures.worker) sent (control_kept kept.sound kept.parts there.0 there.1))
+    (kept_by kept c.send.new.log (rw c.in_ok-make_room.ensures.made at c.in-Ok.ensures.worker) sent (control_kept kept.sound kept.legal kept.parts there.0 there.1))
 
 pub returns : goal.returns
 returns g c =
@@ -71,7 +71,7 @@ returns g c =
     let made = c.in_ok-make_room.ensures.made in
     let e = c.in-Ok.ensures in
     let sent = rw (made, c.control-message.ensures) at e.sent in
-    let makes = makes_all kept SendControl x tt (can_send_control kept.sound kept.parts there.0 there.1) (x ∷ []) refl c.send.new.log.log sent in
+    let makes = makes_all kept SendControl x tt (can_send_control kept.sound kept.legal kept.parts there.0 there.1) (x ∷ []) refl c.send.new.log.log sent in
     rw (← c.parts.view_is, rw made at e.worker)
     (record { steps = record { names = x ∷ []; tells = rw c.control-message.ensures at e.names; makes = makes; allows = rw made at e.room }; mail = rw made at e.mail })
 

@@ -4,6 +4,7 @@ use Rattle.mp_worker_refinement.proofs.Messages.{keeps_everywhere, messages_kept
 use Rattle.mp_worker_refinement.proofs.Pushed.{edge_fits, edge_is, follows_push, may_push, messages_push}
 use Rattle.mp_worker_sends.proofs.Kept.{follows_kept}
 use Rattle.mp_worker_sends.proofs.push.send.Goals as goal
+use Rattle.mp_model.specs.Tables.{table_of}
 
 pub push-requires-clause-workers : goal.push-requires-clause-workers
 push-requires-clause-workers g c = edge_fits c.requires.outline c.requires.worker c.requires.may c.worker.ensures c.requires.to _ c.requires.at_post.all_workers
@@ -35,7 +36,7 @@ returns-in-Err-clause-mail g c =
     let log = c.args.log.now in
     let old = c.args.post.now in
     let new = c.push.new.self in
-    let o = outline_of (g.Q.Query.facts g.J.Naming.job.rules) g.J.Naming.job in
+    let o = outline_of (table_of g.Q.Query.facts g.J.Naming.job) g.J.Naming.job in
     let e = c.in-Err.ensures in
     record {
       follows = follows_kept o log.worker log.log (g.P.Post.denotes old) (g.P.Post.denotes new) c.worker.result c.args.to e.unchanged e.others;

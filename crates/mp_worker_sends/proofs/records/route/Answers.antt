@@ -14,6 +14,7 @@ use Rattle.mp_worker_refinement.proofs.Alone.{post_same}
 use Rattle.mp_worker_steps.proofs.Keeping.{can_do, kept_by, makes_all}
 use Rattle.mp_worker_sends.proofs.Bundled.{bundle_changes, bundle_may, given_up, receiver_is}
 use Rattle.mp_worker_sends.proofs.records.route.Goals as goal
+use Rattle.mp_model.specs.Tables.{table_of}
 
 pub send_some-requires-clause-owners : goal.send_some-requires-clause-owners
 send_some-requires-clause-owners g c κs within =
@@ -85,7 +86,7 @@ give_back-requires-clause-content g c κs within =
     let named = c.in-Recs.ensures.names ∙ c.in-Err.ensures.back ∙ c.records-message.ensures in
     let b = c.in-Some.bundle in
     rw (same_bundle given.here b c.in-Recs.bundle given.content c.in-Recs.ensures.content named)
-    (subst (λ (n : ℕ). All (IsRecordOf (g.Q.Query.facts g.J.Naming.job.rules) g.J.Naming.job n) b.recs) (given.of_stage ∙ sym e.same_stage) given.content.records)
+    (subst (λ (n : ℕ). All (IsRecordOf (table_of g.Q.Query.facts g.J.Naming.job) g.J.Naming.job n) b.recs) (given.of_stage ∙ sym e.same_stage) given.content.records)
 
 pub give_back-requires-clause-stage : goal.give_back-requires-clause-stage
 give_back-requires-clause-stage g c κs within =
@@ -109,7 +110,7 @@ returns g c =
     let kept = c.parts.invariant in
     let given = given_up kept c.requires.stage c.index_mut-router.ensures.value c.in-Some.is c.in_ok-bundle.ensures.stage c.in_ok-bundle.ensures.content c.in_ok-bundle.ensures.may_go in
     let owner = receiver_is kept given c.recs-recs.ensures c.index-recs-0.is c.shape-bins.ensures.shape c.bin_of.ensures.value c.owner-owner.ensures.owner in
-    let o = outline_of (g.Q.Query.facts g.J.Naming.job.rules) g.J.Naming.job in
+    let o = outline_of (table_of g.Q.Query.facts g.J.Naming.job) g.J.Naming.job in
     let i = c.parts.inside.log in
     let made = c.in_ok-make_room.ensures.made in
     let back = c.in-Err.ensures in

@@ -10,9 +10,10 @@ use Rattle.mp_worker_refinement.proofs.Pushed.{held_may}
 use Rattle.mp_worker_steps.proofs.Keeping.{kept_by, makes_all}
 use Rattle.mp_worker_sends.proofs.Kept.{holds_a_row}
 use Rattle.mp_worker_sends.proofs.rows.send_row.Goals as goal
+use Rattle.mp_model.specs.Tables.{table_of}
 
 pub unreachable-requires : goal.unreachable-requires
-unreachable-requires g c = holds_row (g.Q.Query.facts g.J.Naming.job.rules) g.J.Naming.job c.in-Some.field-0 c.in-Some.ensures.content c.parts.invariant.rows c.in_default-value.not-Row
+unreachable-requires g c = holds_row (table_of g.Q.Query.facts g.J.Naming.job) g.J.Naming.job c.in-Some.field-0 c.in-Some.ensures.content c.parts.invariant.rows c.in_default-value.not-Row
 
 pub returns-in_err-make_room-clause-mail : goal.returns-in_err-make_room-clause-mail
 returns-in_err-make_room-clause-mail g c = rw (← c.parts.view_is, c.in_err-make_room.ensures.unchanged) (post_same _ _ _ _ _ _ _ _ _ _ refl refl)
@@ -63,7 +64,7 @@ returns-in-Ok g c =
 
 pub invariant_of-parts-2 : goal.invariant_of-parts-2
 invariant_of-parts-2 g c =
-    let q = g.Q.Query.facts g.J.Naming.job.rules in
+    let q = table_of g.Q.Query.facts g.J.Naming.job in
     let kept = c.parts.invariant in
     let made = c.in_ok-make_room.ensures.made in
     let back = c.in-Row-into_body in

@@ -3,10 +3,11 @@ use Rattle.mp_names.specs.Logs.{empty_log}
 use Rattle.mp_worker_invariant.specs.Parts.{IsHostAt}
 use Rattle.mp_worker_invariant.proofs.Items.{one_more_at}
 use Rattle.mp_worker_steps.proofs.start.new_hosts.Goals as goal
+use Rattle.mp_model.specs.Tables.{table_of}
 
 pub loop-stage-preserved : goal.loop-stage-preserved
 loop-stage-preserved g c =
-    let q = g.Q.Query.facts g.J.Naming.job.rules in
+    let q = table_of g.Q.Query.facts g.J.Naming.job in
     let all = c.loop-stage.invariant.all in
     let old = c.loop-stage.hosts.items in
     let made = c.in_ok-new in

@@ -2,9 +2,10 @@ use Rattle.std.proofs.Common.{◌≡◌, length}
 use Rattle.mp_names.specs.Logs.{empty_log}
 use Rattle.mp_worker_invariant.specs.Parts.{AtEach, IsHostAt}
 use Rattle.mp_worker_steps.proofs.start.new_hosts.Given as goal
+use Rattle.mp_model.specs.Tables.{table_of}
 
 abbrev pub invariant-loop-stage : goal.invariant-loop-stage
 invariant-loop-stage g l = record {
   all : length l.hosts.items ≡ l.stage;
-  each : AtEach l.hosts.items (IsHostAt (g.Q.Query.facts g.J.Naming.job.rules) g.J.Naming.job l.worker empty_log);
+  each : AtEach l.hosts.items (IsHostAt (table_of g.Q.Query.facts g.J.Naming.job) g.J.Naming.job l.worker empty_log);
 }

@@ -9,6 +9,6 @@ use Rattle.mp_bins.proofs.owners.Owners.moves.Goals as goal
 pub returns : goal.returns
 returns c =
     let kept = c.self.inside.changes.items in
-    let are = subst (λ (n : Notes). AreChangesOf n.shape n.noted kept) c.self.view_is c.self.invariant.3 in
+    let are = subst (λ (n : Notes). AreChangesOf n.layout n.noted kept) c.self.view_is c.self.invariant.3 in
     let moved = subst (λ (ms : List Move). IsPermutation ms c.sort_unstable.new.self.items) c.in_ok-moves.ensures c.sort_unstable.ensures.permutation in
     sorted_is c.args.self.now kept c.sort_unstable.new.self.items are moved c.sort_unstable.ensures.sorted

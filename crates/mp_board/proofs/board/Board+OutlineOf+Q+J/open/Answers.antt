@@ -1,9 +1,10 @@
 use Rattle.std.proofs.Common.{◌≡◌, ◌≤◌, ◌∙◌, ℕ, ap, arith, subst, sym}
 use Rattle.std.specs.Prelude.{replicate}
 use Rattle.mp_names.specs.declared.controls.Shape.{Shape}
-use Rattle.mp_names.specs.Limits.{most_stages_seen}
+use Rattle.mp_names.specs.Limits.{most_stages}
 use Rattle.mp_names.specs.Logs.{empty_log}
 use Rattle.mp_model.specs.Facts.{JobFacts}
+use Rattle.mp_model.specs.Tables.{table_of}
 use Rattle.mp_job.specs.Legal.{JobIsLegal}
 use Rattle.mp_job.specs.Times.{times_of}
 use Rattle.mp_outline.specs.JobOutline.{outline_of}
@@ -21,17 +22,17 @@ invariant_of-result g c =
     let workers = ap (λ (s : Shape). s.workers) shape in
     let stages = ap (λ (s : Shape). s.stages) shape in
     let laws = g.met.Q.Query g.world.𝓛 g.world.𝓜 g.world.𝓡 ((λ s x. x), (λ x. x), (λ x. x), λ x. x) in
-    let q = g.Q.Query.facts job.rules in
-    let legal = subst (λ (j : JobFacts). JobIsLegal (g.Q.Query.facts j.rules) j) c.requires c.shape-shape.ensures.legal in
-    let has = laws.has_stages job.rules in
-    let nothing = laws.later_stages_post_nothing job.rules in
-    let ok = outline_is_sound q has (laws.posts_are_later job.rules) nothing job legal in
-    let few : job.shape.stages ≤ most_stages_seen = omega (arith, has.1, legal.stages) in
+    let q = table_of g.Q.Query.facts job in
+    let legal = subst (λ (j : JobFacts). JobIsLegal (table_of g.Q.Query.facts j) j) c.requires c.shape-shape.ensures.legal in
+    let has = laws.has_stages job.values in
+    let nothing = laws.later_stages_post_nothing job.values in
+    let ok = outline_is_sound q has (laws.posts_are_later job.values) nothing job legal in
+    let few : job.shape.stages ≤ most_stages = omega (arith, has.1, legal.stages) in
     let counts = c.in_ok-counts.counts in
-    let opened = subst (λ (j : JobFacts). let o = outline_of (g.Q.Query.facts j.rules) j in AreOpened o o.workers counts) c.requires c.in_ok-counts.ensures.opened in
+    let opened = subst (λ (j : JobFacts). let o = outline_of (table_of g.Q.Query.facts j) j in AreOpened o o.workers counts) c.requires c.in_ok-counts.ensures.opened in
     let counted_stages : counts.stages ≡ job.shape.stages = c.in_ok-counts.ensures.stages ∙ ap (λ (j : JobFacts). j.shape.stages) c.requires in
-    let times_are : counts.times ≡ times_of q job.events job.controls = c.in_ok-counts.ensures.times ∙ ap (λ (j : JobFacts). times_of (g.Q.Query.facts j.rules) j.events j.controls) c.requires in
-    let times = subst (HoldsAllTimes (outline_of q job)) (sym times_are) (holds_all_times q nothing job ok) in
+    let times_are : counts.times ≡ times_of q job.events job.controls = c.in_ok-counts.ensures.times ∙ ap (λ (j : JobFacts). times_of (table_of g.Q.Query.facts j) j.events j.controls) c.requires in
+    let times = subst (HoldsAllTimes (outline_of q job)) (sym times_are) (holds_all_times q nothing job ok legal) in
     empty_sound (outline_of q job) ok counts counted_stages times opened _ _
     (c.in_ok-logs.ensures ∙ ap (λ (n : ℕ). replicate n empty_log) workers)
     few legal.shape.few_workers c.of-seen.ensures.version

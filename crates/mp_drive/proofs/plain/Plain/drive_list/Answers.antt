@@ -19,28 +19,29 @@ use Rattle.mp_drive.proofs.Made.{counted_more}
 use Rattle.mp_drive.proofs.Refusing.{handed_on, keeps_none, keeps_steps}
 use Rattle.mp_drive.proofs.plain.Plain.drive_list.Given as given
 use Rattle.mp_drive.proofs.plain.Plain.drive_list.Goals as goal
+use Rattle.mp_model.specs.Tables.{table_of}
 
-sound : (g : given.Over) → let job = g.J.Naming.job in let q = g.Q.Query.facts job.rules in JobIsLegal q job → OutlineIsSound (outline_of q job)
+sound : (g : given.Over) → let job = g.J.Naming.job in let q = table_of g.Q.Query.facts job in JobIsLegal q job → OutlineIsSound (outline_of q job)
 sound g legal =
     let laws = g.met.Q.Query g.world.𝓛 g.world.𝓜 g.world.𝓡 ((λ s x. x), (λ x. x), (λ x. x), λ x. x) in
     let job = g.J.Naming.job in
-    outline_is_sound (g.Q.Query.facts job.rules) (laws.has_stages job.rules) (laws.posts_are_later job.rules) (laws.later_stages_post_nothing job.rules) job legal
+    outline_is_sound (table_of g.Q.Query.facts job) (laws.has_stages job.values) (laws.posts_are_later job.values) (laws.later_stages_post_nothing job.values) job legal
 
 pub returns-in_default-clause-kept : goal.returns-in_default-clause-kept
 returns-in_default-clause-kept g c =
     let job = g.J.Naming.job in
-    keeps_none (g.Q.Query.facts job.rules) job c.args.steps.now Memory c.args.self.now (g.S.Sink.written c.args.sink.now) (λ e. cc)
+    keeps_none (table_of g.Q.Query.facts job) job c.args.steps.now Memory c.args.self.now (g.S.Sink.written c.args.sink.now) (λ e. cc)
 
 pub returns-in_default-clause-part : goal.returns-in_default-clause-part
 returns-in_default-clause-part g c = λ before has.
     let job = g.J.Naming.job in
-    let q = g.Q.Query.facts job.rules in
+    let q = table_of g.Q.Query.facts job in
     has_begun q job (sound g c.self.invariant.legal) c.args.self.now.state (subst (λ (u : Driven). AreReached (outline_of q job) u.state) c.self.view_is c.self.invariant.reached) before (g.S.Sink.written c.args.sink.now) has
 
 pub returns-in_err-turn-clause-kept : goal.returns-in_err-turn-clause-kept
 returns-in_err-turn-clause-kept g c =
     let job = g.J.Naming.job in
-    let q = g.Q.Query.facts job.rules in
+    let q = table_of g.Q.Query.facts job in
     let steps = c.args.steps.now in
     let i = c.loop-worker.worker-index in
     let e = c.in_err-turn.ensures in
@@ -54,7 +55,7 @@ returns-in_err-turn-clause-kept g c =
 pub returns-in_err-turn-clause-part : goal.returns-in_err-turn-clause-part
 returns-in_err-turn-clause-part g c = λ before had.
     let job = g.J.Naming.job in
-    let q = g.Q.Query.facts job.rules in
+    let q = table_of g.Q.Query.facts job in
     let p = err_from_is_err_and c.from_residual.result c.from_residual.ensures.1 in
     let reached = subst (λ (u : Driven). AreReached (outline_of q job) u.state) c.self.view_is c.self.invariant.reached in
     let e = c.in_err-turn.ensures in
@@ -83,7 +84,7 @@ returns-clause-appends_only g c = c.loop-worker.invariant.appends
 
 pub loop-worker-preserved : goal.loop-worker-preserved
 loop-worker-preserved g c =
-    let o = outline_of (g.Q.Query.facts g.J.Naming.job.rules) g.J.Naming.job in
+    let o = outline_of (table_of g.Q.Query.facts g.J.Naming.job) g.J.Naming.job in
     let i = c.loop-worker.invariant in
     let next = c.in_ok-turn.ensures in
     let turn = c.in_ok-turn.turn in
@@ -102,7 +103,7 @@ loop-worker-preserved g c =
 
 pub returns-clause-turns : goal.returns-clause-turns
 returns-clause-turns g c =
-    let o = outline_of (g.Q.Query.facts g.J.Naming.job.rules) g.J.Naming.job in
+    let o = outline_of (table_of g.Q.Query.facts g.J.Naming.job) g.J.Naming.job in
     whole o c.args.self.now.state c.loop-worker.self.state c.args.steps.now c.loop-worker.worker-index _ c.loop-worker-test.false c.loop-worker.invariant.lead
 
 pub returns-clause-not_busy : goal.returns-clause-not_busy

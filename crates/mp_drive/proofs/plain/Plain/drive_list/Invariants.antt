@@ -5,9 +5,10 @@ use Rattle.mp_machine.specs.Runs.{made_count}
 use Rattle.mp_worker.specs.declared.turn.Turn.TheVariants.{Busy}
 use Rattle.mp_drive.specs.Driven.{HasWritten, LeadsOn, turn_in}
 use Rattle.mp_drive.proofs.plain.Plain.drive_list.Given as goal
+use Rattle.mp_model.specs.Tables.{table_of}
 
 abbrev pub invariant-loop-worker : goal.invariant-loop-worker
-invariant-loop-worker g l = let job = g.J.Naming.job in let q = g.Q.Query.facts job.rules in record {
+invariant-loop-worker g l = let job = g.J.Naming.job in let q = table_of g.Q.Query.facts job in record {
   room : length l.steps ≤ vec_capacity l.turns;
   many : length l.turns.items ≡ l.worker-index;
   lead : LeadsOn (outline_of q job) (take l.worker-index l.steps) (map turn_in l.turns.items) l.initial.self.state l.self.state;

@@ -17,16 +17,17 @@ use Rattle.mp_drive.proofs.Followed.{LeadsBy, begins_by_none, follows, leads_by_
 use Rattle.mp_drive.proofs.Refusing.{handed_on, refuses_later}
 use Rattle.mp_drive.proofs.plain.Plain.drive_seed.Given as given
 use Rattle.mp_drive.proofs.plain.Plain.drive_seed.Goals as goal
+use Rattle.mp_model.specs.Tables.{table_of}
 
-sound : (g : given.Over) → let job = g.J.Naming.job in let q = g.Q.Query.facts job.rules in JobIsLegal q job → OutlineIsSound (outline_of q job)
+sound : (g : given.Over) → let job = g.J.Naming.job in let q = table_of g.Q.Query.facts job in JobIsLegal q job → OutlineIsSound (outline_of q job)
 sound g legal =
     let laws = g.met.Q.Query g.world.𝓛 g.world.𝓜 g.world.𝓡 ((λ s x. x), (λ x. x), (λ x. x), λ x. x) in
     let job = g.J.Naming.job in
-    outline_is_sound (g.Q.Query.facts job.rules) (laws.has_stages job.rules) (laws.posts_are_later job.rules) (laws.later_stages_post_nothing job.rules) job legal
+    outline_is_sound (table_of g.Q.Query.facts job) (laws.has_stages job.values) (laws.posts_are_later job.values) (laws.later_stages_post_nothing job.values) job legal
 
 pub loop-draws-init : goal.loop-draws-init
 loop-draws-init g c =
-    let o = outline_of (g.Q.Query.facts g.J.Naming.job.rules) g.J.Naming.job in
+    let o = outline_of (table_of g.Q.Query.facts g.J.Naming.job) g.J.Naming.job in
     record {
       by = begins_by_none o c.args.seed c.args.self.now.state;
       counted = omega arith;
@@ -61,7 +62,7 @@ returns-in_err-step_from-clause-failed g c = λ e.
 
 pub returns-in_default-clause-kept : goal.returns-in_default-clause-kept
 returns-in_default-clause-kept g c =
-    let o = outline_of (g.Q.Query.facts g.J.Naming.job.rules) g.J.Naming.job in
+    let o = outline_of (table_of g.Q.Query.facts g.J.Naming.job) g.J.Naming.job in
     let i = c.loop-draws.invariant in
     record {
       n = c.loop-draws.made;
@@ -73,7 +74,7 @@ returns-in_default-clause-kept g c =
 pub returns-in_err-step_from-clause-kept : goal.returns-in_err-step_from-clause-kept
 returns-in_err-step_from-clause-kept g c =
     let job = g.J.Naming.job in
-    let q = g.Q.Query.facts job.rules in
+    let q = table_of g.Q.Query.facts job in
     let o = outline_of q job in
     let i = c.loop-draws.invariant in
     let n = c.loop-draws.made in
@@ -114,7 +115,7 @@ returns-clause-appends_only g c = c.loop-draws.invariant.appends
 
 pub loop-draws-preserved : goal.loop-draws-preserved
 loop-draws-preserved g c =
-    let o = outline_of (g.Q.Query.facts g.J.Naming.job.rules) g.J.Naming.job in
+    let o = outline_of (table_of g.Q.Query.facts g.J.Naming.job) g.J.Naming.job in
     let counted : c.in-Some.counted ≡ c.loop-draws.made + 1 = c.in-Some.ensures.1 in
     let unfinished : AllKnowTheEnd o c.loop-draws.self.state → ⊥ = λ all. let known = c.is_finished.ensures.known.1 all in absurd (cc) in
     let one_more : c.in-Some.counted ≡ suc c.loop-draws.made = omega (arith, counted) in
@@ -131,12 +132,12 @@ loop-draws-preserved g c =
 
 pub returns-clause-made : goal.returns-clause-made
 returns-clause-made g c =
-    let o = outline_of (g.Q.Query.facts g.J.Naming.job.rules) g.J.Naming.job in
+    let o = outline_of (table_of g.Q.Query.facts g.J.Naming.job) g.J.Naming.job in
     follows o c.args.seed c.loop-draws.made c.args.self.now.state c.loop-draws.self.state (sound g c.self.invariant.legal) (subst (λ (u : Driven). AreReached o u.state) c.self.view_is c.self.invariant.reached) c.loop-draws.invariant.by
 
 pub returns-clause-full : goal.returns-clause-full
 returns-clause-full g c =
-    let o = outline_of (g.Q.Query.facts g.J.Naming.job.rules) g.J.Naming.job in
+    let o = outline_of (table_of g.Q.Query.facts g.J.Naming.job) g.J.Naming.job in
     let reached = subst (λ (u : Driven). AreReached o u.state) c.self.view_is c.self.invariant.reached in
     let by = c.loop-draws.invariant.by in
     full_where_all_know o (sound g c.self.invariant.legal) c.loop-draws.self.state (reached.0 ++ by.steps, by.lead.state_is reached.0 reached.1) (c.loop-draws-test.ensures.known.0 refl)

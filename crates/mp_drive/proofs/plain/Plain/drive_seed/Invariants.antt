@@ -5,10 +5,11 @@ use Rattle.mp_drive.specs.Driven.{HasWritten}
 use Rattle.mp_draws.specs.Draws.{state_after}
 use Rattle.mp_drive.proofs.Followed.{LeadsBy}
 use Rattle.mp_drive.proofs.plain.Plain.drive_seed.Given as goal
+use Rattle.mp_model.specs.Tables.{table_of}
 
 abbrev pub invariant-loop-draws : goal.invariant-loop-draws
 invariant-loop-draws g l =
-    let q = g.Q.Query.facts g.J.Naming.job.rules in
+    let q = table_of g.Q.Query.facts g.J.Naming.job in
     record {
       by : LeadsBy (outline_of q g.J.Naming.job) l.seed l.made l.fn.self.state l.self.state;
       counted : l.self.made ≡ l.fn.self.made + l.made;

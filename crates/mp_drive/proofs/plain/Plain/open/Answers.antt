@@ -5,6 +5,7 @@ use Rattle.mp_board.specs.Boards.{ShowsFrontiers}
 use Rattle.mp_job.specs.Legal.{JobIsLegal}
 use Rattle.mp_mailbox.specs.Queues.{empty_queues}
 use Rattle.mp_model.specs.Facts.{JobFacts}
+use Rattle.mp_model.specs.Tables.{table_of}
 use Rattle.mp_outline.specs.JobOutline.{outline_of}
 use Rattle.mp_outline.proofs.Soundness.{outline_is_sound}
 use Rattle.mp_drive.specs.Kept.{together}
@@ -15,17 +16,17 @@ use Rattle.mp_drive.proofs.plain.Plain.open.Goals as goal
 
 pub new_workers-requires-clause-opening : goal.new_workers-requires-clause-opening
 new_workers-requires-clause-opening g c κs within =
-    let o = outline_of (g.Q.Query.facts g.J.Naming.job.rules) g.J.Naming.job in
+    let o = outline_of (table_of g.Q.Query.facts g.J.Naming.job) g.J.Naming.job in
     subst (λ (logs : List Log). ShowsFrontiers o logs c.seen.result) c.in_ok-board.ensures.logs c.seen.ensures.frontiers
 
-legal : (g : given.Over) (c : goal.In_ok-post g) → let job = g.J.Naming.job in JobIsLegal (g.Q.Query.facts job.rules) job
-legal g c = subst (λ (job : JobFacts). JobIsLegal (g.Q.Query.facts job.rules) job) c.requires.job c.shape.ensures.legal
+legal : (g : given.Over) (c : goal.In_ok-post g) → let job = g.J.Naming.job in JobIsLegal (table_of g.Q.Query.facts job) job
+legal g c = subst (λ (job : JobFacts). JobIsLegal (table_of g.Q.Query.facts job) job) c.requires.job c.shape.ensures.legal
 
-sound : (g : given.Over) (c : goal.In_ok-post g) → let job = g.J.Naming.job in OutlineIsSound (outline_of (g.Q.Query.facts job.rules) job)
+sound : (g : given.Over) (c : goal.In_ok-post g) → let job = g.J.Naming.job in OutlineIsSound (outline_of (table_of g.Q.Query.facts job) job)
 sound g c =
     let laws = g.met.Q.Query g.world.𝓛 g.world.𝓜 g.world.𝓡 ((λ s x. x), (λ x. x), (λ x. x), λ x. x) in
     let job = g.J.Naming.job in
-    outline_is_sound (g.Q.Query.facts job.rules) (laws.has_stages job.rules) (laws.posts_are_later job.rules) (laws.later_stages_post_nothing job.rules) job (legal g c)
+    outline_is_sound (table_of g.Q.Query.facts job) (laws.has_stages job.values) (laws.posts_are_later job.values) (laws.later_stages_post_nothing job.values) job (legal g c)
 
 empty : (g : given.Over) (c : goal.In_ok-post g) → c.in_ok-post.post ≡ empty_queues g.J.Naming.job.shape.workers c.args.depth
 empty g c =
@@ -34,7 +35,7 @@ empty g c =
 
 pub invariant_of-result : goal.invariant_of-result
 invariant_of-result g c =
-    let o = outline_of (g.Q.Query.facts g.J.Naming.job.rules) g.J.Naming.job in
+    let o = outline_of (table_of g.Q.Query.facts g.J.Naming.job) g.J.Naming.job in
     let board = c.in_ok-board.ensures in
     let workers = c.in_ok-workers.ensures in
     let t = together c.in_ok-workers.workers.items c.in_ok-board.board c.in_ok-post.post in
@@ -48,7 +49,7 @@ invariant_of-result g c =
 
 pub returns-clause-start : goal.returns-clause-start
 returns-clause-start g c =
-    let o = outline_of (g.Q.Query.facts g.J.Naming.job.rules) g.J.Naming.job in
+    let o = outline_of (table_of g.Q.Query.facts g.J.Naming.job) g.J.Naming.job in
     let board = c.in_ok-board.ensures in
     let workers = c.in_ok-workers.ensures in
     let t = together c.in_ok-workers.workers.items c.in_ok-board.board c.in_ok-post.post in
@@ -57,5 +58,5 @@ returns-clause-start g c =
 pub returns-clause-nothing_written : goal.returns-clause-nothing_written
 returns-clause-nothing_written g c =
     let job = g.J.Naming.job in
-    let q = g.Q.Query.facts job.rules in
+    let q = table_of g.Q.Query.facts job in
     ap (λ (log : Log). written_lines q job.events log) (first_is_empty (outline_of q job) _ c.in_ok-workers.ensures.new)

@@ -14,16 +14,17 @@ use Rattle.mp_drive.proofs.Written.{kept_on_err, written_on_ok}
 use Rattle.mp_drive.proofs.plain.Plain.step.Given as given
 use Rattle.mp_drive.proofs.plain.Plain.step.Goals as goal
 use Rattle.mp_drive.proofs.plain.Plain.step.Goals.{After-made_in, in-Ok, in-Err-Write, in-Err-Memory}
+use Rattle.mp_model.specs.Tables.{table_of}
 
-sound : (g : given.Over) → let job = g.J.Naming.job in let q = g.Q.Query.facts job.rules in JobIsLegal q job → OutlineIsSound (outline_of q job)
+sound : (g : given.Over) → let job = g.J.Naming.job in let q = table_of g.Q.Query.facts job in JobIsLegal q job → OutlineIsSound (outline_of q job)
 sound g legal =
     let laws = g.met.Q.Query g.world.𝓛 g.world.𝓜 g.world.𝓡 ((λ s x. x), (λ x. x), (λ x. x), λ x. x) in
     let job = g.J.Naming.job in
-    outline_is_sound (g.Q.Query.facts job.rules) (laws.has_stages job.rules) (laws.posts_are_later job.rules) (laws.later_stages_post_nothing job.rules) job legal
+    outline_is_sound (table_of g.Q.Query.facts job) (laws.has_stages job.values) (laws.posts_are_later job.values) (laws.later_stages_post_nothing job.values) job legal
 
 pub step-requires-clause-at_post : goal.step-requires-clause-at_post
 step-requires-clause-at_post g c κs within =
-    let o = outline_of (g.Q.Query.facts g.J.Naming.job.rules) g.J.Naming.job in
+    let o = outline_of (table_of g.Q.Query.facts g.J.Naming.job) g.J.Naming.job in
     let kept = c.self.invariant in
     let t = together c.self.inside.workers.items c.self.inside.board c.self.inside.post in
     let s = c.index_mut-worker.result.now in
@@ -31,7 +32,7 @@ step-requires-clause-at_post g c κs within =
 
 pub step-requires-clause-at_hub : goal.step-requires-clause-at_hub
 step-requires-clause-at_hub g c κs within =
-    let o = outline_of (g.Q.Query.facts g.J.Naming.job.rules) g.J.Naming.job in
+    let o = outline_of (table_of g.Q.Query.facts g.J.Naming.job) g.J.Naming.job in
     let kept = c.self.invariant in
     let t = together c.self.inside.workers.items c.self.inside.board c.self.inside.post in
     let s = c.index_mut-worker.result.now in
@@ -42,19 +43,19 @@ was g c =
     let t = together c.self.inside.workers.items c.self.inside.board c.self.inside.post in
     placed t c.args.worker c.index_mut-worker.result.now (omega (arith, c.len.ensures, c.if-worker-len.false)) c.index_mut-worker.ensures.value
 
-told : (g : given.Over) (c : After-made_in g) → let o = outline_of (g.Q.Query.facts g.J.Naming.job.rules) g.J.Naming.job in let s = c.index_mut-worker.result.now in
+told : (g : given.Over) (c : After-made_in g) → let o = outline_of (table_of g.Q.Query.facts g.J.Naming.job) g.J.Naming.job in let s = c.index_mut-worker.result.now in
     Says o c.args.kind c.self.inside.board c.step.new.hub c.self.inside.post c.step.new.post s c.step.new.self c.step.result s.number
 told g c =
-    let o = outline_of (g.Q.Query.facts g.J.Naming.job.rules) g.J.Naming.job in
+    let o = outline_of (table_of g.Q.Query.facts g.J.Naming.job) g.J.Naming.job in
     let e = c.step.ensures in
     says_of o c.args.kind c.self.inside.board c.step.new.hub c.self.inside.post c.step.new.post c.index_mut-worker.result.now c.step.new.self c.step.result e.answers e.exchanges e.others_post_nothing e.mail
 
 writes : (g : given.Over) (c : After-made_in g) → let job = g.J.Naming.job in
-    Writes (g.Q.Query.facts job.rules) job c.args.kind c.index_mut-worker.result.now (g.S.Sink.written c.args.sink.now) (g.S.Sink.written c.step.new.sink) c.step.result
+    Writes (table_of g.Q.Query.facts job) job c.args.kind c.index_mut-worker.result.now (g.S.Sink.written c.args.sink.now) (g.S.Sink.written c.step.new.sink) c.step.result
 writes g c =
     let job = g.J.Naming.job in
     let e = c.step.ensures in
-    writes_of (g.Q.Query.facts job.rules) job g.S.Sink.written g.S.Sink.faults c.args.kind c.index_mut-worker.result.now c.args.sink.now c.step.new.sink c.step.result e.writes e.others_write_nothing
+    writes_of (table_of g.Q.Query.facts job) job g.S.Sink.written g.S.Sink.faults c.args.kind c.index_mut-worker.result.now c.args.sink.now c.step.new.sink c.step.result e.writes e.others_write_nothing
 
 passes : (g : given.Over) (c : After-made_in g) → Passes c.step.result c.match-step.answered
 passes g c =
@@ -66,7 +67,7 @@ passes g c =
 
 pub invariant_of-self : goal.invariant_of-self
 invariant_of-self g c =
-    let o = outline_of (g.Q.Query.facts g.J.Naming.job.rules) g.J.Naming.job in
+    let o = outline_of (table_of g.Q.Query.facts g.J.Naming.job) g.J.Naming.job in
     let kept = c.self.invariant in
     let t = together c.self.inside.workers.items c.self.inside.board c.self.inside.post in
     let s = c.index_mut-worker.result.now in
@@ -85,14 +86,14 @@ invariant_of-self g c =
 
 pub returns-clause-turn : goal.returns-clause-turn
 returns-clause-turn g c =
-    let o = outline_of (g.Q.Query.facts g.J.Naming.job.rules) g.J.Naming.job in
+    let o = outline_of (table_of g.Q.Query.facts g.J.Naming.job) g.J.Naming.job in
     let t = together c.self.inside.workers.items c.self.inside.board c.self.inside.post in
     rw (← c.self.view_is)
     (leads_on_if_ok o (sound g c.self.invariant.legal) t c.args.worker c.args.kind c.index_mut-worker.result.now c.step.new.self c.step.new.hub c.step.new.post (was g c.before) c.step.result c.match-step.answered (passes g c.before) (told g c.before))
 
 pub returns-clause-unchanged : goal.returns-clause-unchanged
 returns-clause-unchanged g c =
-    let o = outline_of (g.Q.Query.facts g.J.Naming.job.rules) g.J.Naming.job in
+    let o = outline_of (table_of g.Q.Query.facts g.J.Naming.job) g.J.Naming.job in
     let t = together c.self.inside.workers.items c.self.inside.board c.self.inside.post in
     rw (← c.self.view_is)
     (leads_nowhere_on_err o (sound g c.self.invariant.legal) t c.args.worker c.args.kind c.index_mut-worker.result.now c.step.new.self c.step.new.hub c.step.new.post (was g c.before) c.step.result c.match-step.answered (passes g c.before) (told g c.before))
@@ -100,7 +101,7 @@ returns-clause-unchanged g c =
 pub returns-clause-written : goal.returns-clause-written
 returns-clause-written g c = λ before has.
     let job = g.J.Naming.job in
-    let q = g.Q.Query.facts job.rules in
+    let q = table_of g.Q.Query.facts job in
     let o = outline_of q job in
     let kept = c.self.invariant in
     let t = together c.self.inside.workers.items c.self.inside.board c.self.inside.post in
@@ -113,7 +114,7 @@ returns-clause-written g c = λ before has.
 pub returns-clause-part : goal.returns-clause-part
 returns-clause-part g c = λ before has.
     let job = g.J.Naming.job in
-    let q = g.Q.Query.facts job.rules in
+    let q = table_of g.Q.Query.facts job in
     let o = outline_of q job in
     let kept = c.self.invariant in
     let t = together c.self.inside.workers.items c.self.inside.board c.self.inside.post in
@@ -125,20 +126,20 @@ returns-clause-part g c = λ before has.
 
 pub returns-clause-not_busy : goal.returns-clause-not_busy
 returns-clause-not_busy g c =
-    let o = outline_of (g.Q.Query.facts g.J.Naming.job.rules) g.J.Naming.job in
+    let o = outline_of (table_of g.Q.Query.facts g.J.Naming.job) g.J.Naming.job in
     let t = together c.self.inside.workers.items c.self.inside.board c.self.inside.post in
     not_busy_if_ok o (sound g c.self.invariant.legal) t c.args.worker c.args.kind c.index_mut-worker.result.now c.step.new.self c.step.new.hub c.step.new.post (was g c.before) c.step.result c.match-step.answered (passes g c.before) (told g c.before)
 
 pub returns-then-worker-len-clause-turn : goal.returns-then-worker-len-clause-turn
 returns-then-worker-len-clause-turn g c =
-    let o = outline_of (g.Q.Query.facts g.J.Naming.job.rules) g.J.Naming.job in
+    let o = outline_of (table_of g.Q.Query.facts g.J.Naming.job) g.J.Naming.job in
     let t = together c.self.inside.workers.items c.self.inside.board c.self.inside.post in
     subst (λ (u : Driven). LeadsOn o ((c.args.worker, c.args.kind) ∷ []) (NotNow ∷ []) u.state u.state) c.self.view_is (leads_on_outside o (sound g c.self.invariant.legal) t c.args.worker c.args.kind c.self.invariant.reached (omega (arith, c.len.ensures, c.if-worker-len.true)))
 
 pub returns-clause-no_fault : goal.returns-clause-no_fault
 returns-clause-no_fault g c = λ not_failed.
     let job = g.J.Naming.job in
-    let quiet = no_fault_of (g.Q.Query.facts job.rules) job g.S.Sink.written g.S.Sink.faults c.args.kind c.index_mut-worker.result.now c.args.sink.now c.step.new.sink c.step.result in
+    let quiet = no_fault_of (table_of g.Q.Query.facts job) job g.S.Sink.written g.S.Sink.faults c.args.kind c.index_mut-worker.result.now c.args.sink.now c.step.new.sink c.step.result in
     let e = c.step.ensures in
     elim c.match-step.branch as (λ b. g.S.Sink.faults c.step.new.sink ≡ g.S.Sink.faults c.args.sink.now) [
       | in-Ok w ↦ let is = w.in-Ok.is in quiet (λ f. cc) e.writes e.others_write_nothing

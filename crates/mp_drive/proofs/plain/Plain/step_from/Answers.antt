@@ -7,6 +7,7 @@ use Rattle.mp_names.specs.Outlines.{Outline, OutlineIsSound}
 use Rattle.mp_outside.proofs.SinkLemmas.{rose_later}
 use Rattle.mp_job.specs.Legal.{JobIsLegal}
 use Rattle.mp_model.specs.Facts.{JobFacts}
+use Rattle.mp_model.specs.Tables.{table_of}
 use Rattle.mp_outline.specs.JobOutline.{outline_of}
 use Rattle.mp_outline.proofs.Soundness.{outline_is_sound}
 use Rattle.mp_machine.specs.Places.{places}
@@ -26,15 +27,15 @@ use Rattle.mp_drive.proofs.plain.Plain.step_from.Given as given
 use Rattle.mp_drive.proofs.plain.Plain.step_from.Goals as goal
 use Rattle.mp_drive.proofs.plain.Plain.step_from.Goals.{in-Did, in_default}
 
-sound : (g : given.Over) → let job = g.J.Naming.job in let q = g.Q.Query.facts job.rules in JobIsLegal q job → OutlineIsSound (outline_of q job)
+sound : (g : given.Over) → let job = g.J.Naming.job in let q = table_of g.Q.Query.facts job in JobIsLegal q job → OutlineIsSound (outline_of q job)
 sound g legal =
     let laws = g.met.Q.Query g.world.𝓛 g.world.𝓜 g.world.𝓡 ((λ s x. x), (λ x. x), (λ x. x), λ x. x) in
     let job = g.J.Naming.job in
-    outline_is_sound (g.Q.Query.facts job.rules) (laws.has_stages job.rules) (laws.posts_are_later job.rules) (laws.later_stages_post_nothing job.rules) job legal
+    outline_is_sound (table_of g.Q.Query.facts job) (laws.has_stages job.values) (laws.posts_are_later job.values) (laws.later_stages_post_nothing job.values) job legal
 
 pub nonzero_rem-start : goal.nonzero_rem-start
 nonzero_rem-start g c =
-    let o = outline_of (g.Q.Query.facts g.J.Naming.job.rules) g.J.Naming.job in
+    let o = outline_of (table_of g.Q.Query.facts g.J.Naming.job) g.J.Naming.job in
     let shape : c.shape-shape.result ≡ g.J.Naming.job.shape = c.shape-shape.ensures.shape ∙ ap (λ (job : JobFacts). job.shape) c.self.invariant.same in
     let count = c.count_of_places-places.ensures.count o (ap (λ (s : Shape). s.workers) (sym shape)) (ap (λ (s : Shape). s.stages) (sym shape)) in
     let some = some_places o c.self.invariant.legal.shape.some_worker in
@@ -42,7 +43,7 @@ nonzero_rem-start g c =
 
 pub loop-tried-init : goal.loop-tried-init
 loop-tried-init g c =
-    let o = outline_of (g.Q.Query.facts g.J.Naming.job.rules) g.J.Naming.job in
+    let o = outline_of (table_of g.Q.Query.facts g.J.Naming.job) g.J.Naming.job in
     record {
       still = still_there o c.args.self.now.state;
       made = refl;
@@ -54,7 +55,7 @@ loop-tried-init g c =
 
 pub overflow_add-start : goal.overflow_add-start
 overflow_add-start g c =
-    let o = outline_of (g.Q.Query.facts g.J.Naming.job.rules) g.J.Naming.job in
+    let o = outline_of (table_of g.Q.Query.facts g.J.Naming.job) g.J.Naming.job in
     let shape : c.shape-shape.result ≡ g.J.Naming.job.shape = c.shape-shape.ensures.shape ∙ ap (λ (job : JobFacts). job.shape) c.self.invariant.same in
     let count = c.count_of_places-places.ensures.count o (ap (λ (s : Shape). s.workers) (sym shape)) (ap (λ (s : Shape). s.stages) (sym shape)) in
     let few = c.count_of_places-places.ensures.few in
@@ -68,14 +69,14 @@ stands_at o draw tried n place count is = subst (λ (m : ℕ). slice_get (places
 
 pub returns-in_err-turn-clause-still : goal.returns-in_err-turn-clause-still
 returns-in_err-turn-clause-still g c =
-    let o = outline_of (g.Q.Query.facts g.J.Naming.job.rules) g.J.Naming.job in
+    let o = outline_of (table_of g.Q.Query.facts g.J.Naming.job) g.J.Naming.job in
     let p = err_from_is_err_and c.from_residual.result c.from_residual.ensures.1 in
     rw p.1 (leads_further o [] [] [] [] c.args.self.now.state c.loop-tried.self.state c.step.new.self.state c.loop-tried.invariant.still c.in_err-turn.ensures.unchanged)
 
 pub returns-in_err-turn-clause-refused : goal.returns-in_err-turn-clause-refused
 returns-in_err-turn-clause-refused g c =
     let job = g.J.Naming.job in
-    let q = g.Q.Query.facts job.rules in
+    let q = table_of g.Q.Query.facts job in
     let o = outline_of q job in
     let shape : c.shape-shape.result ≡ job.shape = c.shape-shape.ensures.shape ∙ ap (λ (its : JobFacts). its.shape) c.self.invariant.same in
     let workers : o.workers ≡ c.shape-shape.result.workers = ap (λ (s : Shape). s.workers) (sym shape) in
@@ -98,7 +99,7 @@ returns-in_err-turn-clause-refused g c =
 pub returns-in_err-turn-clause-part : goal.returns-in_err-turn-clause-part
 returns-in_err-turn-clause-part g c = λ before had.
     let job = g.J.Naming.job in
-    let q = g.Q.Query.facts job.rules in
+    let q = table_of g.Q.Query.facts job in
     let p = err_from_is_err_and c.from_residual.result c.from_residual.ensures.1 in
     let e = c.in_err-turn.ensures in
     let reached = subst (λ (u : Driven). AreReached (outline_of q job) u.state) c.self.view_is c.self.invariant.reached in
@@ -114,7 +115,7 @@ returns-in_err-turn-clause-failed g c = λ e.
 pub returns-then-matches-clause-made : goal.returns-then-matches-clause-made
 returns-then-matches-clause-made g c =
     let job = g.J.Naming.job in
-    let q = g.Q.Query.facts job.rules in
+    let q = table_of g.Q.Query.facts job in
     let o = outline_of q job in
     let shape : c.shape-shape.result ≡ job.shape = c.shape-shape.ensures.shape ∙ ap (λ (its : JobFacts). its.shape) c.self.invariant.same in
     let workers : o.workers ≡ c.shape-shape.result.workers = ap (λ (s : Shape). s.workers) (sym shape) in
@@ -174,7 +175,7 @@ loop-tried-preserved g c =
       | in-Did w ↦ absurd (cc)
       | in_default w ↦
           let job = g.J.Naming.job in
-          let q = g.Q.Query.facts job.rules in
+          let q = table_of g.Q.Query.facts job in
           let o = outline_of q job in
           let shape : c.shape-shape.result ≡ job.shape = c.shape-shape.ensures.shape ∙ ap (λ (its : JobFacts). its.shape) c.self.invariant.same in
           let workers : o.workers ≡ c.shape-shape.result.workers = ap (λ (s : Shape). s.workers) (sym shape) in
@@ -201,7 +202,7 @@ loop-tried-preserved g c =
 pub unreachable-requires : goal.unreachable-requires
 unreachable-requires g c =
     let job = g.J.Naming.job in
-    let q = g.Q.Query.facts job.rules in
+    let q = table_of g.Q.Query.facts job in
     let o = outline_of q job in
     let shape : c.shape-shape.result ≡ job.shape = c.shape-shape.ensures.shape ∙ ap (λ (its : JobFacts). its.shape) c.self.invariant.same in
     let workers : o.workers ≡ c.shape-shape.result.workers = ap (λ (s : Shape). s.workers) (sym shape) in

@@ -5,10 +5,11 @@ use Rattle.mp_machine.specs.Places.{places}
 use Rattle.mp_drive.specs.Driven.{HasWritten, LeadsOn}
 use Rattle.mp_drive.proofs.Tried.{NoneOf}
 use Rattle.mp_drive.proofs.plain.Plain.step_from.Given as goal
+use Rattle.mp_model.specs.Tables.{table_of}
 
 abbrev pub invariant-loop-tried : goal.invariant-loop-tried
 invariant-loop-tried g l =
-    let q = g.Q.Query.facts g.J.Naming.job.rules in
+    let q = table_of g.Q.Query.facts g.J.Naming.job in
     let o = outline_of q g.J.Naming.job in
     record {
       still : LeadsOn o [] [] l.fn.self.state l.self.state;

@@ -5,11 +5,12 @@ use Rattle.mp_worker_refinement.specs.State.{WorkerState}
 use Rattle.mp_drive.specs.Driven.{AreReached, Driven}
 use Rattle.mp_drive.proofs.Counted.{one_more_tells, tallied_at_the_end, tallied_where_complete}
 use Rattle.mp_drive.proofs.plain.Plain.tallies.Goals as goal
+use Rattle.mp_model.specs.Tables.{table_of}
 
 pub loop-worker-preserved : goal.loop-worker-preserved
 loop-worker-preserved g c =
     let job = g.J.Naming.job in
-    let q = g.Q.Query.facts job.rules in
+    let q = table_of g.Q.Query.facts job in
     let i = c.loop-worker.invariant in
     let workers = c.args.self.now.state.workers in
     let tallies = c.loop-worker.tallies.items in
@@ -28,7 +29,7 @@ loop-worker-preserved g c =
 -- as many as there are workers
 pub returns-clause-all : goal.returns-clause-all
 returns-clause-all g c =
-    let o = outline_of (g.Q.Query.facts g.J.Naming.job.rules) g.J.Naming.job in
+    let o = outline_of (table_of g.Q.Query.facts g.J.Naming.job) g.J.Naming.job in
     let same = ap length (c.deref-worker-items.ensures.value ∙ ap (λ (t : Driven). t.state.workers) c.self.view_is) in
     let reached = subst (λ (u : Driven). AreReached o u.state) c.self.view_is c.self.invariant.reached in
     omega (arith, same, c.loop-worker.invariant.many, c.loop-worker-test.false, c.loop-worker.auto.worker-index-end, reached.1.all_workers)
@@ -37,9 +38,9 @@ pub returns-clause-at_the_end : goal.returns-clause-at_the_end
 returns-clause-at_the_end g c = λ w t all at.
     let laws = g.met.Q.Query g.world.𝓛 g.world.𝓜 g.world.𝓡 ((λ s x. x), (λ x. x), (λ x. x), λ x. x) in
     let job = g.J.Naming.job in
-    let q = g.Q.Query.facts job.rules in
+    let q = table_of g.Q.Query.facts job in
     let kept = c.self.invariant in
-    let sound = outline_is_sound q (laws.has_stages job.rules) (laws.posts_are_later job.rules) (laws.later_stages_post_nothing job.rules) job kept.legal in
+    let sound = outline_is_sound q (laws.has_stages job.values) (laws.posts_are_later job.values) (laws.later_stages_post_nothing job.values) job kept.legal in
     let reached = subst (λ (u : Driven). AreReached (outline_of q job) u.state) c.self.view_is kept.reached in
     tallied_at_the_end q job sound c.args.self.now.state reached all c.loop-worker.tallies.items c.loop-worker.invariant.told (returns-clause-all g c) w t at
 
@@ -47,6 +48,6 @@ pub returns-clause-complete : goal.returns-clause-complete
 returns-clause-complete g c = λ w t over at.
     let laws = g.met.Q.Query g.world.𝓛 g.world.𝓜 g.world.𝓡 ((λ s x. x), (λ x. x), (λ x. x), λ x. x) in
     let job = g.J.Naming.job in
-    let q = g.Q.Query.facts job.rules in
-    let sound = outline_is_sound q (laws.has_stages job.rules) (laws.posts_are_later job.rules) (laws.later_stages_post_nothing job.rules) job c.self.invariant.legal in
+    let q = table_of g.Q.Query.facts job in
+    let sound = outline_is_sound q (laws.has_stages job.values) (laws.posts_are_later job.values) (laws.later_stages_post_nothing job.values) job c.self.invariant.legal in
     tallied_where_complete q job sound c.args.self.now.state over c.loop-worker.tallies.items c.loop-worker.invariant.told (returns-clause-all g c) w t at

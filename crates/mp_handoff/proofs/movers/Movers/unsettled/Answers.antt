@@ -7,6 +7,7 @@ use Rattle.mp_outline.specs.JobOutline.{outline_of}
 use Rattle.mp_handoff.proofs.Noting.{told}
 use Rattle.mp_handoff.proofs.Times.{last_found, none_found, upto, upto_first}
 use Rattle.mp_handoff.proofs.movers.Movers.unsettled.Goals as goal
+use Rattle.mp_model.specs.Tables.{table_of}
 
 pub last_in_front-requires : goal.last_in_front-requires
 last_in_front-requires g c = upto_first c.self.inside.unsettled.items c.args.time c.self.invariant.1
@@ -29,9 +30,9 @@ returns-in-None-clause-here g c =
 pub returns-in-Some-clause-told : goal.returns-in-Some-clause-told
 returns-in-Some-clause-told g c =
     let job = g.J.Naming.job in
-    λ log i h new. told (outline_of (g.Q.Query.facts job.rules) job) log c.args.self.now c.args.time i h new _ (returns-in-Some-clause-here g c)
+    λ log i h new. told (outline_of (table_of g.Q.Query.facts job) job) log c.args.self.now c.args.time i h new _ (returns-in-Some-clause-here g c)
 
 pub returns-in-None-clause-told : goal.returns-in-None-clause-told
 returns-in-None-clause-told g c =
     let job = g.J.Naming.job in
-    λ log i h new. told (outline_of (g.Q.Query.facts job.rules) job) log c.args.self.now c.args.time i h new false (returns-in-None-clause-here g c)
+    λ log i h new. told (outline_of (table_of g.Q.Query.facts job) job) log c.args.self.now c.args.time i h new false (returns-in-None-clause-here g c)

@@ -3,6 +3,7 @@ use Rattle.std.proofs.lemmas.List.{length-reverse, take_all}
 use Rattle.mp_names.specs.Logs.{Log, LogIsLegal, with_took}
 use Rattle.mp_names.specs.Names.{has}
 use Rattle.mp_model.specs.declared.record.Rec.{Rec}
+use Rattle.mp_model.specs.Tables.{table_of}
 use Rattle.mp_outline.specs.JobOutline.{name_of_record, outline_of}
 use Rattle.mp_msg.specs.Contents.{IsRecordOf}
 use Rattle.mp_host_laws.specs.HostOf.{IsHostOf}
@@ -13,7 +14,7 @@ use Rattle.mp_host.proofs.host.Host.keep_all.Goals as goal
 pub loop-kept-preserved : goal.loop-kept-preserved
 loop-kept-preserved g c =
     let job = g.J.Naming.job in
-    let q = g.Q.Query.facts job.rules in
+    let q = table_of g.Q.Query.facts job in
     let o = outline_of q job in
     let w = c.args.self.now.worker in
     let j = c.args.self.now.stage in
@@ -44,7 +45,7 @@ loop-kept-preserved g c =
 pub keep-requires-after_bounds : goal.keep-requires-after_bounds
 keep-requires-after_bounds g c =
     let job = g.J.Naming.job in
-    let q = g.Q.Query.facts job.rules in
+    let q = table_of g.Q.Query.facts job in
     let rs = reverse c.args.recs.now.items in
     let i = c.loop-kept._kept in
     let r = c.in-Some.rec in
@@ -55,7 +56,7 @@ keep-requires-after_bounds g c =
 pub returns-clause-held : goal.returns-clause-held
 returns-clause-held g c = λ log host good come.
     let job = g.J.Naming.job in
-    let q = g.Q.Query.facts job.rules in
+    let q = table_of g.Q.Query.facts job in
     let j = c.args.self.now.stage in
     let rs = reverse c.args.recs.now.items in
     let all = take_all c.loop-kept._kept rs (omega (arith, c.loop-kept-test.false, c.requires.count, length-reverse c.args.recs.now.items)) in

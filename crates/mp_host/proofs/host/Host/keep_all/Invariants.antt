@@ -5,11 +5,12 @@ use Rattle.mp_outline.specs.JobOutline.{name_of_record, outline_of}
 use Rattle.mp_host_laws.specs.HostOf.{IsHostOf}
 use Rattle.mp_host.specs.Receiving.{AreToCome, with_all_taken}
 use Rattle.mp_host.proofs.host.Host.keep_all.Given as goal
+use Rattle.mp_model.specs.Tables.{table_of}
 
 abbrev pub invariant-loop-kept : goal.invariant-loop-kept
 invariant-loop-kept g l =
     let job = g.J.Naming.job in
-    let q = g.Q.Query.facts job.rules in
+    let q = table_of g.Q.Query.facts job in
     let o = outline_of q job in
     let w = l.initial.self.worker in
     let j = l.initial.self.stage in

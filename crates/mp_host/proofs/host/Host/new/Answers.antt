@@ -1,6 +1,7 @@
 use Rattle.std.proofs.Common.{◌≡◌, ◌<◌, arith, subst}
 use Rattle.std.proofs.lemmas.List.Elements.{All-weaker}
 use Rattle.mp_model.specs.Facts.{JobFacts}
+use Rattle.mp_model.specs.Tables.{table_of}
 use Rattle.mp_job.specs.Legal.{JobIsLegal}
 use Rattle.mp_host_laws.specs.Hosted.{first_held}
 use Rattle.mp_host_laws.proofs.Beginning.{new_hosts_hold_nothing}
@@ -15,7 +16,7 @@ new-requires-clause-bins g c = rw c.shape.ensures.shape c.in_ok-held.ensures.leg
 pub new-requires-clause-inside : goal.new-requires-clause-inside
 new-requires-clause-inside g c =
     let job = c.args.job.now in
-    let q = g.Q.Query.facts job.rules in
+    let q = table_of g.Q.Query.facts job in
     let fit = first_fit q job c.args.stage c.args.worker job.shape.bins (omega arith) in
     let below = All-weaker (MayBeHeld q job c.args.stage) (λ s. s.bin < job.shape.bins) (λ s f. f.denotes.bin) _ fit in
     rw (c.shape.ensures.shape, c.in_ok-held.ensures.bins) below
@@ -23,18 +24,19 @@ new-requires-clause-inside g c =
 pub new-requires-clause-unwoken : goal.new-requires-clause-unwoken
 new-requires-clause-unwoken g c =
     let job = c.args.job.now in
-    rw c.in_ok-held.ensures.bins (first_without job c.args.worker job.shape.bins)
+    rw c.in_ok-held.ensures.bins (first_without job c.args.stage c.args.worker job.shape.bins)
 
 pub invariant_of-result : goal.invariant_of-result
 invariant_of-result g c = (rw (← c.shape.ensures.shape) c.in_ok-states.ensures.bins, tt)
 
 pub invariant_of-result-2 : goal.invariant_of-result-2
 invariant_of-result-2 g c =
-    let held = subst (λ (j : JobFacts). c.in_ok-held.held.items ≡ first_held j c.args.worker j.shape.bins) c.requires.job c.in_ok-held.ensures.bins in
-    let legal = subst (λ (j : JobFacts). JobIsLegal (g.Q.Query.facts j.rules) j) c.requires.job c.in_ok-held.ensures.legal in
+    let held = subst (λ (j : JobFacts). c.in_ok-held.held.items ≡ first_held j c.args.stage c.args.worker j.shape.bins) c.requires.job c.in_ok-held.ensures.bins in
+    let legal = subst (λ (j : JobFacts). JobIsLegal (table_of g.Q.Query.facts j) j) c.requires.job c.in_ok-held.ensures.legal in
     new_hosted _ g.J.Naming.job _ _ c.requires.job legal c.requires.stage c.requires.worker (record { records = c.new-2.ensures; held = rw (← c.in_ok-states.ensures.held) at held })
 
 pub returns-clause-held : goal.returns-clause-held
 returns-clause-held g c =
-    let held = subst (λ (j : JobFacts). c.in_ok-held.held.items ≡ first_held j c.args.worker j.shape.bins) c.requires.job c.in_ok-held.ensures.bins in
-    new_hosts_hold_nothing (g.Q.Query.facts g.J.Naming.job.rules) g.J.Naming.job _ (record { records = c.new-2.ensures; held = rw (← c.in_ok-states.ensures.held) at held })
+    let held = subst (λ (j : JobFacts). c.in_ok-held.held.items ≡ first_held j c.args.stage c.args.worker j.shape.bins) c.requires.job c.in_ok-held.ensures.bins in
+    let legal = subst (λ (j : JobFacts). JobIsLegal (table_of g.Q.Query.facts j) j) c.requires.job c.in_ok-held.ensures.legal in
+    new_hosts_hold_nothing (table_of g.Q.Query.facts g.J.Naming.job) g.J.Naming.job legal _ (record { records = c.new-2.ensures; held = rw (← c.in_ok-states.ensures.held) at held })

@@ -1,7 +1,9 @@
 use Rattle.std.proofs.Common.{◌≡◌, ◌<◌, ◌∙◌, ℕ, List, [], true, false, ap, arith, length, map, subst, sym, take}
 use Rattle.mp_model.specs.declared.record.Rec.{Rec}
+use Rattle.mp_model.specs.Tables.{table_of}
 use Rattle.mp_outline.specs.JobOutline.{name_of_record, outline_of}
 use Rattle.mp_outline.proofs.Soundness.{outline_is_sound}
+use Rattle.mp_outline.proofs.Whole.{nothing_opens}
 use Rattle.mp_rows_laws.specs.Changes.{new_groups}
 use Rattle.mp_rows_laws.proofs.Pushes.{or_false}
 use Rattle.mp_rows_laws.proofs.Took.{unapplied}
@@ -15,7 +17,7 @@ use Rattle.mp_host.proofs.host.Host.new_groups.Goals.{then-begins_group, else-be
 pub loop-at-preserved : goal.loop-at-preserved
 loop-at-preserved g c =
     let job = g.J.Naming.job in
-    let o = outline_of (g.Q.Query.facts job.rules) job in
+    let o = outline_of (table_of g.Q.Query.facts job) job in
     let h = c.args.self.now in
     let rs = c.recs-recs.result.now in
     let i = c.loop-at.at in
@@ -36,16 +38,16 @@ pub returns-clause-told : goal.returns-clause-told
 returns-clause-told g c = λ log host good come.
     let laws = g.met.Q.Query g.world.𝓛 g.world.𝓜 g.world.𝓡 ((λ s x. x), (λ x. x), (λ x. x), λ x. x) in
     let job = g.J.Naming.job in
-    let q = g.Q.Query.facts job.rules in
+    let q = table_of g.Q.Query.facts job in
     let o = outline_of q job in
     let h = c.args.self.now in
     let j = h.stage in
     let rs = c.args.bundle.now.recs in
-    let sound = outline_is_sound q (laws.has_stages job.rules) (laws.posts_are_later job.rules) (laws.later_stages_post_nothing job.rules) job c.self.invariant.legal in
+    let sound = outline_is_sound q (laws.has_stages job.values) (laws.posts_are_later job.values) (laws.later_stages_post_nothing job.values) job c.self.invariant.legal in
     let order = subst (λ (k : Hosted g.row.Q-Cell.Denot). StandsInOrder q job k) c.self.view_is c.self.invariant.order in
     let coming : AreToCome o log h.worker (map (name_of_record j) rs) = subst (λ (n : ℕ). AreToCome o log h.worker (map (name_of_record n) rs)) c.requires come in
     let whole = subst (λ (ys : List Rec). c.loop-at.count ≡ groups_begun h [] ys) c.recs-recs.ensures (all_begun h c.recs-recs.result.now c.loop-at.at c.loop-at.count (omega (arith, c.loop-at-test.false)) c.loop-at.invariant.whole) in
     let new = begun_is_new o h.worker j h rs [] log
     (λ r i. unapplied o h.worker log good j r.time r.key r.tag (coming.owed (name_of_record j r) i) (coming.fresh (name_of_record j r) i))
-    (λ t k n. sym (waits_is_pending q job sound log h host good order t k) ∙ sym (or_false (waits_at h t k))) in
-    whole ∙ new ∙ ap (λ (n : ℕ). new_groups o log (map (name_of_record n) rs)) (sym c.requires)
+    (λ t k n. sym (waits_is_pending q job sound (nothing_opens q job c.self.invariant.legal) log h host good order t k) ∙ sym (or_false (waits_at h t k))) in
+    whole ∙ new ∙ ap (λ (n : ℕ). new_groups o h.worker log (map (name_of_record n) rs)) (sym c.requires)

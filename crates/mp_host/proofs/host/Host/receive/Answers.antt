@@ -8,11 +8,12 @@ use Rattle.mp_host.proofs.Kept.{hosted_still, states_fit}
 use Rattle.mp_host.proofs.Several.{same_host}
 use Rattle.mp_host.proofs.host.Host.receive.Goals as goal
 use Rattle.mp_host.proofs.host.Host.receive.Goals.{else-room-count-via-then-room-count+else-is_err, else-room-count-via-else-room-count}
+use Rattle.mp_model.specs.Tables.{table_of}
 
 pub keep_all-requires-clause-content : goal.keep_all-requires-clause-content
 keep_all-requires-clause-content g c =
     let job = g.J.Naming.job in
-    let q = g.Q.Query.facts job.rules in
+    let q = table_of g.Q.Query.facts job in
     let items = ap reverse c.reverse.ensures.items ∙ reverse-reverse c.into_recs-recs.result.items ∙ c.into_recs-recs.ensures in
     let stage : c.else-room-count.self.stage ≡ c.args.self.now.stage = elim c.else-room-count.branch [
       | else-room-count-via-then-room-count+else-is_err w ↦ ap (λ (h : Hosted g.row.Q-Cell.Denot). h.stage) w.self-is ∙ ap (λ (h : Hosted g.row.Q-Cell.Denot). h.stage) c.self.view_is
@@ -33,7 +34,7 @@ invariant_of-self g c =
 pub returns-clause-held : goal.returns-clause-held
 returns-clause-held g c =
     let job = g.J.Naming.job in
-    let q = g.Q.Query.facts job.rules in
+    let q = table_of g.Q.Query.facts job in
     let items = ap reverse c.reverse.ensures.items ∙ reverse-reverse c.into_recs-recs.result.items ∙ c.into_recs-recs.ensures in
     let stage : c.else-room-count.self.stage ≡ c.args.self.now.stage = elim c.else-room-count.branch [
       | else-room-count-via-then-room-count+else-is_err w ↦ ap (λ (h : Hosted g.row.Q-Cell.Denot). h.stage) w.self-is ∙ ap (λ (h : Hosted g.row.Q-Cell.Denot). h.stage) c.self.view_is

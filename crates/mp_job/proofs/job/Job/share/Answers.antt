@@ -5,15 +5,15 @@ use Rattle.mp_job.proofs.job.Job.share.Goals as goal
 
 pub index-requires : goal.index-requires
 index-requires g c =
-    let q = g.Q.Query.facts (g.Q.Query.rules c.self.inside.query) in
+    let q = g.Q.Query.facts (g.Q.Query.values c.self.inside.query) in
     let there = rw (← c.self.view_is) at c.requires in
-    let count = length-shares q c.self.inside.events.items c.self.inside.shares.items c.self.inside.shape.workers c.self.invariant.shares_are in
+    let count = length-shares q c.self.inside.events.items c.self.inside.shares.items c.self.inside.owners.shape.workers c.self.invariant.shares_are in
     grind (arith, common_steps)
 
 pub returns : goal.returns
 returns g c =
-    let q = g.Q.Query.facts (g.Q.Query.rules c.self.inside.query) in
+    let q = g.Q.Query.facts (g.Q.Query.values c.self.inside.query) in
     let there = rw (← c.self.view_is) at c.requires in
     rw
     (← c.self.view_is)
-    (c.as_slice.ensures ∙ c.index.ensures ∙ share-at q c.self.inside.events.items c.self.inside.shares.items c.self.inside.shape.workers c.args.worker c.index.result.now c.self.invariant.shares_are there)
+    (c.as_slice.ensures ∙ c.index.ensures ∙ share-at q c.self.inside.events.items c.self.inside.shares.items c.self.inside.owners.shape.workers c.args.worker c.index.result.now c.self.invariant.shares_are there)

@@ -3,6 +3,7 @@ use Rattle.std.proofs.lemmas.Result.{on_err_weaker}
 use Rattle.mp_model.specs.declared.record.Output.{Output}
 use Rattle.mp_model.specs.declared.value.Value.TheVariants.{Row}
 use Rattle.mp_model.specs.Stages.{answer_rows}
+use Rattle.mp_model.specs.Tables.{table_of}
 use Rattle.mp_ordered.specs.InOrder.{InOrder}
 use Rattle.mp_output.proofs.Held.{all_received, held_once_received}
 use Rattle.mp_output.proofs.rows.Rows.receive.Goals as goal
@@ -10,7 +11,7 @@ use Rattle.mp_output.proofs.rows.Rows.receive.Goals as goal
 pub invariant_of-self : goal.invariant_of-self
 invariant_of-self g c =
     let row : Output = record { time = c.args.time; tag = c.args.tag; value = Row c.args.fields } in
-    let rows = answer_rows (g.Q.Query.facts g.J.Naming.job.rules) g.J.Naming.job.events in
+    let rows = answer_rows (table_of g.Q.Query.facts g.J.Naming.job) g.J.Naming.job.events in
     all_received (Contains rows) row c.self.inside.rows.items c.insert.new.self.items c.insert.result c.insert.ensures.put (on_err_weaker c.insert.result (λ e. ap (λ (o : InOrder Output). o.items) e) c.insert.ensures.unchanged) c.requires c.self.invariant
 
 pub returns-clause-held : goal.returns-clause-held

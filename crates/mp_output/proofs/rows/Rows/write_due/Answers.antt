@@ -3,6 +3,7 @@ use Rattle.std.proofs.lemmas.List.Elements.{All-drop}
 use Rattle.mp_names.specs.declared.locations.Loc.TheVariants.{OutMail}
 use Rattle.mp_stamps.specs.Seen.{seen_at}
 use Rattle.mp_model.specs.Stages.{answer_rows}
+use Rattle.mp_model.specs.Tables.{table_of}
 use Rattle.mp_outside.proofs.SinkLemmas.{grown-nothing}
 use Rattle.mp_output.proofs.Held.{written_held}
 use Rattle.mp_output.proofs.Whole.{time_is_whole}
@@ -17,7 +18,7 @@ returns-in_err-piece-clause-part g c = on_err c.from_residual.result (c.in-Some.
 
 pub returns-in_err-piece-clause-part_of_answer : goal.returns-in_err-piece-clause-part_of_answer
 returns-in_err-piece-clause-part_of_answer g c =
-    let q = g.Q.Query.facts g.J.Naming.job.rules in
+    let q = table_of g.Q.Query.facts g.J.Naming.job in
     let seen = seen_at c.args.seen.now OutMail in
     let rows = c.self.inside.rows.items in
     let order = rw (← c.self.view_is) at c.due.ensures.in_order in
@@ -26,7 +27,7 @@ returns-in_err-piece-clause-part_of_answer g c =
 
 pub returns-in_err-write_piece-clause-part_of_answer : goal.returns-in_err-write_piece-clause-part_of_answer
 returns-in_err-write_piece-clause-part_of_answer g c =
-    let q = g.Q.Query.facts g.J.Naming.job.rules in
+    let q = table_of g.Q.Query.facts g.J.Naming.job in
     let seen = seen_at c.args.seen.now OutMail in
     let rows = c.self.inside.rows.items in
     let order = rw (← c.self.view_is) at c.due.ensures.in_order in
@@ -34,7 +35,7 @@ returns-in_err-write_piece-clause-part_of_answer g c =
     (rw (← c.self.view_is) (λ log t h due. (due_is_least log seen rows t order due h, λ closed. time_is_whole q g.J.Naming.job log seen rows t order c.self.invariant due h closed)))
 
 pub invariant_of-self : goal.invariant_of-self
-invariant_of-self g c = rw c.drop_first.ensures.items (All-drop (Contains (answer_rows (g.Q.Query.facts g.J.Naming.job.rules) g.J.Naming.job.events)) c.count_at-count.result c.self.inside.rows.items c.self.invariant)
+invariant_of-self g c = rw c.drop_first.ensures.items (All-drop (Contains (answer_rows (table_of g.Q.Query.facts g.J.Naming.job) g.J.Naming.job.events)) c.count_at-count.result c.self.inside.rows.items c.self.invariant)
 
 pub returns-clause-next : goal.returns-clause-next
 returns-clause-next g c =
@@ -47,5 +48,5 @@ returns-clause-next g c =
 
 pub returns-clause-answer : goal.returns-clause-answer
 returns-clause-answer g c =
-    let q = g.Q.Query.facts g.J.Naming.job.rules in
+    let q = table_of g.Q.Query.facts g.J.Naming.job in
     rw (← c.self.view_is) (λ log h closed. time_is_whole q g.J.Naming.job log (seen_at c.args.seen.now OutMail) c.self.inside.rows.items c.in-Some.time (rw (← c.self.view_is) at c.due.ensures.in_order) c.self.invariant (rw (← c.self.view_is) at c.in-Some.ensures.some) h closed)

@@ -2,6 +2,7 @@ use Rattle.std.proofs.Common.{◌≡◌, ◌∙◌, ◌++◌, ◌∷◌, [], ℕ
 use Rattle.std.proofs.lemmas.List.{map-append}
 use Rattle.mp_names.specs.declared.names.Name.{Name}
 use Rattle.mp_model.specs.declared.record.Rec.{Rec}
+use Rattle.mp_model.specs.Tables.{table_of}
 use Rattle.mp_outline.specs.JobOutline.{name_of_record}
 use Rattle.mp_msg.specs.Contents.{IsRecordOf}
 use Rattle.mp_route.specs.Unsent.{HoldsAllBut}
@@ -22,7 +23,7 @@ loop-rec-init g c =
 pub loop-rec-preserved : goal.loop-rec-preserved
 loop-rec-preserved g c =
     let job = g.J.Naming.job in
-    let q = g.Q.Query.facts job.rules in
+    let q = table_of g.Q.Query.facts job in
     let j = c.args.self.now.stage in
     let f = name_of_record j in
     let left = c.pop.new.self.items in
@@ -42,7 +43,7 @@ loop-rec-preserved g c =
 pub returns-clause-in_turn : goal.returns-clause-in_turn
 returns-clause-in_turn g c =
     let job = g.J.Naming.job in
-    let q = g.Q.Query.facts job.rules in
+    let q = table_of g.Q.Query.facts job in
     let j = c.args.self.now.stage in
     λ w log rest h.
     let names = ap (λ (rs : List Rec). map (name_of_record j) rs ++ rest) c.into_recs-recs.ensures in

@@ -6,11 +6,12 @@ use Rattle.mp_outline.specs.JobOutline.{name_of_record}
 use Rattle.mp_msg.specs.Contents.{IsRecordOf}
 use Rattle.mp_route.specs.Unsent.{HoldsAllBut}
 use Rattle.mp_route.proofs.router.Router.give_back.Given as goal
+use Rattle.mp_model.specs.Tables.{table_of}
 
 abbrev pub invariant-loop-rec : goal.invariant-loop-rec
 invariant-loop-rec g l =
     let job = g.J.Naming.job in
-    let q = g.Q.Query.facts job.rules in
+    let q = table_of g.Q.Query.facts job in
     let j = l.initial.self.stage in
     record {
       stage : l.self.stage ≡ j;

@@ -1,5 +1,6 @@
 use Rattle.mp_route.proofs.Going.{first_may_go, is_least_held, is_passed, may_go_first, not_passed}
 use Rattle.mp_route.proofs.router.Router.next_free.Goals as goal
+use Rattle.mp_model.specs.Tables.{table_of}
 
 pub returns-then-not-passed-clause-none_may : goal.returns-then-not-passed-clause-none_may
 returns-then-not-passed-clause-none_may g c =
@@ -8,7 +9,7 @@ returns-then-not-passed-clause-none_may g c =
     let r = c.in_ok-first.first.now in
     let first = c.in_ok-first.ensures.some in
     rw (← c.self.view_is) (λ w log x h m.
-    not_passed c.args.seen.now c.frontier.result r.time c.frontier.ensures c.if-not-passed.ensures.1 (may_go_first s.stage s.held r first c.first.ensures.in_order (g.Q.Query.facts job.rules) job c.self.invariant.1 w log h c.args.seen.now x m))
+    not_passed c.args.seen.now c.frontier.result r.time c.frontier.ensures c.if-not-passed.ensures.1 (may_go_first s.stage s.held r first c.first.ensures.in_order (table_of g.Q.Query.facts job) job c.self.invariant.1 w log h c.args.seen.now x m))
 
 pub returns-clause-least : goal.returns-clause-least
 returns-clause-least g c =
@@ -23,4 +24,4 @@ returns-clause-may_go g c =
     let r = c.in_ok-first.first.now in
     let passed = is_passed c.args.seen.now c.frontier.result r.time c.frontier.ensures c.if-not-passed.ensures.0 in
     rw (← c.self.view_is) (λ w log h.
-    first_may_go s.stage s.held r c.in_ok-first.ensures.some c.first.ensures.in_order (g.Q.Query.facts job.rules) job c.self.invariant.1 w log h c.args.seen.now passed)
+    first_may_go s.stage s.held r c.in_ok-first.ensures.some c.first.ensures.in_order (table_of g.Q.Query.facts job) job c.self.invariant.1 w log h c.args.seen.now passed)

@@ -14,6 +14,7 @@ use Rattle.mp_route.proofs.Going.{first_is}
 use Rattle.mp_route.proofs.Parted.{left_all}
 use Rattle.mp_route.proofs.Sent.{all_sent, taken_out}
 use Rattle.mp_route.proofs.router.Router.send_some.Goals as goal
+use Rattle.mp_model.specs.Tables.{table_of}
 
 pub take_along-requires-clause-first : goal.take_along-requires-clause-first
 take_along-requires-clause-first g c =
@@ -29,7 +30,7 @@ invariant_of-self g c =
 pub invariant_of-self-2 : goal.invariant_of-self-2
 invariant_of-self-2 g c =
     let job = g.J.Naming.job in
-    let q = g.Q.Query.facts job.rules in
+    let q = table_of g.Q.Query.facts job in
     let s = c.self.inside in
     let t = c.in_ok-recs.ensures.taken in
     let P = IsRecordOf q job s.stage in
@@ -39,7 +40,7 @@ invariant_of-self-2 g c =
 pub returns-clause-content : goal.returns-clause-content
 returns-clause-content g c =
     let job = g.J.Naming.job in
-    let q = g.Q.Query.facts job.rules in
+    let q = table_of g.Q.Query.facts job in
     let s = c.self.inside in
     let seen = c.args.seen.now in
     let r = c.in-Some-first.first.now in
@@ -54,7 +55,7 @@ returns-clause-content g c =
 pub returns-clause-may_go : goal.returns-clause-may_go
 returns-clause-may_go g c =
     let job = g.J.Naming.job in
-    let q = g.Q.Query.facts job.rules in
+    let q = table_of g.Q.Query.facts job in
     let s = c.self.inside in
     let seen = c.args.seen.now in
     let r = c.in-Some-first.first.now in
@@ -70,14 +71,14 @@ returns-clause-may_go g c =
 pub returns-clause-all_but : goal.returns-clause-all_but
 returns-clause-all_but g c =
     let job = g.J.Naming.job in
-    let q = g.Q.Query.facts job.rules in
+    let q = table_of g.Q.Query.facts job in
     let s = c.self.inside in
     rw (← c.self.view_is, c.new.ensures) (λ w log h. taken_out q job w log s.stage c.args.owners.now c.along_with-along.result s.held c.take_along.new.held c.in_ok-recs.recs.items c.in_ok-recs.ensures.taken h)
 
 pub returns-clause-unsent : goal.returns-clause-unsent
 returns-clause-unsent g c =
     let job = g.J.Naming.job in
-    let q = g.Q.Query.facts job.rules in
+    let q = table_of g.Q.Query.facts job in
     let s = c.self.inside in
     rw (← c.self.view_is, c.new.ensures) (λ w log h.
     all_sent q job w log (map (name_of_record s.stage) c.in_ok-recs.recs.items) (record { stage = s.stage; held = c.take_along.new.held.items; room = c.take_along.new.held.room })

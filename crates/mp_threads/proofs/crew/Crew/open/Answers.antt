@@ -1,28 +1,27 @@
-use Rattle.std.proofs.Common.{ℕ, List, ap, ◌∙◌, subst, sym}
-use Rattle.mp_names.specs.Logs.{Log}
-use Rattle.mp_board.specs.Boards.{Posted, ShowsFrontiers}
+use Rattle.std.proofs.Common.{List, ℕ, ap, length, ◌∙◌, subst, sym}
+use Rattle.std.proofs.lemmas.List.{length-replicate}
+use Rattle.mp_names.specs.Logs.{Log, empty_log}
+use Rattle.mp_board.specs.Boards.{ShowsFrontiers}
 use Rattle.mp_model.specs.Facts.{JobFacts}
+use Rattle.mp_model.specs.Tables.{table_of}
 use Rattle.mp_outline.specs.JobOutline.{outline_of}
 use Rattle.mp_ruled.specs.Posts.{AreNewPosts}
-use Rattle.mp_seat.specs.Seats.{LockIdentity}
-use Rattle.mp_threads.proofs.Begun.{new_seats_as}
 use Rattle.mp_threads.proofs.crew.Crew.open.Goals as goal
+
+pub open_hubs-requires-clause-logs : goal.open_hubs-requires-clause-logs
+open_hubs-requires-clause-logs g c =
+    let count = ap (λ s. s.workers) c.shape-workers.ensures.shape ∙ ap (λ (job : JobFacts). job.shape.workers) c.requires.job in
+    ap length c.in_ok-board.ensures.logs ∙ length-replicate g.J.Naming.job.shape.workers empty_log ∙ sym count
 
 pub new_members-requires-clause-opening : goal.new_members-requires-clause-opening
 new_members-requires-clause-opening g c κs within =
-    let o = outline_of (g.Q.Query.facts g.J.Naming.job.rules) g.J.Naming.job in
+    let o = outline_of (table_of g.Q.Query.facts g.J.Naming.job) g.J.Naming.job in
     subst (λ (logs : List Log). ShowsFrontiers o logs c.seen-seen.result) c.in_ok-board.ensures.logs c.seen-seen.ensures.frontiers
 
-pub new_members-requires-clause-seats : goal.new_members-requires-clause-seats
-new_members-requires-clause-seats g c κs within =
+pub new_members-requires-clause-hubs : goal.new_members-requires-clause-hubs
+new_members-requires-clause-hubs g c κs within =
     let count = ap (λ s. s.workers) c.shape-workers.ensures.shape ∙ ap (λ (job : JobFacts). job.shape.workers) c.requires.job in
-    let lock = c.in_ok-lock-2.ensures.ok in
-    let rows = ap (λ (b : Posted). b.logs) c.in_ok-shared.ensures ∙ c.in_ok-board.ensures.logs in
-    let version = ap (λ (b : Posted). b.version) c.in_ok-shared.ensures ∙ sym c.seen-seen.ensures.version in (
-      c.in_ok-lock.ensures.many ∙ count,
-      ap (λ (l : LockIdentity). l.seats) lock ∙ (c.in_ok-lock.ensures.lock ∙ count),
-      new_seats_as _ _ _ _ _ _ c.in_ok-lock.seats.items (sym lock) rows version c.in_ok-lock.ensures.seats,
-    )
+    (c.in_ok-hubs.ensures.many ∙ count, rw (c.in_ok-board.ensures.logs, sym c.seen-seen.ensures.version) at c.in_ok-hubs.ensures.new)
 
 pub new_members-requires-clause-new_posts : goal.new_members-requires-clause-new_posts
 new_members-requires-clause-new_posts g c κs within =

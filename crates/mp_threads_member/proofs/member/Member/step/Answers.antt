@@ -4,10 +4,11 @@ use Rattle.mp_threads_member.specs.Members.{MemberState}
 use Rattle.mp_threads_member.proofs.Driven.{step_goes_on, step_stops}
 use Rattle.mp_threads_member.proofs.Stays.{member_stays, number_stays}
 use Rattle.mp_threads_member.proofs.member.Member.step.Goals as goal
+use Rattle.mp_model.specs.Tables.{table_of}
 
 pub invariant_of-self : goal.invariant_of-self
 invariant_of-self g c =
-    let o = outline_of (g.Q.Query.facts g.J.Naming.job.rules) g.J.Naming.job in
+    let o = outline_of (table_of g.Q.Query.facts g.J.Naming.job) g.J.Naming.job in
     let i = c.self.inside in
     let e = c.step.ensures in
     let old : MemberState = record { worker = i.worker; post = i.post; hub = i.hub } in
@@ -20,7 +21,7 @@ returns-clause-goes_on g c =
     let i = c.self.inside in
     let e = c.step.ensures in
     rw (← c.self.view_is)
-    (step_goes_on (g.Q.Query.facts job.rules) job g.S.Sink.written g.S.Sink.faults g.S.Sink.frame (SenderHadRoom i.post) (SenderWasFull i.post) (ReceiverWasEmpty i.post) c.args.kind i.worker c.step.new.self c.args.sink.now c.step.new.sink e.others_write_nothing e.appends_only c.step.result e.answers e.writes)
+    (step_goes_on (table_of g.Q.Query.facts job) job g.S.Sink.written g.S.Sink.faults g.S.Sink.frame (SenderHadRoom i.post) (SenderWasFull i.post) (ReceiverWasEmpty i.post) c.args.kind i.worker c.step.new.self c.args.sink.now c.step.new.sink e.others_write_nothing e.appends_only c.step.result e.answers e.writes)
 
 pub returns-clause-stops : goal.returns-clause-stops
 returns-clause-stops g c =
@@ -29,7 +30,7 @@ returns-clause-stops g c =
     let e = c.step.ensures in
     let known = c.log_is_known.ensures in
     rw (← c.self.view_is)
-    (step_stops (g.Q.Query.facts job.rules) job g.S.Sink.written g.S.Sink.faults g.S.Sink.frame (SenderHadRoom i.post) (SenderWasFull i.post) (ReceiverWasEmpty i.post) c.args.kind i.worker c.step.new.self c.args.sink.now c.step.new.sink e.others_write_nothing e.appends_only known.legal known.writing c.step.result e.answers e.writes)
+    (step_stops (table_of g.Q.Query.facts job) job g.S.Sink.written g.S.Sink.faults g.S.Sink.frame (SenderHadRoom i.post) (SenderWasFull i.post) (ReceiverWasEmpty i.post) c.args.kind i.worker c.step.new.self c.args.sink.now c.step.new.sink e.others_write_nothing e.appends_only known.legal known.writing c.step.result e.answers e.writes)
 
 pub returns-clause-answers : goal.returns-clause-answers
 returns-clause-answers g c = rw (← c.self.view_is) c.step.ensures.answers

@@ -5,6 +5,7 @@ use Rattle.mp_names.specs.declared.kinds.Kind.{Kind}
 use Rattle.mp_names.specs.Outlines.{Outline}
 use Rattle.mp_machine.specs.Steps.{KindFits}
 use Rattle.mp_model.specs.Facts.{JobFacts, QueryFacts}
+use Rattle.mp_model.specs.Tables.{table_of}
 use Rattle.mp_outline.specs.JobOutline.{outline_of}
 use Rattle.mp_worker.proofs.worker.Worker.step_by_mail.Goals as goal
 
@@ -18,15 +19,15 @@ fits_outline q job shape kind fits is tells =
 pub returns-then-not-fits-clause-steps : goal.returns-then-not-fits-clause-steps
 returns-then-not-fits-clause-steps g c =
     let job = g.J.Naming.job in
-    let fits = fits_outline (g.Q.Query.facts job.rules) job _ c.args.kind _ c.shape.ensures c.fits.ensures in
+    let fits = fits_outline (table_of g.Q.Query.facts job) job _ c.args.kind _ c.shape.ensures c.fits.ensures in
     ((λ x can. absurd (both_ways _ c.if-not-fits.true (fits.1 can.fits))), refl)
 
 pub step_that_fits-requires-clause-fits : goal.step_that_fits-requires-clause-fits
 step_that_fits-requires-clause-fits g c κs within =
     let job = g.J.Naming.job in
-    (fits_outline (g.Q.Query.facts job.rules) job _ c.args.kind _ c.shape.ensures c.fits.ensures).0 c.if-not-fits.false
+    (fits_outline (table_of g.Q.Query.facts job) job _ c.args.kind _ c.shape.ensures c.fits.ensures).0 c.if-not-fits.false
 
 pub returns-clause-fits : goal.returns-clause-fits
 returns-clause-fits g c = λ other.
     let job = g.J.Naming.job in
-    absurd (other ((fits_outline (g.Q.Query.facts job.rules) job _ c.args.kind _ c.shape.ensures c.fits.ensures).0 c.if-not-fits.false))
+    absurd (other ((fits_outline (table_of g.Q.Query.facts job) job _ c.args.kind _ c.shape.ensures c.fits.ensures).0 c.if-not-fits.false))

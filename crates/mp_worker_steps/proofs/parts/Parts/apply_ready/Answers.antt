@@ -34,25 +34,24 @@ pub push-requires : goal.push-requires
 push-requires g c =
     let told = c.in_ok-applied.ensures.told _ _ c.self.invariant c.index_mut-host.ensures.value refl refl in
     let to = rw (c.shape-stages.ensures.shape, c.self.invariant.same) at c.location_after-onward.ensures in
-    record { changes = rw (c.as_slice.ensures.value, c.in_ok-push_changes.ensures.changes) (told.changes c.location_after-onward.result to) }
+    record { changes = rw (c.as_slice.ensures.value, c.in_ok-push_changes.ensures.changes) (told.changes c.location_after-onward.result to c.number_onward-number.result c.number_onward-number.ensures.onward) }
+
+pub number_onward-number-requires-clause-time : goal.number_onward-number-requires-clause-time
+number_onward-number-requires-clause-time g c κs within = (c.in_ok-applied.ensures.told _ _ c.self.invariant c.index_mut-host.ensures.value refl refl).in_time
 
 pub push_changes-requires : goal.push_changes-requires
 push_changes-requires g c =
     let fits = group_fits c.self.invariant c.self.view_is (c.in_ok-applied.ensures.told _ _ c.self.invariant c.index_mut-host.ensures.value refl refl) c.requires.room in
-    record { empty = fits.empty; room = fits.list }
+    record { empty = fits.empty; room = fits.list; few = c.number_onward-number.ensures.few }
 
 pub invariant_of-self-in_err-push : goal.invariant_of-self-in_err-push
 invariant_of-self-in_err-push g c =
     let fits = group_fits c.self.invariant c.self.view_is (c.in_ok-applied.ensures.told _ _ c.self.invariant c.index_mut-host.ensures.value refl refl) c.requires.room in
-    let few = fits.changes c.location_after-onward.result c.as_slice.result.now (c.as_slice.ensures.value ∙ c.in_ok-push_changes.ensures.changes) in
+    let few = fits.changes c.location_after-onward.result c.number_onward-number.result c.as_slice.result.now (c.as_slice.ensures.value ∙ c.in_ok-push_changes.ensures.changes) in
     absurd (false≢true (c.in_err-push.ensures.ready fits.names few))
 
 pub hold_records-requires-clause-time : goal.hold_records-requires-clause-time
 hold_records-requires-clause-time g c κs within = (c.in_ok-applied.ensures.told _ _ c.self.invariant c.index_mut-host.ensures.value refl refl).in_time
-
-pub hold_records-requires-clause-keys : goal.hold_records-requires-clause-keys
-hold_records-requires-clause-keys g c κs within =
-    (c.in_ok-applied.ensures.told _ _ c.self.invariant c.index_mut-host.ensures.value refl refl).keyed (rw (c.shape-stages.ensures.shape, c.self.invariant.same) at c.if-stage-stages.true)
 
 pub hold_records-requires-clause-stage : goal.hold_records-requires-clause-stage
 hold_records-requires-clause-stage g c κs within =

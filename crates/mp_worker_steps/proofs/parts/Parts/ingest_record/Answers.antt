@@ -9,6 +9,7 @@ use Rattle.mp_worker_parts.proofs.Ingested.{can_ingest, ingested_counts, record_
 use Rattle.mp_worker_steps.proofs.Keeping.{kept_as, makes}
 use Rattle.mp_worker_steps.proofs.Rooms.{not_refused}
 use Rattle.mp_worker_steps.proofs.parts.Parts.ingest_record.Goals as goal
+use Rattle.mp_model.specs.Tables.{table_of}
 
 pub push-requires : goal.push-requires
 push-requires g c = record { changes = rw (c.one_less.ensures, c.one_more.ensures) (ingested_counts c.self.invariant.sound c.self.invariant.parts c.args.rec (rw (← c.self.view_is) at c.requires.next)) }
@@ -24,7 +25,7 @@ index_mut-requires g c = omega (arith, some_router c.self.invariant.sound c.self
 pub hold-requires-after_bounds : goal.hold-requires-after_bounds
 hold-requires-after_bounds g c κs within =
     let at = router_at c.self.invariant.parts 0 c.self.invariant.sound.some_stage c.index_mut.result.now c.index_mut.ensures.value in
-    subst (λ j. IsRecordOf (g.Q.Query.facts g.J.Naming.job.rules) g.J.Naming.job j c.args.rec) (sym at.0) (rw (← c.self.view_is) at c.requires.next).1
+    subst (λ j. IsRecordOf (table_of g.Q.Query.facts g.J.Naming.job) g.J.Naming.job j c.args.rec) (sym at.0) (rw (← c.self.view_is) at c.requires.next).1
 
 pub unreachable-requires-in_default-hold : goal.unreachable-requires-in_default-hold
 unreachable-requires-in_default-hold g c =

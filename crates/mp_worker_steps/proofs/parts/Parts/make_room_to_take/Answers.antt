@@ -1,5 +1,6 @@
 use Rattle.std.proofs.Common.{◌∙◌, ap, length}
 use Rattle.mp_model.specs.Facts.{JobFacts}
+use Rattle.mp_model.specs.Tables.{table_of}
 use Rattle.mp_worker_steps.specs.Contents.{number_of_times}
 use Rattle.mp_worker_invariant.proofs.Items.{written_back}
 use Rattle.mp_worker_steps.proofs.Keeping.{on_ok}
@@ -30,7 +31,7 @@ returns-clause-room g c =
     let i = c.self.inside in
     let ok = c.in_ok-make_room_to_take.ensures in
     let lists = c.in_ok-make_room.ensures in
-    let times = ap length c.times-times.ensures ∙ ap (λ (f : JobFacts). number_of_times (g.Q.Query.facts f.rules) f) c.self.invariant.same in
+    let times = ap length c.times-times.ensures ∙ ap (λ (f : JobFacts). number_of_times (table_of g.Q.Query.facts f) f) c.self.invariant.same in
     let hosts = written_back without_room i.hosts.items c.deref_mut.result.now c.make_room_in_hosts.new.hosts i.hosts.len c.deref_mut.ensures.len c.make_room_in_hosts.ensures.same in
     let movers = written_back roomless i.movers.items c.deref_mut-2.result.now c.make_room_in_movers.new.movers i.movers.len c.deref_mut-2.ensures.len c.make_room_in_movers.ensures.same in
     rw (hosts, movers)

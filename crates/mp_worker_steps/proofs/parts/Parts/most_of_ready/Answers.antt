@@ -7,6 +7,7 @@ use Rattle.mp_worker_invariant.proofs.Standing.{host_at, informed, knows}
 use Rattle.mp_worker_parts.proofs.Applied.{enough_here, none_to_apply, same_host_there}
 use Rattle.mp_worker_steps.proofs.Keeping.{can_do, on_none}
 use Rattle.mp_worker_steps.proofs.parts.Parts.most_of_ready.Goals as goal
+use Rattle.mp_model.specs.Tables.{table_of}
 
 pub most_if_ready-requires-clause-informed : goal.most_if_ready-requires-clause-informed
 most_if_ready-requires-clause-informed g c κs within =
@@ -34,6 +35,6 @@ returns g c =
           (none some.0 some.1) some.2);
       enough = IfSome_then c.most_if_ready.result c.most_if_ready.ensures.enough
           (λ most enough whole.
-          enough_here (g.Q.Query.facts g.J.Naming.job.rules) g.J.Naming.job c.args.stage most i.seen i.owners i.hosts.items inside c.index-host.result.now c.index-host.ensures
+          enough_here (table_of g.Q.Query.facts g.J.Naming.job) g.J.Naming.job c.args.stage most i.seen i.owners i.hosts.items inside c.index-host.result.now c.index-host.ensures
           (λ t k ready. enough t k ready (omega arith)));
     })

@@ -2,6 +2,7 @@ use Rattle.mp_names.specs.declared.kinds.Kind.TheVariants.{Ingest}
 use Rattle.mp_worker_parts.proofs.Ingested.{has_record, next_record, none_to_ingest}
 use Rattle.mp_worker_steps.proofs.Keeping.{can_do}
 use Rattle.mp_worker_steps.proofs.parts.Parts.next_record.Goals as goal
+use Rattle.mp_model.specs.Tables.{table_of}
 
 pub returns-in_default-clause-none : goal.returns-in_default-clause-none
 returns-in_default-clause-none g c =
@@ -11,7 +12,7 @@ returns-in_default-clause-none g c =
 
 pub rec_at-requires-after_bounds : goal.rec_at-requires-after_bounds
 rec_at-requires-after_bounds g c κs within =
-    has_record (g.Q.Query.facts c.self.inside.job.now.rules) c.self.inside.job.now c.worker.result _ _ _ c.share.ensures c.in-Some.ensures.lookup.3.0 (c.in-Some.ensures.lookup.3.1 _)
+    has_record (table_of g.Q.Query.facts c.self.inside.job.now) c.self.inside.job.now c.worker.result _ _ _ c.share.ensures c.in-Some.ensures.lookup.3.0 (c.in-Some.ensures.lookup.3.1 _)
 
 pub returns-clause-next : goal.returns-clause-next
 returns-clause-next g c =

@@ -10,9 +10,10 @@ use Rattle.mp_worker_invariant.specs.Kept.{with_all_took}
 use Rattle.mp_worker_steps.proofs.Keeping.{received}
 use Rattle.mp_worker_steps.proofs.parts.Parts.receive.Given as given
 use Rattle.mp_worker_steps.proofs.parts.Parts.receive.Goals as goal
+use Rattle.mp_model.specs.Tables.{table_of}
 
 abbrev outline : given.Over → Outline
-outline g = outline_of (g.Q.Query.facts g.J.Naming.job.rules) g.J.Naming.job
+outline g = outline_of (table_of g.Q.Query.facts g.J.Naming.job) g.J.Naming.job
 
 pub pop-requires-clause-workers : goal.pop-requires-clause-workers
 pop-requires-clause-workers g c = rw (c.number-number.ensures.is, c.requires.at_post.all_workers) (c.requires.from, c.number-number.ensures.inside)

@@ -4,9 +4,10 @@ use Rattle.mp_outline.specs.JobOutline.{outline_of}
 use Rattle.mp_worker_parts.proofs.Received.{only_new, only_owed}
 use Rattle.mp_worker_steps.proofs.parts.Parts.take.Given as given
 use Rattle.mp_worker_steps.proofs.parts.Parts.take.Goals as goal
+use Rattle.mp_model.specs.Tables.{table_of}
 
 abbrev outline : given.Over → Outline
-outline g = outline_of (g.Q.Query.facts g.J.Naming.job.rules) g.J.Naming.job
+outline g = outline_of (table_of g.Q.Query.facts g.J.Naming.job) g.J.Naming.job
 
 pub take_control-requires-clause-content : goal.take_control-requires-clause-content
 take_control-requires-clause-content g c κs within =

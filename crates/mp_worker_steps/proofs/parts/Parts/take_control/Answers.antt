@@ -35,7 +35,7 @@ pub invariant_of-self : goal.invariant_of-self
 invariant_of-self g c =
     let comes = control_comes c.self.invariant c.self.view_is c.args.index c.args.control c.requires.content c.requires.fresh c.requires.room c.index_mut-movers.ensures.value in
     rw (c.in-Ok.ensures.pushed, c.worker.ensures)
-    (comes.taken c.note.new.self c.note.ensures.shape c.in-Ok-note.ensures.noted c.note-2.new.self
+    (comes.taken c.note.new.self c.note.ensures.layout c.in-Ok-note.ensures.noted c.note-2.new.self
     (ap (λ (n : MoversState). n.stage) c.note-2.ensures.same) (ap (λ (n : MoversState). n.worker) c.note-2.ensures.same) c.in-Ok-note-2.ensures.held)
 
 pub returns : goal.returns

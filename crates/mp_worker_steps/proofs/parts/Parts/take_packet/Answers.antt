@@ -4,6 +4,7 @@ use Rattle.mp_worker_parts.proofs.Coming.{taken_length}
 use Rattle.mp_worker_steps.proofs.Rooms.{not_refused, some_names}
 use Rattle.mp_worker_steps.proofs.Stepping.{packet_comes, packet_stage}
 use Rattle.mp_worker_steps.proofs.parts.Parts.take_packet.Goals as goal
+use Rattle.mp_model.specs.Tables.{table_of}
 
 pub index_mut-host-requires : goal.index_mut-host-requires
 index_mut-host-requires g c = omega (arith, packet_stage c.self.invariant c.requires.state, c.self.inside.hosts.ok.0)
@@ -13,7 +14,7 @@ coming-requires-clause-empty g c κs within = (rw (← c.self.view_is) at c.requ
 
 pub coming-requires-clause-room : goal.coming-requires-clause-room
 coming-requires-clause-room g c κs within =
-    let few = few_times (g.Q.Query.facts g.J.Naming.job.rules) c.self.invariant.hands_on.nothing g.J.Naming.job c.args.stage c.args.bin c.args.time c.args.state c.requires.state.1 in
+    let few = few_times (table_of g.Q.Query.facts g.J.Naming.job) c.self.invariant.hands_on.nothing g.J.Naming.job c.args.stage c.args.bin c.args.time c.args.state c.requires.state.1 in
     omega (arith, few, (rw (← c.self.view_is) at c.requires.room).lists.0)
 
 pub list_coming-requires : goal.list_coming-requires

@@ -7,10 +7,11 @@ use Rattle.mp_worker_parts.proofs.Received.{only_new, only_owed, row_taken}
 use Rattle.mp_worker_steps.proofs.Keeping.{kept_as}
 use Rattle.mp_worker_steps.proofs.Rooms.{not_refused, some_names}
 use Rattle.mp_worker_steps.proofs.parts.Parts.take_row.Goals as goal
+use Rattle.mp_model.specs.Tables.{table_of}
 
 pub push-requires : goal.push-requires
 push-requires g c =
-    record { changes = rw c.one_less.ensures (taken_is_counted (outline_of (g.Q.Query.facts g.J.Naming.job.rules) g.J.Naming.job) c.self.inside.log.worker c.self.inside.log.log c.args.time c.args.tag) }
+    record { changes = rw c.one_less.ensures (taken_is_counted (outline_of (table_of g.Q.Query.facts g.J.Naming.job) g.J.Naming.job) c.self.inside.log.worker c.self.inside.log.log c.args.time c.args.tag) }
 
 pub unreachable-requires : goal.unreachable-requires
 unreachable-requires g c =
@@ -21,7 +22,7 @@ pub invariant_of-self : goal.invariant_of-self
 invariant_of-self g c =
     let kept = c.self.invariant in
     let log = c.self.inside.log in
-    let o = outline_of (g.Q.Query.facts g.J.Naming.job.rules) g.J.Naming.job in
+    let o = outline_of (table_of g.Q.Query.facts g.J.Naming.job) g.J.Naming.job in
     let new = rw (← c.self.view_is) at c.requires.new in
     let x = Row c.args.time c.args.tag in
     let owed = only_owed o log.worker log.log x (x ∷ []) refl new in

@@ -5,11 +5,12 @@ use Rattle.mp_rows_laws.proofs.Settled.{written}
 use Rattle.mp_worker_steps.proofs.Keeping.{kept_as, made_alone}
 use Rattle.mp_worker_steps.proofs.Written.{can_write, err_is, part_written, rows_have_come, time_written, writes_refused}
 use Rattle.mp_worker_steps.proofs.parts.Parts.write.Goals as goal
+use Rattle.mp_model.specs.Tables.{table_of}
 
 pub returns-in_err-time-clause-writes : goal.returns-in_err-time-clause-writes
 returns-in_err-time-clause-writes g c =
     let job = g.J.Naming.job in
-    let q = g.Q.Query.facts job.rules in
+    let q = table_of g.Q.Query.facts job in
     let refused = c.in_err-time.ensures in
     let part = refused.part in
     let told = refused.part_of_answer _ part.0 c.self.invariant.parts.unwritten part.2 in
@@ -19,7 +20,7 @@ returns-in_err-time-clause-writes g c =
 
 pub push-requires : goal.push-requires
 push-requires g c =
-    record { changes = rw c.in_ok-make_room.ensures.made (written (outline_of (g.Q.Query.facts g.J.Naming.job.rules) g.J.Naming.job) c.self.inside.log.worker c.self.inside.log.log c.in-Time.time) }
+    record { changes = rw c.in_ok-make_room.ensures.made (written (outline_of (table_of g.Q.Query.facts g.J.Naming.job) g.J.Naming.job) c.self.inside.log.worker c.self.inside.log.log c.in-Time.time) }
 
 pub invariant_of-self-in-Time : goal.invariant_of-self-in-Time
 invariant_of-self-in-Time g c =

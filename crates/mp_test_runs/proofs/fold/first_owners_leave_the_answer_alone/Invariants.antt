@@ -1,0 +1,5 @@
+-- The name that is picked is that of the job.
+use Rattle.mp_test_runs.proofs.fold.first_owners_leave_the_answer_alone.Given as goal
+
+abbrev pub ghosts-writes : goal.ghosts-writes
+ghosts-writes g a = record { job = a.job.now }

@@ -1,5 +1,0 @@
-use Rattle.std.proofs.Common.{◌∙◌}
-use Rattle.mp_threads.proofs.start.drive_unless.Goals as goal
-
-pub returns-in-Ok : goal.returns-in-Ok
-returns-in-Ok g c = rw c.into_worker.ensures (c.in-Ok.ensures.number ∙ c.requires, record { knows = c.in-Ok.ensures.finished; full = c.in-Ok.ensures.full })
