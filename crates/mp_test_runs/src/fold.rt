@@ -1,5 +1,7 @@
 //! The reference answer: workers write the bytes that the fold on one thread gives.
 ghost use Rattle.std.specs.Prelude.{◌≡◌, ◌<◌};
+ghost use Rattle.mp_model.specs.Tables.{table_of};
+ghost use Rattle.mp_output.specs.Rows.{GivesRows};
 
 use mp_control::read_control;
 use mp_drive::{DriveStop, replay};
@@ -7,7 +9,7 @@ use mp_events::read_events;
 use mp_fold::answer_pieces;
 use mp_gate::OpenGate;
 use mp_job::Job;
-use mp_model::Naming;
+use mp_model::{Naming, Query};
 use mp_names::{First, Shape};
 use mp_outside::MemSink;
 use mp_q_auction::Q4;
@@ -101,19 +103,20 @@ fn turned_by(alloc: Global, config: &[u8]) -> Result<Job<Q4>, Fail> {
 }
 
 /// Workers write this answer.
-fn writes<J: Naming>(
+pub fn writes<Q: Query, J: Naming>(
     rt: &impl Abort,
     alloc: Global,
-    job: &Job<Q4>,
+    job: &Job<Q>,
     depth: u32,
     seed: u64,
     answer: &[u8],
 ) -> Result<(), DriveStop>
     requires job { job.now ≡ J.job }
+    requires rows { GivesRows (table_of Q.facts J.job) }
 {
     let mut sink = MemSink::new(alloc);
     assert!(rt; depth > 0);
-    replay::<Q4, J, _, _>(alloc, job, depth, seed, &OpenGate, &mut sink)?;
+    replay::<Q, J, _, _>(alloc, job, depth, seed, &OpenGate, &mut sink)?;
     assert!(rt; sink.bytes() == answer);
     Ok(())
 }
@@ -123,7 +126,7 @@ fn fold_is_the_reference(rt: HostRuntime) -> Result<(), Fail> {
     let answer = folded(rt.alloc())?;
     for (config, depth, seed) in WAYS {
         let job = job_by(rt.alloc(), config)?;
-        writes::<Brand>(&rt, rt.alloc(), &job, depth, seed, answer.as_slice())?;
+        writes::<Q4, Brand>(&rt, rt.alloc(), &job, depth, seed, answer.as_slice())?;
     }
     Ok(())
 }
@@ -133,7 +136,7 @@ fn first_owners_leave_the_answer_alone(rt: HostRuntime) -> Result<(), Fail> {
     let answer = folded(rt.alloc())?;
     for (config, depth, seed) in WAYS {
         let job = turned_by(rt.alloc(), config)?;
-        writes::<Brand>(&rt, rt.alloc(), &job, depth, seed, answer.as_slice())?;
+        writes::<Q4, Brand>(&rt, rt.alloc(), &job, depth, seed, answer.as_slice())?;
     }
     Ok(())
 }

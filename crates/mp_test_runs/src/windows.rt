@@ -1,11 +1,23 @@
-//! Other values of rules than the given ones: q5 with short windows, on one thread.
-use crate::fold::joined;
+//! Other values of rules than the given ones: q5 with short windows, by the fold and by workers.
+ghost use Rattle.std.specs.Prelude.{◌≡◌};
+
+use crate::fold::{joined, writes};
+use mp_control::read_control;
 use mp_events::read_events;
 use mp_fold::answer_pieces;
+use mp_job::Job;
 use mp_model::Query;
+use mp_names::Shape;
 use mp_q_window::Q5;
 use std::alloc::Global;
+use std::marker::Brand;
 use std::test::Fail;
+
+const SHAPE: Shape = Shape {
+    workers: 3,
+    bins: 4,
+    stages: 2,
+};
 
 /// Bids on two auctions.
 const BIDS: &[u8] = b"B|0|1|5|10\nB|50|2|5|10\nB|150|1|5|10\nB|220|2|5|10\n";
@@ -14,7 +26,9 @@ const BIDS: &[u8] = b"B|0|1|5|10\nB|50|2|5|10\nB|150|1|5|10\nB|220|2|5|10\n";
 const GREATEST: &[u8] = b"100|1|1\n100|2|1\n200|1|2\n300|1|1\n300|2|1\n400|2|1\n";
 
 /// Two slides of 100 units of time.
-fn short_windows() -> Q5 {
+fn short_windows() -> Q5
+    ensures { (⟦<Q5 as Query>⟧.facts (⟦<Q5 as Query>⟧.values result)).stages ≡ 2 }
+{
     Q5::given().with(&[100, 2])
 }
 
@@ -24,6 +38,23 @@ fn folded(alloc: Global, query: &Q5) -> Result<Vec<u8>, Fail> {
     let pieces = answer_pieces(alloc, query, events.as_slice())?;
     let answer = joined(alloc, pieces.as_slice())?;
     Ok(answer)
+}
+
+/// The job of such windows whose bins move by these lines.
+fn job_by(alloc: Global, config: &[u8]) -> Result<Job<Q5>, Fail> {
+    let events = read_events(alloc, BIDS)?;
+    let controls = read_control(alloc, config, &SHAPE)?;
+    let job = Job::new(alloc, short_windows(), events, controls, SHAPE)?;
+    Ok(job)
+}
+
+#[test]
+fn workers_keep_to_short_windows(rt: HostRuntime) -> Result<(), Fail> {
+    for config in [b"".as_slice(), b"all|150|0|1\nall|150|1|2\n"] {
+        let job = job_by(rt.alloc(), config)?;
+        writes::<Q5, Brand>(&rt, rt.alloc(), &job, 2, 7, GREATEST)?;
+    }
+    Ok(())
 }
 
 #[test]
