@@ -4,14 +4,12 @@
 //! but for `replay`.
 #![tactic(auto)]
 
-ghost use Rattle.std.specs.Prelude.{◌≡◌, ◌⊎◌, None};
+ghost use Rattle.std.specs.Prelude.{◌≡◌, None};
 ghost use Rattle.std.specs.Process.{exit_status};
-ghost use Rattle.mp_outside.specs.Fault.{Rose};
 ghost use Rattle.mp_outside.specs.Files.{SameFiles};
 ghost use Rattle.mp_words.specs.Words.{command_in};
-ghost use Rattle.mp_command.specs.Ends.{CameTo, ComesWhere, IsCommandAnswered, IsRefusal, SaysAnswer, SaysLine};
-ghost use Rattle.mp_command.specs.Ends.{WritesFile};
-ghost use Rattle.mp_command.specs.Outcome.{MayCome, Outcome, line_said, status_of};
+ghost use Rattle.mp_command.specs.Ends.{CameTo, ComesWhere, IsCommandAnswered, IsRefusal, SaysLine};
+ghost use Rattle.mp_command.specs.Outcome.{Outcome, line_said, status_of};
 
 use mp_cli::run;
 use mp_command::lack_memory;
@@ -48,14 +46,6 @@ fn answer<D: Depot, S: Sink, R: Threads + Wait + Sync + AllocGlobal>(
     said: &mut S,
 ) -> ExitCode
     ensures usage { ComesWhere 2 (exit_status result) (command_in words.now ≡ None) }
-    ensures outcome { (outcome : Outcome) × MayCome (command_in words.now) (D.files depot.old) outcome
-        × (status_of outcome ≡ exit_status result) }
-    ensures read_fault { exit_status result ≡ 6
-        → Rose (D.read_faults depot.old) (D.read_faults depot.new) }
-    ensures write_fault { WritesFile (command_in words.now) → exit_status result ≡ 7
-        → Rose (D.write_faults depot.old) (D.write_faults depot.new) }
-    ensures said_fault { SaysAnswer (command_in words.now) → exit_status result ≡ 7
-        → Rose (S.faults said.old) (S.faults said.new) }
     ensures answer { exit_status result ≡ 0
         → IsCommandAnswered (command_in words.now) (D.files depot.old) (D.files depot.new) }
     ensures untouched { IsRefusal (exit_status result) → SameFiles (D.files depot.old) (D.files depot.new) }

@@ -1,2 +1,4 @@
-mod OwnTable
+mod Asked
 mod Bins
+mod OwnTable
+mod Parted

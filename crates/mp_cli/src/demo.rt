@@ -6,7 +6,7 @@ ghost use Rattle.mp_command.specs.Outcome.{NoMemory};
 ghost use Rattle.mp_command.specs.Refused.{outcome_of};
 
 use crate::writing::write_answer;
-use mp_command::{ANSWER, Refusal, run_in_memory, shape_of, two_moves};
+use mp_command::{ANSWER, Flow, Inputs, Refusal, demo_settings, run_in_memory};
 use mp_gate::Gate;
 use mp_make::{make_events, summary};
 use mp_outside::NeverFails;
@@ -28,9 +28,9 @@ pub fn demo<'a, G: Gate + Sync, R: Threads + Wait + Sync + AllocGlobal>(
     let alloc = rt.alloc();
     let events = make_events(alloc, options.count, options.seed)?;
     let asked = run_in_memory(options);
-    let controls = two_moves(alloc, shape_of(&asked))?;
+    let settings = demo_settings(alloc, Flow::of_run(&asked))?;
     let mut memory = NeverFails::new(alloc);
-    write_answer(rt, &mut memory, &asked, events, controls, gate)?;
+    write_answer(rt, &mut memory, &asked, Inputs { events, settings }, gate)?;
     match memory.get(ANSWER) {
         Some(answer) => Ok(summary(alloc, u64::from(options.count), answer)?),
         None => unreachable!(),

@@ -1,5 +1,5 @@
 //! The run of a job, and the answer's way into its file.
-ghost use Rattle.std.specs.Prelude.{◌≡◌, ◌<◌, ◌≤◌, IfErr, IfOk, OnErr, OnOk};
+ghost use Rattle.std.specs.Prelude.{◌≡◌, ◌<◌, ◌≤◌, ◌∷◌, [], IfErr, IfOk, OnErr, OnOk};
 ghost use Rattle.mp_model.specs.Answers.{one_thread_answer};
 ghost use Rattle.mp_model.specs.Tables.{table_of};
 ghost use Rattle.mp_outline.specs.JobOutline.{outline_of};
@@ -10,10 +10,10 @@ ghost use Rattle.mp_outside.specs.Sink.{OnlyAppends, grown};
 ghost use Rattle.mp_drive.specs.Driven.{HasBegun};
 ghost use Rattle.mp_report.specs.Report.{AreTalliesOf};
 ghost use Rattle.mp_words.specs.Limits.{AreWithinLimits};
-ghost use Rattle.mp_command.specs.Outcome.{StopsAnswer};
+ghost use Rattle.mp_command.specs.Calls.{StopsAnswer};
 ghost use Rattle.mp_command.specs.Refused.{EndsAs, outcome_of};
 ghost use Rattle.mp_cli.specs.Running.{TellsSteps};
-ghost use Rattle.mp_command.specs.Writing.{HoldsPart};
+ghost use Rattle.mp_command.specs.Writing.{IsTextOfJob, WritesSome, answer_at};
 
 use crate::causes::{refused_after, refused_at};
 use mp_command::Refusal;
@@ -61,8 +61,8 @@ pub fn answer_to<
         AreTalliesOf (table_of Q.facts job.now) job.now run.tallies.items) }
     ensures whole { let answer = one_thread_answer (table_of Q.facts job.now) job.now.events in
         OnOk result (D.files depot.new ≡ with_file (D.files depot.old) options.now.out.now answer) }
-    ensures part { let answer = one_thread_answer (table_of Q.facts job.now) job.now.events in
-        OnErr result (HoldsPart (D.files depot.old) (D.files depot.new) options.now.out.now answer) }
+    ensures part { OnErr result (WritesSome (IsTextOfJob (table_of Q.facts job.now) job.now)
+        (answer_at options.now.out.now ∷ []) (D.files depot.old) (D.files depot.new)) }
     ensures refused { IfErr result (λ r. StopsAnswer (outcome_of r)) }
 
     ensures failed { IfErr result (λ r. EndsAs r 7

@@ -1,18 +1,14 @@
 //! A command carried out on the files of a depot.
-ghost use Rattle.std.specs.Prelude.{◌≡◌, [], Some, OnErr, OnOk, IfErr, IfOk};
-ghost use Rattle.mp_outside.specs.Fault.{Rose};
+ghost use Rattle.std.specs.Prelude.{◌≡◌, Some};
 ghost use Rattle.mp_words.specs.Limits.{AreWithinLimits, IsWithinLimits};
 ghost use Rattle.mp_words.specs.Values.{options_in};
 ghost use Rattle.mp_words.specs.Words.{Run, asked_in, command_in};
-ghost use Rattle.mp_command.specs.Ends.{IsCommandAnswered, IsCommandAnsweredInPart, IsRefusal, LacksInput};
-ghost use Rattle.mp_command.specs.Ends.{OthersStay, WritesFile};
-ghost use Rattle.mp_command.specs.Outcome.{Answered, MayCome, status_of};
-ghost use Rattle.mp_command.specs.Refused.{EndsAs, outcome_of};
-ghost use Rattle.mp_command.specs.Writing.{WritesAnswer, WritesPart};
+ghost use Rattle.mp_command.specs.Ends.{CameTo, EndsWith, Leaves};
+ghost use Rattle.mp_command.specs.Refused.{outcome_in};
 
 use crate::demo::demo;
 use crate::writing::write_answer;
-use mp_command::{Refusal, check, controls_in, events_in, make, shape_of};
+use mp_command::{InputFiles, Refusal, check, make, read_inputs};
 use mp_gate::Gate;
 use mp_outside::Depot;
 use mp_words::{Command, RunOptions, WordsRefused, parse};
@@ -27,26 +23,10 @@ pub fn serve<'a, D: Depot, G: Gate + Sync, R: Threads + Wait + Sync + AllocGloba
     depot: &mut D,
     gate: &G,
 ) -> Result<Vec<u8>, Refusal<'a>>
-    ensures line { IfOk result (λ line.
-        MayCome (command_in words.now) (D.files depot.old) (Answered line.items)) }
-    ensures quiet { IfOk result (λ line. WritesFile (command_in words.now) → line.items ≡ []) }
-    ensures refused { IfErr result (λ r.
-        MayCome (command_in words.now) (D.files depot.old) (outcome_of r)) }
-    ensures not_found { IfErr result (λ r. EndsAs r 5
-        → LacksInput D.found (command_in words.now) depot.new) }
-    ensures read_fault { IfErr result (λ r. EndsAs r 6
-        → Rose (D.read_faults depot.old) (D.read_faults depot.new)) }
-    ensures writes_file { IfErr result (λ r. EndsAs r 7 → WritesFile (command_in words.now)) }
-    ensures write_fault { IfErr result (λ r. EndsAs r 7
-        → Rose (D.write_faults depot.old) (D.write_faults depot.new)) }
-
-    ensures answered { OnOk result
-        (IsCommandAnswered (command_in words.now) (D.files depot.old) (D.files depot.new)) }
-    ensures untouched { IfErr result (λ r. IsRefusal (status_of (outcome_of r))
-        → D.files depot.new ≡ D.files depot.old) }
-    ensures part { OnErr result
-        (IsCommandAnsweredInPart (command_in words.now) (D.files depot.old) (D.files depot.new)) }
-    ensures others { OthersStay (command_in words.now) (D.files depot.old) (D.files depot.new) }
+    ensures came { CameTo D.files D.found D.read_faults D.write_faults
+        (command_in words.now) (outcome_in result) depot.old depot.new }
+    ensures ends { EndsWith (command_in words.now) (outcome_in result)
+        (D.files depot.old) (D.files depot.new) }
 {
     match parse(rt.alloc(), words) {
         Ok(command) => carry_out(rt, command, depot, gate),
@@ -63,26 +43,10 @@ fn carry_out<'a, D: Depot, G: Gate + Sync, R: Threads + Wait + Sync + AllocGloba
     gate: &G,
 ) -> Result<Vec<u8>, Refusal<'a>>
     requires { IsWithinLimits command }
-    ensures line { IfOk result (λ line.
-        MayCome (Some (asked_in command.entry)) (D.files depot.old) (Answered line.items)) }
-    ensures quiet { IfOk result (λ line. WritesFile (Some (asked_in command.entry)) → line.items ≡ []) }
-    ensures refused { IfErr result (λ r.
-        MayCome (Some (asked_in command.entry)) (D.files depot.old) (outcome_of r)) }
-    ensures not_found { IfErr result (λ r. EndsAs r 5
-        → LacksInput D.found (Some (asked_in command.entry)) depot.new) }
-    ensures read_fault { IfErr result (λ r. EndsAs r 6
-        → Rose (D.read_faults depot.old) (D.read_faults depot.new)) }
-    ensures writes_file { IfErr result (λ r. EndsAs r 7 → WritesFile (Some (asked_in command.entry))) }
-    ensures write_fault { IfErr result (λ r. EndsAs r 7
-        → Rose (D.write_faults depot.old) (D.write_faults depot.new)) }
-
-    ensures answered { OnOk result
-        (IsCommandAnswered (Some (asked_in command.entry)) (D.files depot.old) (D.files depot.new)) }
-    ensures untouched { IfErr result (λ r. IsRefusal (status_of (outcome_of r))
-        → D.files depot.new ≡ D.files depot.old) }
-    ensures part { OnErr result
-        (IsCommandAnsweredInPart (Some (asked_in command.entry)) (D.files depot.old) (D.files depot.new)) }
-    ensures others { OthersStay (Some (asked_in command.entry)) (D.files depot.old) (D.files depot.new) }
+    ensures came { CameTo D.files D.found D.read_faults D.write_faults
+        (Some (asked_in command.entry)) (outcome_in result) depot.old depot.new }
+    ensures left { Leaves (asked_in command.entry) (outcome_in result)
+        (D.files depot.old) (D.files depot.new) }
 {
     match command {
         Command::Run(options) => answer(rt, depot, &options, gate),
@@ -100,28 +64,12 @@ fn answer<'a, D: Depot, G: Gate + Sync, R: Threads + Wait + Sync + AllocGlobal>(
     gate: &G,
 ) -> Result<Vec<u8>, Refusal<'a>>
     requires { AreWithinLimits options.now }
-    ensures line { IfOk result (λ line.
-        MayCome (Some (Run (options_in options.now))) (D.files depot.old) (Answered line.items)) }
-    ensures quiet { IfOk result (λ line. line.items ≡ []) }
-    ensures refused { IfErr result (λ r.
-        MayCome (Some (Run (options_in options.now))) (D.files depot.old) (outcome_of r)) }
-    ensures not_found { IfErr result (λ r. EndsAs r 5
-        → LacksInput D.found (Some (Run (options_in options.now))) depot.new) }
-    ensures read_fault { IfErr result (λ r. EndsAs r 6
-        → Rose (D.read_faults depot.old) (D.read_faults depot.new)) }
-    ensures write_fault { IfErr result (λ r. EndsAs r 7
-        → Rose (D.write_faults depot.old) (D.write_faults depot.new)) }
-
-    ensures whole { OnOk result
-        (WritesAnswer (D.files depot.old) (D.files depot.new) (options_in options.now)) }
-    ensures untouched { IfErr result (λ r. IsRefusal (status_of (outcome_of r))
-        → D.files depot.new ≡ D.files depot.old) }
-    ensures part { OnErr result
-        (WritesPart (D.files depot.old) (D.files depot.new) (options_in options.now)) }
+    ensures came { CameTo D.files D.found D.read_faults D.write_faults
+        (Some (Run (options_in options.now))) (outcome_in result) depot.old depot.new }
+    ensures left { Leaves (Run (options_in options.now)) (outcome_in result)
+        (D.files depot.old) (D.files depot.new) }
 {
-    let events = events_in(rt.alloc(), depot, options.events)?;
-    let shape = shape_of(options);
-    let controls = controls_in(rt.alloc(), depot, options.config, &shape)?;
-    write_answer(rt, depot, options, events, controls, gate)?;
+    let read = read_inputs(rt.alloc(), depot, &InputFiles::of_run(options))?;
+    write_answer(rt, depot, options, read, gate)?;
     Ok(Vec::new(rt.alloc()))
 }

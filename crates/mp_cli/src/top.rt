@@ -6,10 +6,11 @@ ghost use Rattle.mp_outside.specs.Sink.{grown};
 ghost use Rattle.mp_words.specs.Words.{Asked, command_in};
 ghost use Rattle.mp_command.specs.Ends.{CameTo, ComesWhere, IsCommandAnswered, IsCommandAnsweredInPart};
 ghost use Rattle.mp_command.specs.Ends.{IsRefusal, LacksInput, OthersStay, SaysAnswer, SaysLine, WritesFile};
-ghost use Rattle.mp_command.specs.Outcome.{Outcome, MayCome, called_for, line_said, status_of};
+ghost use Rattle.mp_command.specs.Calls.{MayCome, called_for};
+ghost use Rattle.mp_command.specs.Outcome.{Outcome, line_said, status_of};
 
 use crate::serve::serve;
-use mp_command::{Status, conclude, refuse};
+use mp_command::{Status, tell};
 use mp_gate::Gate;
 use mp_outside::{Depot, Sink};
 use std::sync::Wait;
@@ -59,9 +60,10 @@ pub fn run<D: Depot, S: Sink, G: Gate + Sync, R: Threads + Wait + Sync + AllocGl
         → ¬ (SaysAnswer (Some asked) × Rose (S.faults said.old) (S.faults said.new))
         → (result.code ≡ 0) ⊎ (result.code ≡ 8) }
 
-    // The answer theorem: what a run that answers 0 wrote is exactly the one-thread answer to the events, and the
-    // job's report where one is asked for. `check`
-    // has then found both files well-formed, and `make` has written the lines of the events that are made.
+    // The answer theorem: what a run that answers 0 wrote is exactly the query's one-thread answer to the events, with the
+    // values that the configuration gives to the query's rules; and the report, where one is asked for, of the job with its first
+    // owners and control records. `check` has then found both files well-formed, and `make` has written the lines of the events
+    // that are made.
     ensures answer { result.code ≡ 0
         → IsCommandAnswered (command_in words.now) (D.files depot.old) (D.files depot.new) }
     ensures untouched { IsRefusal result.code → SameFiles (D.files depot.old) (D.files depot.new) }
@@ -82,8 +84,6 @@ pub fn run<D: Depot, S: Sink, G: Gate + Sync, R: Threads + Wait + Sync + AllocGl
         × SaysLine S.written S.faults
         (line_said outcome) (status_of outcome) result.code said.old said.new }
 {
-    match serve(rt, words, depot, gate) {
-        Ok(line) => conclude(line.as_slice(), said),
-        Err(refusal) => refuse(&refusal, said),
-    }
+    let end = serve(rt, words, depot, gate);
+    tell(&end, said)
 }

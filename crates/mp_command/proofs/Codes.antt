@@ -1,239 +1,295 @@
 -- What the status of an end tells.
-use Rattle.std.proofs.Common.{ℕ, ◌≡◌, ◌⊎◌, inl, inr, Bool, true, false, Option, Some, None, IsSome, Result, Ok, Err, List, [], length, cond, refl, sym, ap, subst, ◌∙◌, arith}
+use Rattle.std.proofs.Common.{ℕ, zero, suc, ◌≡◌, ◌≤◌, ◌<◌, ◌⊎◌, inl, inr, Bool, true, false, Option, Some, None, IsSome, Result, Ok, Err, List, [], ◌∷◌, length, cond, refl, sym, ap, subst, ◌∙◌, arith}
 use Rattle.std.specs.Prelude.{nat_le, IfSome, OnSome}
-use Rattle.mp_outside.specs.Files.{Files, file_at}
-use Rattle.mp_outside.specs.Sink.{grown}
+use Rattle.std.proofs.lemmas.List.{take_all}
 use Rattle.mp_names.specs.Limits.{most_bytes}
-use Rattle.mp_events.specs.declared.refused.EventsReason.{EventsReason}
-use Rattle.mp_events.specs.Events.{events_of}
-use Rattle.mp_control.specs.declared.refused.ControlReason.{ControlReason}
-use Rattle.mp_control.specs.Controls.{controls_of}
-use Rattle.mp_names.specs.declared.controls.Control.{Control}
-use Rattle.mp_model.specs.declared.record.Event.{Event}
-use Rattle.mp_command.specs.Config.{Reading, reading_of}
-use Rattle.mp_command.specs.Ends.{ComesWhere, IsCommandAnsweredInPart, IsRefusal, SaysAnswer, WritesFile}
-use Rattle.mp_command.specs.Lines.{line_after}
-use Rattle.mp_command.specs.Outcome.{Outcome, Answered, Usage, EventsRefused, ConfigRefused, NoFile, ReadFault, WriteFault, NoMemory, TooLarge, status_of, line_said}
-use Rattle.mp_command.specs.Outcome.{with_text, with_controls, with_events, after_config, after_events, called_for, files_call_for, MayCome, MayEnd, MayFail, IsOfCommand}
+use Rattle.mp_outside.specs.Fault.{Rose}
+use Rattle.mp_outside.specs.Files.{Files, SameFiles, file_at}
+use Rattle.mp_outside.specs.Sink.{grown}
 use Rattle.mp_words.specs.Words.{Asked, Run, Check, Make, Demo}
+use Rattle.mp_command.specs.Calls.{ComesOf, IsRefusalOf, MayCome, MayEnd, MayFail, called_for, files_call_for, unless_refused, with_text}
+use Rattle.mp_command.specs.Ends.{ComesWhere, EndsWith, IsCommandAnsweredInPart, IsRefusal, IsStop, SaysAnswer, SaysLine, WritesFile, status_at_fault}
+use Rattle.mp_command.specs.Inputs.{ConfigFile, EventFile, Found, Input, inputs_of, nothing_found, read_as}
+use Rattle.mp_command.specs.Lines.{line_after}
+use Rattle.mp_command.specs.Outcome.{Outcome, Answered, NoMemory, TooLarge, WriteFault, line_said, status_of}
+use Rattle.mp_command.proofs.Coming.{may_lack_memory, refusal_of_text}
+use Rattle.mp_command.proofs.Leaving.{no_both, no_stop, status_is, stopped_alone}
 
--- want of memory may always come
-pub may_lack_memory : (command : Option Asked) (told : Option Files) → MayCome command told NoMemory
-may_lack_memory None told = inr refl
-may_lack_memory (Some asked) None = tt
-may_lack_memory (Some asked) (Some files) = inr tt
+-- Where no file is at fault
 
--- what files call for is no usage
-with_text-not_usage : (name : List ℕ) (found : Option (List ℕ)) (next : List ℕ → Outcome) → ((text : List ℕ) → status_of (next text) ≡ 2 → ⊥) → status_of (with_text name found next) ≡ 2 → ⊥
-with_text-not_usage name None next no_next e = omega arith
-with_text-not_usage name (Some text) next no_next e = either (nat_le (length text) most_bytes) e
-  where
-    either : (within : Bool) → status_of (cond within (next text) (TooLarge name)) ≡ 2 → ⊥
-    either true is = no_next text is
-    either false is = omega arith
+-- a status that no file that is read gives
+abbrev IsNoFileStatus : ℕ → Type 0
+IsNoFileStatus n = (n ≡ 3 → ⊥) × (n ≡ 4 → ⊥) × (n ≡ 5 → ⊥) × (n ≡ 6 → ⊥) × (n ≡ 9 → ⊥)
 
-module _ (line : List Event → List Control → List ℕ) where
-  config-not_usage : (told : Option Files) (r : Reading) (events : List Event) → status_of (with_text r.config (file_at told r.config) (after_config r.shape (λ controls. Answered (line events controls)))) ≡ 2 → ⊥
-  config-not_usage told r events e = with_text-not_usage r.config (file_at told r.config) _ after e
-    where
-      either : (controls : Result (List Control) (ℕ × ControlReason)) → status_of (with_controls (λ controls. Answered (line events controls)) controls) ≡ 2 → ⊥
-      either (Err bad) h = omega arith
-      either (Ok controls) h = omega arith
+done_is : IsNoFileStatus 0
+done_is = ((λ e. omega (arith, e)), (λ e. omega (arith, e)), (λ e. omega (arith, e)), (λ e. omega (arith, e)), (λ e. omega (arith, e)))
 
-      after : (text : List ℕ) → status_of (after_config r.shape (λ controls. Answered (line events controls)) text) ≡ 2 → ⊥
-      after text is = either (controls_of text r.shape) is
+usage_is : IsNoFileStatus 2
+usage_is = ((λ e. omega (arith, e)), (λ e. omega (arith, e)), (λ e. omega (arith, e)), (λ e. omega (arith, e)), (λ e. omega (arith, e)))
 
-  called_for-not_usage : (told : Option Files) (reading : Option Reading) → status_of (files_call_for told reading line) ≡ 2 → ⊥
-  called_for-not_usage told None e = omega arith
-  called_for-not_usage told (Some r) e = with_text-not_usage r.events (file_at told r.events) _ after e
-    where
-      either : (events : Result (List Event) (ℕ × EventsReason))
-          → status_of (with_events (λ events. with_text r.config (file_at told r.config) (after_config r.shape (λ controls. Answered (line events controls)))) events) ≡ 2 → ⊥
-      either (Err bad) h = omega arith
-      either (Ok events) h = config-not_usage told r events h
+module _ (n : ℕ) (no_file : IsNoFileStatus n) where
+  text_refused : (input : Input) (o : Outcome) → IsRefusalOf input o → status_of o ≡ n → ⊥
+  text_refused EventFile o (line, why, is) at = no_file.0 (sym at ∙ ap status_of is)
+  text_refused (ConfigFile flow) o (line, why, is) at = no_file.1 (sym at ∙ ap status_of is)
 
-      after : (text : List ℕ) → status_of (after_events (λ events. with_text r.config (file_at told r.config) (after_config r.shape (λ controls. Answered (line events controls)))) text) ≡ 2 → ⊥
-      after text is = either (events_of text) is
+  comes_otherwise : (inputs : List (Input × List ℕ)) (o : Outcome) → ComesOf inputs o → status_of o ≡ n → ⊥
+  comes_otherwise [] o comes at = comes
+  comes_otherwise (input ∷ more) o (inl e) at = no_file.2 (sym at ∙ ap status_of e)
+  comes_otherwise (input ∷ more) o (inr (inl e)) at = no_file.4 (sym at ∙ ap status_of e)
+  comes_otherwise (input ∷ more) o (inr (inr (inl e))) at = no_file.3 (sym at ∙ ap status_of e)
+  comes_otherwise (input ∷ more) o (inr (inr (inr (inl refused)))) at = text_refused input.0 o refused at
+  comes_otherwise (input ∷ more) o (inr (inr (inr (inr later)))) at = comes_otherwise more o later at
 
-  fault-not_usage : (reading : Option Reading) (called o : Outcome) → MayFail reading called o → status_of o ≡ 2 → ⊥
-  fault-not_usage reading called (Answered said) f e = f
-  fault-not_usage reading called Usage f e = f
-  fault-not_usage reading called (EventsRefused number why) f e = f
-  fault-not_usage reading called (ConfigRefused number why) f e = f
-  fault-not_usage reading called (NoFile name) f e = f
-  fault-not_usage reading called ReadFault f e = omega (arith, e)
-  fault-not_usage reading called WriteFault f e = omega (arith, e)
-  fault-not_usage reading called NoMemory f e = omega (arith, e)
-  fault-not_usage reading called (TooLarge name) f e = f
+  module _ (line : Found → List ℕ) where
+    -- files whose call has that status were all read
+    called_line : (told : Option Files) (inputs : List (Input × List ℕ)) (before : Found) → status_of (files_call_for told inputs line before) ≡ n → (found : Found) × (files_call_for told inputs line before ≡ Answered (line found))
+    called_line told [] before at = (before, refl)
+    called_line told (input ∷ more) before at = of_file (λ after. called_line told more after) (file_at told input.1) at
+      where
+        of_read : ((after : Found) → status_of (files_call_for told more line after) ≡ n → (found : Found) × (files_call_for told more line after ≡ Answered (line found))) → (text : List ℕ) (read : Result Found Outcome) → read_as input.0 before text ≡ read → status_of (unless_refused (files_call_for told more line) read) ≡ n
+            → (found : Found) × (unless_refused (files_call_for told more line) read ≡ Answered (line found))
+        of_read again text (Ok after) is at = again after at
+        of_read again text (Err o) is at = absurd (text_refused input.0 o (refusal_of_text input.0 before text o is) at)
 
-  of_command-not_usage : (reading : Option Reading) (o : Outcome) → IsOfCommand reading line o → status_of o ≡ 2 → ⊥
-  of_command-not_usage reading (Answered said) f e = omega (arith, e)
-  of_command-not_usage reading Usage f e = f
-  of_command-not_usage reading (EventsRefused number why) f e = omega (arith, e)
-  of_command-not_usage reading (ConfigRefused number why) f e = omega (arith, e)
-  of_command-not_usage reading (NoFile name) f e = omega (arith, e)
-  of_command-not_usage reading ReadFault f e = omega (arith, e)
-  of_command-not_usage reading WriteFault f e = omega (arith, e)
-  of_command-not_usage reading NoMemory f e = omega (arith, e)
-  of_command-not_usage reading (TooLarge name) f e = omega (arith, e)
+        of_text : ((after : Found) → status_of (files_call_for told more line after) ≡ n → (found : Found) × (files_call_for told more line after ≡ Answered (line found))) → (text : List ℕ) (within : Bool)
+            → status_of (cond within (unless_refused (files_call_for told more line) (read_as input.0 before text)) (TooLarge input.1)) ≡ n
+            → (found : Found) × (cond within (unless_refused (files_call_for told more line) (read_as input.0 before text)) (TooLarge input.1) ≡ Answered (line found))
+        of_text again text true at = of_read again text (read_as input.0 before text) refl at
+        of_text again text false at = absurd (no_file.4 (sym at))
 
-  -- a command ends otherwise than as usage
-  end-not_usage : (told : Option Files) (reading : Option Reading) (o : Outcome) → MayEnd told reading line o → status_of o ≡ 2 → ⊥
-  end-not_usage None reading o may e = of_command-not_usage reading o may e
-  end-not_usage (Some files) reading o (inl is) e = called_for-not_usage (Some files) reading (ap status_of (sym is) ∙ e)
-  end-not_usage (Some files) reading o (inr fault) e = fault-not_usage reading _ o fault e
+        of_file : ((after : Found) → status_of (files_call_for told more line after) ≡ n → (found : Found) × (files_call_for told more line after ≡ Answered (line found))) → (held : Option (List ℕ))
+            → status_of (with_text input.1 held (λ text. unless_refused (files_call_for told more line) (read_as input.0 before text))) ≡ n
+            → (found : Found) × (with_text input.1 held (λ text. unless_refused (files_call_for told more line) (read_as input.0 before text)) ≡ Answered (line found))
+        of_file again None at = absurd (no_file.2 (sym at))
+        of_file again (Some text) at = of_text again text (nat_le (length text) most_bytes) at
 
-module _ (command : Option Asked) (told : Option Files) (o : Outcome) (code : ℕ) (may : MayCome command told o) (is : (code ≡ status_of o) ⊎ (code ≡ 8)) where
-  -- the status is that of an outcome that may come
-  pub outcome_at : (x : Outcome) × MayCome command told x × (status_of x ≡ code)
-  outcome_at = pick is
-    where
-      pick : (code ≡ status_of o) ⊎ (code ≡ 8) → (x : Outcome) × MayCome command told x × (status_of x ≡ code)
-      pick (inl e) = (o, may, sym e)
-      pick (inr e) = (NoMemory, may_lack_memory command told, sym e)
+    -- an end with that status is that of a line, if it is no fault of the writing
+    line_at_end : (told : Option Files) (inputs : List (Input × List ℕ)) (o : Outcome) → MayEnd told inputs line o → status_of o ≡ n → (n ≡ 7 → ⊥) → (n ≡ 8 → ⊥) → (found : Found) × (o ≡ Answered (line found))
+    line_at_end None inputs o (inl says) at no_seven no_eight = says
+    line_at_end None inputs o (inr (inl comes)) at no_seven no_eight = absurd (comes_otherwise inputs o comes at)
+    line_at_end None inputs o (inr (inr (inl e))) at no_seven no_eight = absurd (no_seven (sym at ∙ ap status_of e))
+    line_at_end None inputs o (inr (inr (inr e))) at no_seven no_eight = absurd (no_eight (sym at ∙ ap status_of e))
+    line_at_end (Some files) inputs o (inl called) at no_seven no_eight =
+        let said = called_line (Some files) inputs nothing_found (sym (ap status_of called) ∙ at) in (said.0, called ∙ said.1)
+    line_at_end (Some files) inputs o (inr (inl (e, some))) at no_seven no_eight = absurd (no_file.3 (sym at ∙ ap status_of e))
+    line_at_end (Some files) inputs o (inr (inr (inl (e, done)))) at no_seven no_eight = absurd (no_seven (sym at ∙ ap status_of e))
+    line_at_end (Some files) inputs o (inr (inr (inr e))) at no_seven no_eight = absurd (no_eight (sym at ∙ ap status_of e))
 
-  -- a status other than that of want of memory is that of the refusal
-  pub status_at : (n : ℕ) → code ≡ n → (n ≡ 8 → ⊥) → status_of o ≡ n
-  status_at n at not_memory = pick is
-    where
-      pick : (code ≡ status_of o) ⊎ (code ≡ 8) → status_of o ≡ n
-      pick (inl e) = sym e ∙ at
-      pick (inr e) = absurd (not_memory (sym at ∙ e))
+-- an outcome with status 0 is the line of what was found
+done_line : (asked : Asked) (told : Option Files) (o : Outcome) → MayCome (Some asked) told o → status_of o ≡ 0 → (found : Found) × (o ≡ Answered (line_after asked found))
+done_line asked told o may at = line_at_end 0 done_is (line_after asked) told (inputs_of asked) o may at (λ e. omega (arith, e)) (λ e. omega (arith, e))
 
--- words that are no command end as usage
-pub usage_at : (command : Option Asked) (told : Option Files) (o : Outcome) (code : ℕ) → MayCome command told o → (code ≡ status_of o) ⊎ (code ≡ 8) → ComesWhere 2 code (command ≡ None)
-usage_at None told o code may is = (λ _. refl, λ _. pick may is)
-  where
-    pick : (o ≡ Usage) ⊎ (o ≡ NoMemory) → (code ≡ status_of o) ⊎ (code ≡ 8) → (code ≡ 2) ⊎ (code ≡ 8)
-    pick m (inr e) = inr e
-    pick (inl u) (inl e) = inl (e ∙ ap status_of u)
-    pick (inr n) (inl e) = inr (e ∙ ap status_of n)
-usage_at (Some asked) told o code may is =
-    (λ e. absurd (end-not_usage (line_after asked) told (reading_of asked) o may (status_at (Some asked) told o code may is 2 e (λ h. omega arith))), λ e. cc)
-
--- well-formed input is answered, but for faults
-pub complete_at : (command : Option Asked) (told : Option Files) (o : Outcome) (code : ℕ) (reads writes : Type 0) → MayCome command told o → (code ≡ status_of o) ⊎ (code ≡ 8) → (status_of o ≡ 6 → reads) → (status_of o ≡ 7 → writes)
-    → (asked : Asked) → command ≡ Some asked → IsSome told → status_of (called_for told asked) ≡ 0 → (reads → ⊥) → (writes → ⊥) → (code ≡ 0) ⊎ (code ≡ 8)
-complete_at command told o code reads writes may (inr e) read write asked is some answered no_reads no_writes = inr e
-complete_at None told o code reads writes may (inl e) read write asked is some answered no_reads no_writes = cc
-complete_at (Some given) None o code reads writes may (inl e) read write asked is some answered no_reads no_writes = cc
-complete_at (Some given) (Some files) o code reads writes (inl called) (inl e) read write asked is some answered no_reads no_writes =
-    let same : given ≡ asked = cc in
-    inl (e ∙ ap status_of (called ∙ ap (called_for (Some files)) same) ∙ answered)
-complete_at (Some given) (Some files) ReadFault code reads writes (inr fault) (inl e) read write asked is some answered no_reads no_writes = absurd (no_reads (read refl))
-complete_at (Some given) (Some files) WriteFault code reads writes (inr fault) (inl e) read write asked is some answered no_reads no_writes = absurd (no_writes (write refl))
-complete_at (Some given) (Some files) NoMemory code reads writes (inr fault) (inl e) read write asked is some answered no_reads no_writes = inr e
-complete_at (Some given) (Some files) (Answered said) code reads writes (inr fault) (inl e) read write asked is some answered no_reads no_writes = absurd fault
-complete_at (Some given) (Some files) Usage code reads writes (inr fault) (inl e) read write asked is some answered no_reads no_writes = absurd fault
-complete_at (Some given) (Some files) (EventsRefused number why) code reads writes (inr fault) (inl e) read write asked is some answered no_reads no_writes = absurd fault
-complete_at (Some given) (Some files) (ConfigRefused number why) code reads writes (inr fault) (inl e) read write asked is some answered no_reads no_writes = absurd fault
-complete_at (Some given) (Some files) (NoFile name) code reads writes (inr fault) (inl e) read write asked is some answered no_reads no_writes = absurd fault
-complete_at (Some given) (Some files) (TooLarge name) code reads writes (inr fault) (inl e) read write asked is some answered no_reads no_writes = absurd fault
+-- a command ends otherwise than as usage
+not_usage : (asked : Asked) (told : Option Files) (o : Outcome) → MayCome (Some asked) told o → status_of o ≡ 2 → ⊥
+not_usage asked told o may at =
+    let said = line_at_end 2 usage_is (line_after asked) told (inputs_of asked) o may at (λ e. omega (arith, e)) (λ e. omega (arith, e)) in
+    omega (arith, at, ap status_of said.1)
 
 -- a command writes a file or says its answer, and not both
-pub one_of_both : (command : Option Asked) → WritesFile command → SaysAnswer command → ⊥
+one_of_both : (command : Option Asked) → WritesFile command → SaysAnswer command → ⊥
 one_of_both None w s = w
 one_of_both (Some (Run asked)) w s = s
 one_of_both (Some (Check asked)) w s = w
 one_of_both (Some (Make asked)) w s = s
 one_of_both (Some (Demo asked)) w s = w
 
--- Where all is done, and the line was said with this status
+-- How the status of a call follows from the outcome's: it is that, or the line was not said whole
+abbrev pub TellsCode : Outcome → ℕ → Type 0 → Type 0
+TellsCode o code rose =
+    (code ≡ status_of o)
+    ⊎ (((status_of o ≡ 0) × (code ≡ 7) × (0 < length (line_said o)) × rose)
+    ⊎ ((code ≡ 8) × (0 < length (line_said o))))
 
-abbrev IsEndOfLine : ℕ → Type 0
-IsEndOfLine code = (code ≡ 0) ⊎ ((code ≡ 7) ⊎ (code ≡ 8))
-
-pub done_at : (code n : ℕ) → IsEndOfLine code → code ≡ n → (n ≡ 0 → ⊥) → (n ≡ 7 → ⊥) → (n ≡ 8 → ⊥) → ⊥
-done_at code n (inl e) at no0 no7 no8 = no0 (sym at ∙ e)
-done_at code n (inr (inl e)) at no0 no7 no8 = no7 (sym at ∙ e)
-done_at code n (inr (inr e)) at no0 no7 no8 = no8 (sym at ∙ e)
-
--- it is no refusal
-pub done-refusal : (code : ℕ) → IsEndOfLine code → IsRefusal code → ⊥
-done-refusal code is (inl e) = done_at code 2 is e (λ h. omega arith) (λ h. omega arith) (λ h. omega arith)
-done-refusal code is (inr (inl e)) = done_at code 3 is e (λ h. omega arith) (λ h. omega arith) (λ h. omega arith)
-done-refusal code is (inr (inr (inl e))) = done_at code 4 is e (λ h. omega arith) (λ h. omega arith) (λ h. omega arith)
-done-refusal code is (inr (inr (inr (inl e)))) = done_at code 5 is e (λ h. omega arith) (λ h. omega arith) (λ h. omega arith)
-done-refusal code is (inr (inr (inr (inr (inl e))))) = done_at code 6 is e (λ h. omega arith) (λ h. omega arith) (λ h. omega arith)
-done-refusal code is (inr (inr (inr (inr (inr e))))) = done_at code 9 is e (λ h. omega arith) (λ h. omega arith) (λ h. omega arith)
-
-module _ (command : Option Asked) (told : Option Files) (line : List ℕ) (code : ℕ) (may : MayCome command told (Answered line)) (is : IsEndOfLine code) where
-  -- a command was asked for
-  asks : command ≡ None → ⊥
-  asks none = go command may none
+module _ {S : Type 0} (written : S → Option (List ℕ)) (faults : S → ℕ) (o : Outcome) (code : ℕ) (old new : S) (says : SaysLine written faults (line_said o) (status_of o) code old new) where
+  pub told_code : TellsCode o code (Rose (faults old) (faults new))
+  told_code = go (status_of o) refl says.ends
     where
-      go : (command : Option Asked) → MayCome command told (Answered line) → command ≡ None → ⊥
-      go None (inl e) h = cc
-      go None (inr e) h = cc
-      go (Some asked) m h = cc
+      go : (own : ℕ) → status_of o ≡ own
+          → ((code ≡ own) × (length (line_said o) ≤ says.count))
+          ⊎ (((code ≡ status_at_fault own) × (says.count < length (line_said o)) × Rose (faults old) (faults new))
+          ⊎ ((code ≡ 8) × (says.count < length (line_said o)) × (faults new ≡ faults old)))
+          → TellsCode o code (Rose (faults old) (faults new))
+      go own is (inl (e, all)) = inl (e ∙ sym is)
+      go zero is (inr (inl (e, less, rose))) = inr (inl (is, e, omega (arith, less), rose))
+      go (suc n) is (inr (inl (e, less, rose))) = inl (e ∙ sym is)
+      go own is (inr (inr (e, less, same))) = inr (inr (e, omega (arith, less)))
 
-  pub done-usage : ComesWhere 2 code (command ≡ None)
-  done-usage = (λ e. absurd (done_at code 2 is e (λ h. omega arith) (λ h. omega arith) (λ h. omega arith)), λ none. absurd (asks none))
-
-  -- the line could then also not be said
-  may_fault : MayCome command told WriteFault
-  may_fault = go command told may
+  -- with status 0 the line was said whole
+  pub said_whole : code ≡ 0 → written new ≡ grown (written old) (line_said o)
+  said_whole done = go (status_of o) says.ends
     where
-      go : (command : Option Asked) (told : Option Files) → MayCome command told (Answered line) → MayCome command told WriteFault
-      go None told (inl e) = cc
-      go None told (inr e) = cc
-      go (Some asked) None m = tt
-      go (Some asked) (Some files) (inl called) = inr (ap status_of (sym called))
-      go (Some asked) (Some files) (inr fault) = absurd fault
+      go : (own : ℕ)
+          → ((code ≡ own) × (length (line_said o) ≤ says.count))
+          ⊎ (((code ≡ status_at_fault own) × (says.count < length (line_said o)) × Rose (faults old) (faults new))
+          ⊎ ((code ≡ 8) × (says.count < length (line_said o)) × (faults new ≡ faults old)))
+          → written new ≡ grown (written old) (line_said o)
+      go own (inl (e, all)) = says.grew ∙ ap (λ (text : List ℕ). grown (written old) text) (take_all says.count (line_said o) all)
+      go zero (inr (inl (e, less, rose))) = absurd (omega (arith, e, done))
+      go (suc n) (inr (inl (e, less, rose))) = absurd (omega (arith, e, done))
+      go own (inr (inr (e, less, same))) = absurd (omega (arith, e, done))
 
-  pub done-outcome : (x : Outcome) × MayCome command told x × (status_of x ≡ code)
-  done-outcome = pick is
+module _ (command : Option Asked) (told : Option Files) (o : Outcome) (code : ℕ) (rose : Type 0) (may : MayCome command told o) (tells : TellsCode o code rose) where
+  -- a status other than 7 and 8 is the outcome's
+  pub status_at : (n : ℕ) → code ≡ n → (n ≡ 7 → ⊥) → (n ≡ 8 → ⊥) → status_of o ≡ n
+  status_at n at no_seven no_eight = go tells
     where
-      pick : IsEndOfLine code → (x : Outcome) × MayCome command told x × (status_of x ≡ code)
-      pick (inl e) = (Answered line, may, sym e)
-      pick (inr (inl e)) = (WriteFault, may_fault, sym e)
-      pick (inr (inr e)) = (NoMemory, may_lack_memory command told, sym e)
+      go : TellsCode o code rose → status_of o ≡ n
+      go (inl e) = sym e ∙ at
+      go (inr (inl (done, e, some, r))) = absurd (no_seven (sym at ∙ e))
+      go (inr (inr (e, some))) = absurd (no_eight (sym at ∙ e))
 
-  -- a command that writes a file says nothing, and so ends with 0
-  module _ (quiet : WritesFile command → line ≡ []) (at_once : line ≡ [] → code ≡ 0) where
-    pub done-writes : WritesFile command → code ≡ 7 → ⊥
-    done-writes w e = let zero : code ≡ 0 = at_once (quiet w) in omega (arith, zero, e)
+  -- only a command that says its answer has a line with status 0
+  speaks : status_of o ≡ 0 → 0 < length (line_said o) → SaysAnswer command
+  speaks done some = go command may
+    where
+      go : (command : Option Asked) → MayCome command told o → SaysAnswer command
+      go None (inl e) = absurd (omega (arith, done, ap status_of e))
+      go None (inr e) = absurd (omega (arith, done, ap status_of e))
+      go (Some (Check asked)) may = tt
+      go (Some (Demo asked)) may = tt
+      go (Some (Run asked)) may =
+          let said = done_line (Run asked) told o may done in
+          absurd (omega (arith, some, ap (λ (x : Outcome). length (line_said x)) said.1))
+      go (Some (Make asked)) may =
+          let said = done_line (Make asked) told o may done in
+          absurd (omega (arith, some, ap (λ (x : Outcome). length (line_said x)) said.1))
 
-    pub done-complete : (saying : Type 0) → (code ≡ 7 → saying) → (asked : Asked) → command ≡ Some asked → (SaysAnswer (Some asked) × saying → ⊥) → (code ≡ 0) ⊎ (code ≡ 8)
-    done-complete saying fails asked same no_fault = pick is
+  -- words that are no command end as usage
+  pub usage_at : ComesWhere 2 code (command ≡ None)
+  usage_at = (λ e. none command may (status_at 2 e (λ h. omega (arith, h)) (λ h. omega (arith, h))), λ is. pick command may is)
+    where
+      none : (command : Option Asked) → MayCome command told o → status_of o ≡ 2 → command ≡ None
+      none None may at = refl
+      none (Some asked) may at = absurd (not_usage asked told o may at)
+
+      as_usage : status_of o ≡ 2 → TellsCode o code rose → (code ≡ 2) ⊎ (code ≡ 8)
+      as_usage at (inl e) = inl (e ∙ at)
+      as_usage at (inr (inl (done, e, some, r))) = absurd (omega (arith, done, at))
+      as_usage at (inr (inr (e, some))) = inr e
+
+      as_memory : status_of o ≡ 8 → TellsCode o code rose → (code ≡ 2) ⊎ (code ≡ 8)
+      as_memory at (inl e) = inr (e ∙ at)
+      as_memory at (inr (inl (done, e, some, r))) = absurd (omega (arith, done, at))
+      as_memory at (inr (inr (e, some))) = inr e
+
+      pick : (command : Option Asked) → MayCome command told o → command ≡ None → (code ≡ 2) ⊎ (code ≡ 8)
+      pick None (inl e) is = as_usage (ap status_of e) tells
+      pick None (inr e) is = as_memory (ap status_of e) tells
+      pick (Some asked) may is = cc
+
+  -- where a line is not said for a fault of the sink, the command could also have ended with a fault of a write
+  may_fault : status_of o ≡ 0 → MayCome command told WriteFault
+  may_fault done = go command told may
+    where
+      go : (command : Option Asked) (told : Option Files) → MayCome command told o → MayCome command told WriteFault
+      go None told (inl e) = absurd (omega (arith, done, ap status_of e))
+      go None told (inr e) = absurd (omega (arith, done, ap status_of e))
+      go (Some asked) None may = inr (inr (inl refl))
+      go (Some asked) (Some files) (inl called) = inr (inr (inl (refl, sym (ap status_of called) ∙ done)))
+      go (Some asked) (Some files) (inr (inl (e, some))) = absurd (omega (arith, done, ap status_of e))
+      go (Some asked) (Some files) (inr (inr (inl (e, answered)))) = absurd (omega (arith, done, ap status_of e))
+      go (Some asked) (Some files) (inr (inr (inr e))) = absurd (omega (arith, done, ap status_of e))
+
+  -- the status is that of an outcome that may come
+  pub outcome_at : (x : Outcome) × MayCome command told x × (status_of x ≡ code)
+  outcome_at = go tells
+    where
+      go : TellsCode o code rose → (x : Outcome) × MayCome command told x × (status_of x ≡ code)
+      go (inl e) = (o, may, sym e)
+      go (inr (inl (done, e, some, r))) = (WriteFault, may_fault done, sym e)
+      go (inr (inr (e, some))) = (NoMemory, may_lack_memory command told, sym e)
+
+  -- a write fault of a command that writes files is one of its own
+  pub write_fault_at : (writes : Type 0) → (status_of o ≡ 7 → WritesFile command × writes) → WritesFile command → code ≡ 7 → writes
+  write_fault_at writes faults w at = go tells
+    where
+      go : TellsCode o code rose → writes
+      go (inl e) = (faults (sym e ∙ at)).1
+      go (inr (inl (done, e, some, r))) = absurd (one_of_both command w (speaks done some))
+      go (inr (inr (e, some))) = absurd (omega (arith, e, at))
+
+  -- and one of a command that says its answer is one of the line
+  pub said_fault_at : (writes : Type 0) → (status_of o ≡ 7 → WritesFile command × writes) → SaysAnswer command → code ≡ 7 → rose
+  said_fault_at writes faults s at = go tells
+    where
+      go : TellsCode o code rose → rose
+      go (inl e) = absurd (one_of_both command (faults (sym e ∙ at)).0 s)
+      go (inr (inl (done, e, some, r))) = r
+      go (inr (inr (e, some))) = absurd (omega (arith, e, at))
+
+  -- well-formed input is answered, but for faults
+  pub complete_at : (reads writes : Type 0) → (status_of o ≡ 6 → reads) → (status_of o ≡ 7 → WritesFile command × writes)
+      → (asked : Asked) → command ≡ Some asked → IsSome told → status_of (called_for told asked) ≡ 0
+      → (reads → ⊥) → (writes → ⊥) → (SaysAnswer (Some asked) × rose → ⊥) → (code ≡ 0) ⊎ (code ≡ 8)
+  complete_at reads writes read write asked is some answered no_reads no_writes no_rose = go tells
+    where
+      called_at : (command : Option Asked) (told : Option Files) → MayCome command told o → command ≡ Some asked → IsSome told
+          → (o ≡ called_for told asked) ⊎ MayFail (inputs_of asked) (called_for told asked) o
+      called_at None told may is some = cc
+      called_at (Some given) None may is some = cc
+      called_at (Some given) (Some files) may is some =
+          let same : given ≡ asked = cc in
+          subst (λ (x : Asked). (o ≡ called_for (Some files) x) ⊎ MayFail (inputs_of x) (called_for (Some files) x) o) same may
+
+      own : code ≡ status_of o → (o ≡ called_for told asked) ⊎ MayFail (inputs_of asked) (called_for told asked) o → (code ≡ 0) ⊎ (code ≡ 8)
+      own e (inl called) = inl (e ∙ ap status_of called ∙ answered)
+      own e (inr (inl (fault, some))) = absurd (no_reads (read (ap status_of fault)))
+      own e (inr (inr (inl (fault, done)))) = absurd (no_writes (write (ap status_of fault)).1)
+      own e (inr (inr (inr memory))) = inr (e ∙ ap status_of memory)
+
+      go : TellsCode o code rose → (code ≡ 0) ⊎ (code ≡ 8)
+      go (inl e) = own e (called_at command told may is some)
+      go (inr (inl (done, e, speaking, r))) = absurd (no_rose (subst (λ (c : Option Asked). SaysAnswer c) is (speaks done speaking), r))
+      go (inr (inr (e, speaking))) = inr e
+
+  -- a refusal's status is the outcome's
+  refusal_at : IsRefusal code → IsRefusal (status_of o)
+  refusal_at refusal = go tells
+    where
+      go : TellsCode o code rose → IsRefusal (status_of o)
+      go (inl e) = subst (λ (n : ℕ). IsRefusal n) e refusal
+      go (inr (inl (done, e, some, r))) = absurd (no_both code (inl e) refusal)
+      go (inr (inr (e, some))) = absurd (no_both code (inr e) refusal)
+
+  module _ (new : Option Files) (ends : EndsWith command o told new) where
+    pub untouched_at : IsRefusal code → SameFiles told new
+    untouched_at refusal name = ap (λ (files : Option Files). file_at files name) (ends.untouched (refusal_at refusal))
+
+    -- a call that was stopped has written a part, or its command writes nothing
+    pub part_at : IsStop code → IsCommandAnsweredInPart command told new
+    part_at stop = go (status_is o)
       where
-        either : (asked : Asked) → command ≡ Some asked → (SaysAnswer (Some asked) × saying → ⊥) → code ≡ 7 → ⊥
-        either (Run a) same deny e = done-writes (subst (λ (c : Option Asked). WritesFile c) (sym same) tt) e
-        either (Check a) same deny e = deny (tt, fails e)
-        either (Make a) same deny e = done-writes (subst (λ (c : Option Asked). WritesFile c) (sym same) tt) e
-        either (Demo a) same deny e = deny (tt, fails e)
+        silent : (command : Option Asked) (told : Option Files) → SaysAnswer command → IsCommandAnsweredInPart command told new
+        silent None told s = absurd s
+        silent (Some asked) None s = tt
+        silent (Some (Check asked)) (Some files) s = inl (λ i d low. absurd (omega (arith, low)))
+        silent (Some (Demo asked)) (Some files) s = inl (λ i d low. absurd (omega (arith, low)))
+        silent (Some (Run asked)) (Some files) s = absurd s
+        silent (Some (Make asked)) (Some files) s = absurd s
 
-        pick : IsEndOfLine code → (code ≡ 0) ⊎ (code ≡ 8)
-        pick (inl e) = inl e
-        pick (inr (inl e)) = absurd (either asked same no_fault e)
-        pick (inr (inr e)) = inr e
+        of_done : status_of o ≡ 0 → TellsCode o code rose → IsCommandAnsweredInPart command told new
+        of_done done (inl e) = absurd (no_stop code stop (e ∙ done))
+        of_done done (inr (inl (d, e, some, r))) = silent command told (speaks done some)
+        of_done done (inr (inr (e, some))) = silent command told (speaks done some)
 
-    pub done-part : (new : Option Files) → (code ≡ 7) ⊎ (code ≡ 8) → IsCommandAnsweredInPart command told new
-    done-part new stopped = go command told quiet
-      where
-        not_done : code ≡ 0 → ⊥
-        not_done zero = either stopped
-          where
-            either : (code ≡ 7) ⊎ (code ≡ 8) → ⊥
-            either (inl e) = omega (arith, zero, e)
-            either (inr e) = omega (arith, zero, e)
+        go : (status_of o ≡ 0) ⊎ (IsStop (status_of o) ⊎ IsRefusal (status_of o)) → IsCommandAnsweredInPart command told new
+        go (inl done) = of_done done tells
+        go (inr (inl own)) = ends.part own
+        go (inr (inr refusal)) = stopped_alone command told new (ends.untouched refusal)
 
-        go : (command : Option Asked) (told : Option Files) → (WritesFile command → line ≡ []) → IsCommandAnsweredInPart command told new
-        go None None q = tt
-        go None (Some files) q = tt
-        go (Some asked) None q = tt
-        go (Some (Run asked)) (Some files) q = absurd (not_done (at_once (q tt)))
-        go (Some (Check asked)) (Some files) q = tt
-        go (Some (Make asked)) (Some files) q = absurd (not_done (at_once (q tt)))
-        go (Some (Demo asked)) (Some files) q = tt
-
-  -- what the files call for was said
-  pub done-printed : (before now : Option (List ℕ)) → now ≡ grown before line → OnSome told (IfSome command (λ asked. now ≡ grown before (line_said (called_for told asked))))
-  done-printed before now grew = go command told may
+  -- with status 0 what is said is the line that the files call for
+  pub printed_at : (before now : Option (List ℕ)) → (code ≡ 0 → now ≡ grown before (line_said o)) → code ≡ 0
+      → OnSome told (IfSome command (λ asked. now ≡ grown before (line_said (called_for told asked))))
+  printed_at before now whole done = go command told may
     where
-      go : (command : Option Asked) (told : Option Files) → MayCome command told (Answered line) → OnSome told (IfSome command (λ asked. now ≡ grown before (line_said (called_for told asked))))
-      go None None m = tt
-      go None (Some files) m = tt
-      go (Some asked) None m = tt
-      go (Some asked) (Some files) (inl called) = grew ∙ ap (λ (o : Outcome). grown before (line_said o)) called
-      go (Some asked) (Some files) (inr fault) = absurd fault
+      zero_is : status_of o ≡ 0
+      zero_is = status_at 0 done (λ h. omega (arith, h)) (λ h. omega (arith, h))
+
+      go : (command : Option Asked) (told : Option Files) → MayCome command told o → OnSome told (IfSome command (λ asked. now ≡ grown before (line_said (called_for told asked))))
+      go None None may = tt
+      go None (Some files) may = tt
+      go (Some asked) None may = tt
+      go (Some asked) (Some files) (inl called) = whole done ∙ ap (λ (x : Outcome). grown before (line_said x)) called
+      go (Some asked) (Some files) (inr (inl (e, some))) = absurd (omega (arith, zero_is, ap status_of e))
+      go (Some asked) (Some files) (inr (inr (inl (e, answered)))) = absurd (omega (arith, zero_is, ap status_of e))
+      go (Some asked) (Some files) (inr (inr (inr e))) = absurd (omega (arith, zero_is, ap status_of e))

@@ -1,8 +1,9 @@
+pub mod Came
 pub mod Codes
 pub mod Coming
-pub mod Ending
 pub mod GivingRows
 mod Joined
+pub mod Leaving
 mod Parts
 pub mod TwoMoves
 pub mod Written

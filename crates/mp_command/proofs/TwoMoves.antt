@@ -7,6 +7,8 @@ use denote.Bor.{Bor}
 use Rattle.std.proofs.Math.Nat.{mod-lt}
 use Rattle.std.proofs.lemmas.List.Elements.{All-append, All-cons, All-nil}
 use Rattle.mp_job.specs.Legal.{ControlFits}
+use Rattle.mp_model.specs.declared.record.Event.{Event}
+use Rattle.mp_model.specs.Rules.{given_values}
 use Rattle.mp_names.specs.declared.controls.Shape.{Shape}
 use Rattle.mp_names.specs.Limits.{greatest_time}
 use Rattle.mp_outside.specs.Fault.{Rose}
@@ -15,8 +17,9 @@ use Rattle.mp_outside.proofs.FileLemmas.{file_at-with_file}
 use Rattle.mp_plans.specs.Plans.{all_at_once_records, fluid_records, planned}
 use Rattle.mp_words.specs.declared.options.QueryName.{QueryName}
 use Rattle.mp_words.specs.declared.options.QueryName.TheVariants.{Q1, Q2, Q3, Q4, Q5, Q6, Q7, Q8}
-use Rattle.mp_command.specs.Outcome.{Outcome, NoMemory, StopsAnswer, status_of}
-use Rattle.mp_command.specs.Queries.{stages_of}
+use Rattle.mp_command.specs.Calls.{StopsAnswer}
+use Rattle.mp_command.specs.Outcome.{Outcome, NoMemory, status_of}
+use Rattle.mp_command.specs.Queries.{answer_of, rules_of, stages_of}
 
 -- a fact of the item of each index below a bound is one of each item of a list made from these
 all_made : {X : Type 0} (P : X → Type 0) (f : ℕ → X) (a n : ℕ) → ((k : ℕ) → a ≤ k → k < a + n → P (f k)) → All P (map f (range_with_len a n))
@@ -69,3 +72,11 @@ pub copied_some : (o : Option (Bor (List ℕ))) (x : Bor (List ℕ)) (text : Lis
 copied_some o x text is held =
     let same : Some x.now ≡ Some text = ap option_copied (sym is) ∙ held in
     cc
+
+-- the text of a demo's answer
+pub demo_text : (query asked : QueryName) (values text : List ℕ) (events made : List Event) → text ≡ answer_of query values events → values ≡ given_values (rules_of query) → query ≡ asked → events ≡ made
+    → text ≡ answer_of asked (given_values (rules_of asked)) made
+demo_text query asked values text events made is given same all =
+    is ∙ ap (λ (vs : List ℕ). answer_of query vs events) given
+    ∙ ap (λ (q : QueryName). answer_of q (given_values (rules_of q)) events) same
+    ∙ ap (λ (es : List Event). answer_of asked (given_values (rules_of asked)) es) all

@@ -1,6 +1,9 @@
 -- What the contracts of this crate cite.
+pub mod Calls
 pub mod Config
 pub mod Ends
+pub mod InputFiles
+pub mod Inputs
 pub mod Lines
 pub mod Outcome
 pub mod Queries

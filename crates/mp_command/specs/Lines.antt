@@ -3,11 +3,11 @@ use Rattle.std.specs.Prelude.{ℕ, List, [], ◌++◌, codes, length}
 use Rattle.std.specs.Fmt.{decimal}
 use Rattle.mp_make.specs.Made.{made_events}
 use Rattle.mp_make.specs.Summary.{summary_of}
-use Rattle.mp_model.specs.declared.record.Event.{Event}
-use Rattle.mp_names.specs.declared.controls.Control.{Control}
+use Rattle.mp_model.specs.Rules.{given_values}
 use Rattle.mp_words.specs.declared.options.DemoOptions.{DemoOptions}
 use Rattle.mp_words.specs.Words.{Asked, Run, Check, Make, Demo}
-use Rattle.mp_command.specs.Queries.{answer_of}
+use Rattle.mp_command.specs.Inputs.{Found}
+use Rattle.mp_command.specs.Queries.{answer_of, rules_of}
 
 -- the line of files that have so many events and control records
 abbrev pub ok_line : ℕ → ℕ → List ℕ
@@ -17,14 +17,13 @@ ok_line events controls = codes "ok " ++ decimal events ++ codes " events " ++ d
 abbrev pub answer_name : List ℕ
 answer_name = codes "answer"
 
--- the summary of the one-thread answer to the events that a demo makes
+-- the summary of the one-thread answer to the events that a demo makes, with the given values of the query's rules
 abbrev pub demo_line : DemoOptions → List ℕ
-demo_line asked = summary_of asked.count (answer_of asked.query (made_events asked.count asked.seed))
+demo_line asked = summary_of asked.count (answer_of asked.query (given_values (rules_of asked.query)) (made_events asked.count asked.seed))
 
--- the line that is said where all is done, by the events and the control records that were read; `run`, `replay` and `make` say
--- nothing
-abbrev pub line_after : Asked → List Event → List Control → List ℕ
-line_after (Run asked) events controls = []
-line_after (Check asked) events controls = ok_line (length events) (length controls)
-line_after (Make asked) events controls = []
-line_after (Demo asked) events controls = demo_line asked
+-- the line that is said where all is done, by what was read; `run`, `replay` and `make` say nothing
+abbrev pub line_after : Asked → Found → List ℕ
+line_after (Run asked) found = []
+line_after (Check asked) found = ok_line (length found.events) (length found.settings.controls)
+line_after (Make asked) found = []
+line_after (Demo asked) found = demo_line asked

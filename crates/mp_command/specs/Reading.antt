@@ -1,15 +1,9 @@
--- What comes of reading a named file.
-use Rattle.std.specs.Prelude.{ℕ, ◌≡◌, ◌<◌, ◌≤◌, ◌⊎◌, Option, None, Some, Ok, List, length}
-use Rattle.mp_model.specs.declared.record.Event.{Event}
-use Rattle.mp_events.specs.Events.{events_of}
-use Rattle.mp_outside.specs.Files.{Files, file_at, IsThereWith}
+-- What comes of reading a command's files.
+use Rattle.std.specs.Prelude.{ℕ, ◌≡◌, ◌<◌, ◌≤◌, ◌⊎◌, Option, None, Ok, Err, List, [], ◌∷◌, length}
 use Rattle.mp_names.specs.Limits.{most_bytes}
-use Rattle.mp_control.specs.Controls.{controls_of}
-use Rattle.mp_names.specs.declared.controls.Control.{Control}
-use Rattle.mp_names.specs.declared.controls.Shape.{Shape}
-use Rattle.mp_words.specs.Values.{CheckAsked}
-use Rattle.mp_command.specs.Config.{check_reading}
-use Rattle.mp_command.specs.Outcome.{Outcome, NoFile, TooLarge, ReadFault, NoMemory}
+use Rattle.mp_outside.specs.Files.{Files, file_at, IsThereWith}
+use Rattle.mp_command.specs.Inputs.{Found, Input, read_as}
+use Rattle.mp_command.specs.Outcome.{Outcome, NoFile, NoMemory, ReadFault, TooLarge}
 
 -- the text is the file's, where files are told, and no longer than is allowed
 pub record IsRead (told : Option Files) (name text : List ℕ) : Type 0 where
@@ -23,23 +17,23 @@ pub data CannotRead (told : Option Files) (name : List ℕ) : Outcome → Type 0
   failed : CannotRead told name ReadFault
   no_memory : CannotRead told name NoMemory
 
--- why a file was refused: it gave no text, or one that is refused so
-abbrev pub RefusedBy : Option Files → List ℕ → (List ℕ → Option Outcome) → Outcome → Type 0
-RefusedBy told name refusal outcome =
-    CannotRead told name outcome
-    ⊎ ((text : List ℕ) × IsRead told name text × (refusal text ≡ Some outcome))
+-- the file was read, and with its text so much is found
+abbrev pub ReadsAs : Option Files → Input × List ℕ → Found → Found → Type 0
+ReadsAs told input before after = (text : List ℕ) × IsRead told input.1 text × (read_as input.0 before text ≡ Ok after)
 
--- the event file was read, and says these events
-abbrev pub ReadsEvents : Option Files → List ℕ → List Event → Type 0
-ReadsEvents told name events = (text : List ℕ) × IsRead told name text × (events_of text ≡ Ok events)
+-- how a call ends whose file gave no text, or one that is refused so
+abbrev pub RefusesAs : Option Files → Input × List ℕ → Found → Outcome → Type 0
+RefusesAs told input before outcome =
+    CannotRead told input.1 outcome
+    ⊎ ((text : List ℕ) × IsRead told input.1 text × (read_as input.0 before text ≡ Err outcome))
 
--- the configuration was read, and says these control records for a job of this shape
-abbrev pub ReadsConfig : Option Files → List ℕ → Shape → List Control → Type 0
-ReadsConfig told name shape controls =
-    (text : List ℕ) × IsRead told name text × (controls_of text shape ≡ Ok controls)
+-- the files were read, each in its turn, and in the end so much is found
+abbrev pub ReadsAll : Option Files → List (Input × List ℕ) → Found → Found → Type 0
+ReadsAll told [] before after = after ≡ before
+ReadsAll told (input ∷ more) before after = (found : Found) × ReadsAs told input before found × ReadsAll told more found after
 
--- both files of `check` were read
-abbrev pub ReadsBoth : Option Files → CheckAsked → Type 0
-ReadsBoth told asked =
-    (events : List Event) × (controls : List Control) × ReadsEvents told asked.events events
-    × ReadsConfig told asked.config (check_reading asked).shape controls
+-- how a call ends where one of the files was refused, behind those that were read
+abbrev pub RefusesOne : Option Files → List (Input × List ℕ) → Found → Outcome → Type 0
+RefusesOne told [] before outcome = ⊥
+RefusesOne told (input ∷ more) before outcome =
+    RefusesAs told input before outcome ⊎ ((found : Found) × ReadsAs told input before found × RefusesOne told more found outcome)

@@ -1,12 +1,14 @@
 -- What a refusal says, as plain data.
-use Rattle.std.specs.Prelude.{ℕ, ◌≡◌, List}
+use Rattle.std.specs.Prelude.{ℕ, ◌≡◌, List, Result, Ok, Err}
+use Rattle.std.specs.Global.{Global}
+use Rattle.std.specs.declared.vec.Vec.{Vec}
 use Rattle.mp_output.specs.declared.refused.OutRefused.{OutRefused}
 use Rattle.mp_output.specs.declared.refused.OutRefused.TheVariants as out
 use Rattle.mp_outside.specs.declared.fault.Fault.{Fault}
 use Rattle.mp_outside.specs.declared.fault.Fault.TheVariants as fault
 use Rattle.mp_command.specs.declared.refusal.Refusal.{Refusal}
 use Rattle.mp_command.specs.declared.refusal.Refusal.TheVariants as refusal
-use Rattle.mp_command.specs.Outcome.{Outcome, Usage, EventsRefused, ConfigRefused, NoFile, ReadFault}
+use Rattle.mp_command.specs.Outcome.{Outcome, Answered, Usage, EventsRefused, ConfigRefused, NoFile, ReadFault}
 use Rattle.mp_command.specs.Outcome.{WriteFault, NoMemory, TooLarge, line_said, status_of}
 
 -- how a call ends with this refusal
@@ -19,6 +21,11 @@ outcome_of refusal.ReadFault = ReadFault
 outcome_of refusal.WriteFault = WriteFault
 outcome_of refusal.NoMemory = NoMemory
 outcome_of (refusal.TooLarge name) = TooLarge name.now
+
+-- how a call ends with this line, or with this refusal
+abbrev pub outcome_in : Result (Vec ℕ Global) Refusal → Outcome
+outcome_in (Ok line) = Answered line.items
+outcome_in (Err refused) = outcome_of refused
 
 -- the command ends with this status at this refusal
 abbrev pub EndsAs : Refusal → ℕ → Type 0

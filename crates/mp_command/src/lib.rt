@@ -6,19 +6,19 @@
 
 mod causes;
 mod checking;
+mod flow;
 mod making;
 mod reading;
 mod refusal;
 mod reporting;
 mod samples;
-mod shape;
 mod status;
 
 pub use checking::check;
+pub use flow::Flow;
 pub use making::make;
-pub use reading::{controls_in, events_in};
+pub use reading::{InputFiles, Inputs, read_inputs};
 pub use refusal::Refusal;
 pub use reporting::report_to;
-pub use samples::{ANSWER, run_in_memory, two_moves};
-pub use shape::shape_of;
-pub use status::{Status, conclude, lack_memory, refuse};
+pub use samples::{ANSWER, demo_settings, run_in_memory};
+pub use status::{Status, lack_memory, tell};

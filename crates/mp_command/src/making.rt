@@ -1,13 +1,15 @@
 //! The command `make`: events that are made from a seed, as a file.
-ghost use Rattle.std.specs.Prelude.{◌≡◌, ◌⊎◌, [], Err, ℕ, OnErr, OnOk, IfErr, IfOk, take};
+ghost use Rattle.std.specs.Prelude.{◌≡◌, Err, ℕ, OnErr, OnOk, IfErr, Some, take};
 ghost use Rattle.mp_outside.specs.Fault.{Rose};
-ghost use Rattle.mp_outside.specs.Files.{with_file};
 ghost use Rattle.mp_outside.specs.Sink.{OnlyAppends, grown};
 ghost use Rattle.mp_outside.specs.declared.fault.Fault.TheVariants.{Failed};
 ghost use Rattle.mp_words.specs.Values.{make_in};
-ghost use Rattle.mp_command.specs.Outcome.{StopsAnswer};
-ghost use Rattle.mp_command.specs.Refused.{EndsAs, outcome_of};
-ghost use Rattle.mp_command.specs.Writing.{HoldsPart, event_file, made_file};
+ghost use Rattle.mp_words.specs.Words.{Make};
+ghost use Rattle.mp_command.specs.Calls.{StopsAnswer};
+ghost use Rattle.mp_command.specs.Ends.{CameTo, Leaves};
+ghost use Rattle.mp_command.specs.Inputs.{nothing_found};
+ghost use Rattle.mp_command.specs.Refused.{EndsAs, outcome_in, outcome_of};
+ghost use Rattle.mp_command.specs.Writing.{IsTextOf, WritesAll, WritesSome, event_file, targets_of};
 
 use crate::refusal::Refusal;
 use mp_events::write_event;
@@ -24,11 +26,26 @@ pub fn make<'a, D: Depot>(
     depot: &mut D,
     options: &MakeOptions<'a>,
 ) -> Result<Vec<u8>, Refusal<'a>>
-    ensures quiet { IfOk result (λ line. line.items ≡ []) }
-    ensures whole { let text = made_file (make_in options.now) in
-        OnOk result (D.files depot.new ≡ with_file (D.files depot.old) options.now.out.now text) }
-    ensures part { let text = made_file (make_in options.now) in
-        OnErr result (HoldsPart (D.files depot.old) (D.files depot.new) options.now.out.now text) }
+    ensures came { CameTo D.files D.found D.read_faults D.write_faults
+        (Some (Make (make_in options.now))) (outcome_in result) depot.old depot.new }
+    ensures left { Leaves (Make (make_in options.now)) (outcome_in result)
+        (D.files depot.old) (D.files depot.new) }
+{
+    make_file(alloc, depot, options)?;
+    Ok(Vec::new(alloc))
+}
+
+/// Makes events, and makes a file hold their lines. `WriteFault`: the file couldn't be begun or
+/// appended to; `NoMemory`: no memory.
+fn make_file<'a, D: Depot>(
+    alloc: Global,
+    depot: &mut D,
+    options: &MakeOptions<'a>,
+) -> Result<(), Refusal<'a>>
+    ensures whole { let asked = Make (make_in options.now) in OnOk result
+        (WritesAll (IsTextOf asked nothing_found) (targets_of asked) (D.files depot.old) (D.files depot.new)) }
+    ensures part { let asked = Make (make_in options.now) in OnErr result
+        (WritesSome (IsTextOf asked nothing_found) (targets_of asked) (D.files depot.old) (D.files depot.new)) }
     ensures refused { IfErr result (λ r. StopsAnswer (outcome_of r)) }
     ensures failed { IfErr result (λ r. EndsAs r 7
         → Rose (D.write_faults depot.old) (D.write_faults depot.new)) }
@@ -36,8 +53,7 @@ pub fn make<'a, D: Depot>(
     let events = make_events(alloc, options.count, options.seed)?;
     depot.begin(options.out)?;
     let mut sink = DepotSink::new(depot, options.out);
-    write_events(alloc, events.as_slice(), &mut sink)?;
-    Ok(Vec::new(alloc))
+    Ok(write_events(alloc, events.as_slice(), &mut sink)?)
 }
 
 /// Writes the lines of events, each as one piece. `Failed`: the sink's own; `NoMemory`: no memory. A part of the

@@ -2,10 +2,10 @@
 ghost use Rattle.std.specs.Prelude.{◌≡◌, ◌≤◌, IfErr, OnErr, OnOk, Some};
 ghost use Rattle.mp_model.specs.Tables.{table_of};
 ghost use Rattle.mp_outside.specs.Fault.{Rose};
-ghost use Rattle.mp_report.specs.Report.{AreTalliesOf, IsReport};
-ghost use Rattle.mp_command.specs.Outcome.{StopsAnswer};
+ghost use Rattle.mp_report.specs.Report.{AreTalliesOf};
+ghost use Rattle.mp_command.specs.Calls.{StopsAnswer};
 ghost use Rattle.mp_command.specs.Refused.{EndsAs, outcome_of};
-ghost use Rattle.mp_command.specs.Writing.{WritesReport, WritesReportPart};
+ghost use Rattle.mp_command.specs.Writing.{IsTextOfJob, WritesAll, WritesSome, report_in};
 
 use crate::refusal::Refusal;
 use mp_job::Job;
@@ -26,10 +26,10 @@ pub fn report_to<'a, D: Depot, Q: Query>(
     tallies: &[Tally],
 ) -> Result<(), Refusal<'a>>
     requires tallies { AreTalliesOf (table_of Q.facts job.now) job.now tallies.now }
-    ensures whole { OnOk result (WritesReport (IsReport (table_of Q.facts job.now) job.now) (Some name.now)
-        (D.files depot.old) (D.files depot.new)) }
-    ensures part { OnErr result (WritesReportPart (IsReport (table_of Q.facts job.now) job.now) (Some name.now)
-        (D.files depot.old) (D.files depot.new)) }
+    ensures whole { OnOk result (WritesAll (IsTextOfJob (table_of Q.facts job.now) job.now)
+        (report_in (Some name.now)) (D.files depot.old) (D.files depot.new)) }
+    ensures part { OnErr result (WritesSome (IsTextOfJob (table_of Q.facts job.now) job.now)
+        (report_in (Some name.now)) (D.files depot.old) (D.files depot.new)) }
     ensures refused { IfErr result (λ r. StopsAnswer (outcome_of r)) }
 
     ensures failed { IfErr result (λ r. EndsAs r 7

@@ -1,13 +1,16 @@
-//! What a demo runs: its options, and its control records.
+//! What a demo runs: its options and its settings.
 ghost use Rattle.std.specs.Prelude.{◌≡◌, ◌<◌, ◌≤◌, IfErr, IfOk, None};
+ghost use Rattle.mp_control.specs.Settings.{settings_in};
 ghost use Rattle.mp_job.specs.Legal.{ControlsFit};
+ghost use Rattle.mp_command.specs.Config.{SettingsFit, demo_controls, demo_settings};
 ghost use Rattle.mp_words.specs.Limits.{AreWithinLimits, DemoIsWithinLimits};
 ghost use Rattle.mp_command.specs.Lines.{answer_name};
 ghost use Rattle.mp_command.specs.Outcome.{NoMemory};
 ghost use Rattle.mp_command.specs.Refused.{outcome_of};
 
+use crate::flow::Flow;
 use crate::refusal::Refusal;
-use mp_control::Shape;
+use mp_control::{Settings, Shape, ValueList};
 use mp_plans::{Control, all_at_once, fluid};
 use mp_words::{DemoOptions, RunOptions, Schedule};
 use std::alloc::Global;
@@ -20,6 +23,9 @@ pub fn run_in_memory(options: &DemoOptions) -> RunOptions<'static>
     requires { DemoIsWithinLimits options.now }
     ensures within { AreWithinLimits result }
     ensures query { result.query ≡ options.now.query }
+    ensures size { (result.workers ≡ options.now.workers) × (result.bins ≡ options.now.bins)
+        × (result.depth ≡ options.now.depth) }
+    ensures schedule { result.schedule ≡ Schedule.Threads }
     ensures out { result.out.now ≡ answer_name }
     ensures report { result.report ≡ None }
 {
@@ -36,11 +42,29 @@ pub fn run_in_memory(options: &DemoOptions) -> RunOptions<'static>
     }
 }
 
-/// The control records that move every bin of the first stage at 600, and then one after the other from 1200 on.
-pub fn two_moves<'a>(alloc: Global, shape: Shape) -> Result<Vec<Control>, Refusal<'a>>
+/// What a demo is run with: the usual first owners, the given values of the query's rules, and control records that move every bin
+/// of the first stage at 600, and then one after the other from 1200 on. `NoMemory`, and no other refusal: no memory.
+pub fn demo_settings<'a>(alloc: Global, flow: Flow) -> Result<Settings, Refusal<'a>>
+    requires workers { 0 < flow.workers }
+    requires bins { flow.bins ≤ 4096 }
+    ensures settings { IfOk result (λ s. settings_in s ≡ demo_settings flow) }
+    ensures fit { IfOk result (λ s. SettingsFit flow (settings_in s)) }
+    ensures refused { IfErr result (λ r. outcome_of r ≡ NoMemory) }
+{
+    let controls = two_moves(alloc, flow.shape())?;
+    Ok(Settings {
+        firsts: Vec::new(alloc),
+        values: ValueList::given(&flow.rules()),
+        controls,
+    })
+}
+
+// The control records of a demo.
+fn two_moves<'a>(alloc: Global, shape: Shape) -> Result<Vec<Control>, Refusal<'a>>
     requires workers { 0 < shape.workers }
     requires bins { shape.bins ≤ 4096 }
     requires stages { 0 < shape.stages }
+    ensures records { IfOk result (λ controls. controls.items ≡ demo_controls shape) }
     ensures fit { IfOk result (λ controls. ControlsFit shape controls.items) }
     ensures refused { IfErr result (λ r. outcome_of r ≡ NoMemory) }
 {

@@ -1,10 +1,9 @@
 //! The status that a call ends with.
-ghost use Rattle.std.specs.Prelude.{◌≡◌, ◌⊎◌, [], ℕ, take, codes};
-ghost use Rattle.mp_outside.specs.Fault.{Rose};
+ghost use Rattle.std.specs.Prelude.{◌≡◌, ℕ, take, codes};
 ghost use Rattle.mp_outside.specs.Sink.{grown};
 ghost use Rattle.mp_command.specs.Ends.{SaysLine};
-ghost use Rattle.mp_command.specs.Outcome.{status_of};
-ghost use Rattle.mp_command.specs.Refused.{line_of, outcome_of};
+ghost use Rattle.mp_command.specs.Outcome.{line_said, status_of};
+ghost use Rattle.mp_command.specs.Refused.{line_of, outcome_in, outcome_of};
 
 use crate::refusal::Refusal;
 use mp_outside::{Fault, Sink, write_piece};
@@ -16,11 +15,23 @@ pub struct Status {
     pub code: u8,
 }
 
+/// Says how a call ended: the line of a command that is done, or why there is no answer. The status is that of the end, but where
+/// `said` doesn't take the whole line: that of a write fault where the line is an answer, and that of an allocation failure where
+/// `said` finds no memory.
+pub fn tell<S: Sink>(end: &Result<Vec<u8>, Refusal>, said: &mut S) -> Status
+    ensures { let outcome = outcome_in end.now in
+        SaysLine S.written S.faults (line_said outcome) (status_of outcome) result.code said.old said.new }
+{
+    match end {
+        Ok(line) => conclude(line.as_slice(), said),
+        Err(refusal) => refuse(refusal, said),
+    }
+}
+
 /// Says why there is no answer. Its status is that of the refusal, but where `said` finds no memory for the
 /// line: then it is that of an allocation failure.
-pub fn refuse<S: Sink>(refusal: &Refusal, said: &mut S) -> Status
-    ensures code { (result.code ≡ status_of (outcome_of refusal.now)) ⊎ (result.code ≡ 8) }
-    ensures said { let own = status_of (outcome_of refusal.now) in
+fn refuse<S: Sink>(refusal: &Refusal, said: &mut S) -> Status
+    ensures { let own = status_of (outcome_of refusal.now) in
         SaysLine S.written S.faults (line_of refusal.now) own result.code said.old said.new }
 {
     match refusal.say(said) {
@@ -38,12 +49,8 @@ pub fn refuse<S: Sink>(refusal: &Refusal, said: &mut S) -> Status
 
 /// Says the line of a command that is done. Its status is 0, but where `said` doesn't take the whole line:
 /// then it is that of a write fault or of an allocation failure.
-pub fn conclude<S: Sink>(line: &[u8], said: &mut S) -> Status
-    ensures code { (result.code ≡ 0) ⊎ ((result.code ≡ 7) ⊎ (result.code ≡ 8)) }
-    ensures nothing { line.now ≡ [] → result.code ≡ 0 }
-    ensures whole { result.code ≡ 0 → S.written said.new ≡ grown (S.written said.old) line.now }
-    ensures failed { result.code ≡ 7 → Rose (S.faults said.old) (S.faults said.new) }
-    ensures said { SaysLine S.written S.faults line.now 0 result.code said.old said.new }
+fn conclude<S: Sink>(line: &[u8], said: &mut S) -> Status
+    ensures { SaysLine S.written S.faults line.now 0 result.code said.old said.new }
 {
     match write_piece(said, line) {
         Ok(()) => Status { code: 0 },

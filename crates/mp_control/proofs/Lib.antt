@@ -1,5 +1,10 @@
 -- The lemmas of this crate.
-mod Planned
-mod LineSteps
+mod FirstVersion
 mod LegalControls
+mod LegalSettings
+mod LineSteps
+mod Marked
 mod Numbers
+mod Planned
+mod SaidSteps
+mod ValuesSaid

@@ -1,20 +1,21 @@
 -- The numbers that were read are those of the line, and within their limits.
 use Rattle.std.proofs.Common.{◌≡◌, ◌+◌, ◌<◌, ◌≤◌, ◌^◌, lit<, ℕ, true, List, [], ◌∷◌, length, drop, get_or, map, take, refl, ap, sym, ◌∙◌, arith, length-drop}
 use Rattle.std.specs.Prelude.{nat_le}
-use Rattle.std.proofs.lemmas.Bool.{and_parts, leb-true, ltb-true}
+use Rattle.std.proofs.lemmas.Bool.{and_parts, eqb-true, leb-true, ltb-true}
 use Rattle.std.proofs.lemmas.Grind.{get_or_after_one}
 use Rattle.std.proofs.lemmas.List.{get_or-map, get_or-take}
 use Rattle.mp_control.specs.declared.kinds.LineKind.{LineKind}
 use Rattle.mp_control.specs.declared.kinds.LineKind.TheVariants.{Record, AllAtOnce, Fluid, Batched}
 use Rattle.mp_control.specs.Controls.{numbers_in}
-use Rattle.mp_control.specs.Kinds.{FitsWords, limits_of, line_of}
+use Rattle.mp_control.specs.Kinds.{FitsWords, failures_within, limits_of, line_of}
 use Rattle.mp_control.specs.Read.{HasSize, IsPassed, IsSmall, StageFits}
 use Rattle.mp_lines.specs.declared.limits.NumberLimit.{NumberLimit}
 use Rattle.mp_lines.specs.declared.limits.NumberLimit.TheVariants.{UpTo, Below, Between}
-use Rattle.mp_lines.specs.Checks.{field_at, numbers_of}
+use Rattle.mp_lines.specs.Checks.{FieldsPass, field_at, numbers_of}
 use Rattle.mp_lines.specs.Limits.{failures_of_number, is_within}
 use Rattle.mp_lines.proofs.FieldsRead.{passes_at}
 use Rattle.mp_lines.proofs.LimitSteps.{passes_limit}
+use Rattle.mp_lines.proofs.Starts.{empty_map, empty_parts, passes}
 use Rattle.mp_names.specs.Limits.{greatest_time}
 use Rattle.mp_names.specs.declared.controls.Shape.{Shape}
 use Rattle.mp_text.specs.Numbers.{value_of}
@@ -26,13 +27,22 @@ values [] (f ∷ fields) e = absurd (omega (arith, e))
 values (l ∷ limits) [] e = absurd (omega (arith, e))
 values (l ∷ limits) (f ∷ fields) e = ap (λ ns. value_of f ∷ ns) (values limits fields (omega (arith, e)))
 
--- where the fields pass, the number of one is within its limit
+-- fields that fail none of their checks pass
+pub fields_pass : (limits : List NumberLimit) (fields : List (List ℕ)) → failures_within limits fields ≡ [] → FieldsPass failures_of_number limits fields
+fields_pass limits fields e =
+    let parts = empty_parts _ _ e in record { count = eqb-true _ _ (passes _ _ parts.0); pass = empty_map _ _ parts.1 }
+
+-- where they pass, the number of one is within its limit
+pub number_passes : (limits : List NumberLimit) (fields : List (List ℕ)) (k : ℕ) (limit : NumberLimit) → FieldsPass failures_of_number limits fields → k < length limits
+    → get_or limits k limit ≡ limit → is_within limit (get_or (numbers_in fields) k 0) ≡ true
+number_passes limits fields k limit h low is =
+    let there : k < length (drop 1 fields) = omega (arith, length-drop 1 fields, h.count, low) in
+    let pass = passes_at failures_of_number limits fields k limit h low is in
+    ap (is_within limit) (get_or-map value_of (drop 1 fields) k [] 0 there ∙ ap value_of (get_or_after_one fields k [])) ∙ passes_limit limit (field_at fields (1 + k)) pass
+
 number_within : (shape : Shape) (kind : LineKind) (fields : List (List ℕ)) (k : ℕ) (limit : NumberLimit) → IsPassed shape kind fields → k < length (limits_of shape kind)
     → get_or (limits_of shape kind) k limit ≡ limit → is_within limit (get_or (numbers_in fields) k 0) ≡ true
-number_within shape kind fields k limit h low is =
-    let there : k < length (drop 1 fields) = omega (arith, length-drop 1 fields, h.count, low) in
-    let pass = passes_at failures_of_number (limits_of shape kind) fields k limit h low is in
-    ap (is_within limit) (get_or-map value_of (drop 1 fields) k [] 0 there ∙ ap value_of (get_or_after_one fields k [])) ∙ passes_limit limit (field_at fields (1 + k)) pass
+number_within shape kind fields k limit h low is = number_passes (limits_of shape kind) fields k limit h low is
 
 -- a number between 1 and 4096 is at least the one and at most the other
 between : (n : ℕ) → is_within (Between 1 4096) n ≡ true → (1 ≤ n) × (n ≤ 4096)

@@ -1,5 +1,6 @@
 -- What is kept of a line that fails no check.
-use Rattle.std.specs.Prelude.{◌≡◌, ℕ, ◌<◌, ◌≤◌, ◌^◌, List, Some, length, slice_index}
+use Rattle.std.specs.Prelude.{◌≡◌, ℕ, ◌<◌, ◌≤◌, ◌^◌, List, [], Some, Result, Ok, Err, length, slice_index}
+use Rattle.std.specs.List.{slice_get}
 use Rattle.mp_control.specs.declared.kinds.LineKind.{LineKind}
 use Rattle.mp_control.specs.declared.kinds.LineKind.TheVariants.{Record, AllAtOnce, Fluid, Batched}
 use Rattle.mp_control.specs.declared.line.ControlLine.{ControlLine}
@@ -10,6 +11,7 @@ use Rattle.mp_control.specs.Controls.{numbers_in}
 use Rattle.mp_control.specs.Kinds.{kind_of, last_time_of, limits_of, line_of}
 use Rattle.mp_lines.specs.Checks.{FieldsPass, field_at}
 use Rattle.mp_lines.specs.Limits.{failures_of_number}
+use Rattle.mp_lines.specs.Refusals.{IfBad}
 use Rattle.mp_lines.specs.declared.refused.LineRefused.{LineRefused}
 use Rattle.mp_lines.specs.declared.refused.LineRefused.TheVariants.{Bad, NoMemory}
 use Rattle.mp_names.specs.Limits.{greatest_time, most_controls}
@@ -17,6 +19,12 @@ use Rattle.mp_names.specs.declared.controls.Shape.{Shape}
 use Rattle.mp_job.specs.Legal.{ControlFits}
 use Rattle.mp_plans.specs.declared.refused.PlanRefused.{PlanRefused}
 use Rattle.mp_plans.specs.declared.refused.PlanRefused.TheVariants as plan
+
+module _ {T : Type 0} where
+  -- an answer to a line: where it fails no check a value for which P holds, else the first check that it fails; want of memory says nothing
+  abbrev pub AnswersLine : Result T (LineRefused ControlReason) → List ControlReason → (T → Type 0) → Type 0
+  AnswersLine (Ok x) failures P = (failures ≡ []) × P x
+  AnswersLine (Err refused) failures P = IfBad refused (λ why. slice_get failures 0 ≡ Some why)
 
 -- the fields of a line of this kind pass
 abbrev pub IsPassed : Shape → LineKind → List (List ℕ) → Type 0

@@ -73,8 +73,9 @@ impl LineKind {
     }
 }
 
-// The numbers of the fields after the kind, where there is one for each limit and it is within that.
-fn numbers_within(
+/// The numbers of the fields after the kind, where there is one for each limit and it is within that. `Fields`: there are more or
+/// fewer; `Number`, `Range`: the first field that is no number within its limit.
+pub fn numbers_within(
     fields: &FieldList,
     limits: &[NumberLimit],
 ) -> Result<[u64; MOST_FIELDS], ControlReason>

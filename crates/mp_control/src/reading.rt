@@ -1,98 +1,70 @@
-//! The control records of a whole file.
-ghost use Rattle.std.specs.Prelude.{◌≡◌, ◌<◌, [], Ok, Err, IfOk, IfErr};
-ghost use Rattle.mp_control.specs.Controls.{controls_of};
-ghost use Rattle.mp_job.specs.Legal.{ControlsFit};
+//! The settings of a whole file.
+ghost use Rattle.std.specs.Prelude.{◌≡◌, ◌<◌, ◌≤◌, true, Ok, Err, IfOk, IfErr, length};
+ghost use Rattle.mp_control.specs.Settings.{settings_in, settings_of};
+ghost use Rattle.mp_job.specs.Legal.{ControlsFit, FirstsFit};
 ghost use Rattle.mp_lines.specs.Refusals.{IfBadLine};
+ghost use Rattle.mp_model.specs.Rules.{are_within, given_values};
+ghost use Rattle.mp_control.specs.declared.values.TheConstants.{MOST_RULES};
 
-use crate::line::read_line;
-use crate::{ControlReason, ControlRefused};
-use mp_job::{Control, Shape};
+use crate::said::SaidSoFar;
+use crate::{ControlReason, ControlRefused, MOST_RULES, Settings};
+use mp_job::Shape;
 use mp_lines::{LineReader, LineRefused, read_lines};
+use mp_model::RuleList;
 use mp_text::FieldList;
 use std::alloc::Global;
-use std::marker::Model;
 
-/// The control records of a configuration file for a job of this shape, in file order: those of each line that isn't
-/// blank. A record's place in the list is its index. Times may come in any order. The shape has a worker and a
-/// bin at least.
+/// What a configuration file says for a job of this shape, whose query has these rules: what each line says that isn't blank.
+/// A control record's place in the list is its index. Times may come in any order. The shape has a worker and a bin at
+/// least, and there are at most two rules, whose given values are within them.
 ///
 /// `BadLine` comes exactly where a line fails a check, with the number of the first such line and the first check that
 /// it fails. `NoMemory` is an allocation failure alone.
-pub fn read_control(
+pub fn read_settings(
     alloc: Global,
     text: &[u8],
     shape: &Shape,
-) -> Result<Vec<Control>, ControlRefused>
+    rules: &RuleList,
+) -> Result<Settings, ControlRefused>
     requires workers { 0 < shape.now.workers }
     requires bins { 0 < shape.now.bins }
-    ensures controls { IfOk result (λ controls. controls_of text.now shape.now ≡ Ok controls.items) }
-    ensures legal { IfOk result (λ controls. ControlsFit shape.now controls.items) }
+    requires few { length rules.now ≤ MOST_RULES }
+    requires given { are_within rules.now (given_values rules.now) ≡ true }
+    ensures settings { IfOk result (λ s. settings_of text.now shape.now rules.now ≡ Ok (settings_in s)) }
+    ensures firsts { IfOk result (λ s. FirstsFit shape.now s.firsts.items) }
+    ensures values { IfOk result (λ s. are_within rules.now s.values ≡ true) }
+    ensures controls { IfOk result (λ s. ControlsFit shape.now s.controls.items) }
 
     ensures bad_line { IfErr result (λ refused.
-        IfBadLine refused (λ line why. controls_of text.now shape.now ≡ Err (line, why))) }
+        IfBadLine refused (λ line why. settings_of text.now shape.now rules.now ≡ Err (line, why))) }
 {
-    let reader = ControlReader { shape: *shape };
-    let list = read_lines(alloc, &reader, ControlList::new(alloc), text)?;
-    Ok(list.into_controls())
+    let start = SaidSoFar::new(alloc, *shape)?;
+    let said = read_lines(alloc, &SettingReader { rules }, start, text)?;
+    Ok(said.into_settings(rules))
 }
 
-/// The control records of the lines that were read. Contracts see a list.
+/// What the lines of a configuration say for a job whose query has these rules.
 #[derive(Drop)]
-struct ControlList {
-    controls: Vec<Control>,
+struct SettingReader<'a> {
+    rules: &'a RuleList,
+    ghost few: { length rules.now ≤ MOST_RULES },
 }
 
-impl Model for ControlList {
-    ghost use Rattle.std.specs.Prelude.{List};
-    ghost use Rattle.mp_names.specs.declared.controls.Control.{Control};
+impl LineReader for SettingReader<'_> {
+    ghost use Rattle.mp_control.specs.Settings.{setting_rules};
 
-    ghost Value = { List Control };
-
-    ghost view = { λ l. l.controls.items };
-}
-
-impl ControlList {
-    // None.
-    fn new(alloc: Global) -> ControlList
-        ensures { result ≡ [] }
-    {
-        ControlList {
-            controls: Vec::new(alloc),
-        }
-    }
-
-    // They, in their order.
-    fn into_controls(self) -> Vec<Control>
-        ensures { result.items ≡ self }
-    {
-        self.controls
-    }
-}
-
-/// What the lines of a configuration for a job of this shape say.
-#[derive(Drop)]
-struct ControlReader {
-    shape: Shape,
-    ghost some_worker: { 0 < shape.workers },
-    ghost some_bin: { 0 < shape.bins },
-}
-
-impl LineReader for ControlReader {
-    ghost use Rattle.mp_control.specs.Controls.{control_rules};
-
-    type State = ControlList;
+    type State = SaidSoFar;
 
     type Reason = ControlReason;
 
-    ghost rules = { λ reader. control_rules reader.shape };
+    ghost rules = { λ reader. setting_rules reader.rules.now };
 
     fn read(
         &self,
         _alloc: Global,
         fields: &FieldList,
-        list: &mut ControlList,
+        said: &mut SaidSoFar,
     ) -> Result<(), LineRefused<ControlReason>> {
-        let line = read_line(self.shape, fields).map_err(LineRefused::Bad)?;
-        line.append(self.shape, &mut list.controls)
+        said.add(self.rules, fields)
     }
 }

@@ -6,11 +6,12 @@ use mp_lines::FileRefused;
 use mp_text::BadNumber;
 use std::fmt;
 
-/// The check that a line fails. A line is checked in the order of these variants; `Number` and `Range` are checks of
-/// its fields, which go from left to right. All of them are this project's profile.
+/// The check that a line fails. A line is checked in the order of these variants; `Number`, `Range` and `Name` are
+/// checks of its fields, which go from left to right. All of them are this project's profile.
 #[derive(Clone, Copy, PartialEq, Eq, Debug)]
 pub enum ControlReason {
-    /// The first field isn't `M`, `all`, `fluid` or `batch`.
+    /// The first field isn't `M`, `all`, `fluid` or `batch`, nor `first` or `rule` where the file's version is 2, nor `V` where
+    /// the line is the first that isn't blank.
     Kind,
     /// The line has more or fewer fields than its kind.
     Fields,
@@ -18,6 +19,12 @@ pub enum ControlReason {
     Number,
     /// A number isn't within its limit, or the last time of a plan is above 2^47.
     Range,
+    /// A rule's name is that of no rule of the query.
+    Name,
+    /// A control line stands before the first owner or the rule.
+    Late,
+    /// A first owner of the same bin, or the same rule, stands before it.
+    Twice,
     /// With the records of the line there would be more than a file may say.
     Count,
 }
@@ -32,6 +39,9 @@ impl ControlReason {
             ControlReason::Fields => "fields",
             ControlReason::Number => "number",
             ControlReason::Range => "range",
+            ControlReason::Name => "name",
+            ControlReason::Late => "late",
+            ControlReason::Twice => "twice",
             ControlReason::Count => "count",
         }
     }
@@ -62,7 +72,7 @@ impl From<BadNumber> for ControlReason {
     }
 }
 
-/// Why a configuration file gives no control records: `BadLine` with the number of its first line that fails a check,
+/// Why a configuration file gives no settings: `BadLine` with the number of its first line that fails a check,
 /// from 1 with blank lines counted, and the first check that this line fails; `NoMemory` for an allocation failure, which says
 /// nothing of the file.
 pub type ControlRefused = FileRefused<ControlReason>;

@@ -1,5 +1,8 @@
-//! Control records and plans, in file order, with ample memory.
-use mp_control::{Control, ControlRefused, Shape, read_control};
+//! First owners, values of rules, control records and plans, in file order, with ample memory; and the lines that only a file of
+//! version 2 is refused for.
+use mp_control::{
+    Control, ControlReason, ControlRefused, First, Rule, RuleList, Shape, read_settings,
+};
 use std::alloc::Global;
 use std::process::Abort;
 
@@ -26,8 +29,8 @@ fn says(
     text: &[u8],
     wanted: &[Control],
 ) -> Result<(), ControlRefused> {
-    let controls = read_control(alloc, text, &SHAPE)?;
-    assert!(rt; controls.as_slice() == wanted);
+    let settings = read_settings(alloc, text, &SHAPE, &RuleList::new())?;
+    assert!(rt; settings.controls.as_slice() == wanted);
     Ok(())
 }
 
@@ -58,4 +61,70 @@ fn three_plans(rt: HostRuntime) -> Result<(), ControlRefused> {
     plan_says(&rt, rt.alloc(), b"all|25|0|1", [25, 25, 25, 25])?;
     plan_says(&rt, rt.alloc(), b"fluid|25|10|0|1", [25, 35, 45, 55])?;
     plan_says(&rt, rt.alloc(), b"batch|25|10|2|0|1", [25, 25, 35, 35])
+}
+
+/// The rules of q1.
+const NUM: Rule = Rule {
+    name: "num",
+    least: 0,
+    greatest: 1000,
+    given: 89,
+};
+
+const DEN: Rule = Rule {
+    name: "den",
+    least: 1,
+    greatest: 1000,
+    given: 100,
+};
+
+// The second bin has worker 0 first, and the first one worker 1.
+const FIRSTS: [First; 2] = [
+    First {
+        stage: 0,
+        bin: 1,
+        worker: 0,
+    },
+    First {
+        stage: 0,
+        bin: 0,
+        worker: 1,
+    },
+];
+
+#[test]
+fn all_three_lists(rt: HostRuntime) -> Result<(), ControlRefused> {
+    let text = b"\nV|2\nfirst|0|1|0\nrule|den|7\nfirst|0|0|1\nrule|num|50\nM|20|0|3|0\nM|10|0|0|1";
+    let settings = read_settings(rt.alloc(), text, &SHAPE, &RuleList::two(NUM, DEN))?;
+    assert!(rt; settings.firsts.as_slice() == FIRSTS.as_slice());
+    assert!(rt; settings.values.as_slice() == [50, 7].as_slice());
+    assert!(rt; settings.controls.as_slice() == [record(20, 3, 0), record(10, 0, 1)].as_slice());
+    Ok(())
+}
+
+// Its third line is refused for this reason.
+fn is_refused(rt: &impl Abort, alloc: Global, text: &[u8], wanted: ControlReason) {
+    match read_settings(alloc, text, &SHAPE, &RuleList::two(NUM, DEN)) {
+        Err(ControlRefused::BadLine { line, why }) => {
+            assert!(rt; line == 3 && why == wanted);
+        }
+        _ => assert!(rt; false),
+    }
+}
+
+#[test]
+fn three_reasons(rt: HostRuntime) {
+    is_refused(&rt, rt.alloc(), b"V|2\n\nrule|x|zz", ControlReason::Name);
+    is_refused(
+        &rt,
+        rt.alloc(),
+        b"V|2\nM|5|0|0|0\nfirst|0|0|0",
+        ControlReason::Late,
+    );
+    is_refused(
+        &rt,
+        rt.alloc(),
+        b"V|2\nfirst|0|0|0\nfirst|0|0|0",
+        ControlReason::Twice,
+    );
 }

@@ -3,7 +3,7 @@ ghost use Rattle.std.specs.Prelude.{◌≡◌, ◌<◌};
 ghost use Rattle.mp_model.specs.Tables.{table_of};
 ghost use Rattle.mp_output.specs.Rows.{GivesRows};
 
-use mp_control::read_control;
+use mp_control::{RuleList, read_settings};
 use mp_drive::{DriveStop, replay};
 use mp_events::read_events;
 use mp_fold::answer_pieces;
@@ -87,18 +87,18 @@ fn folded(alloc: Global) -> Result<Vec<u8>, Fail> {
 /// The job whose bins move by these lines.
 fn job_by(alloc: Global, config: &[u8]) -> Result<Job<Q4>, Fail> {
     let events = read_events(alloc, CLOSINGS)?;
-    let controls = read_control(alloc, config, &SHAPE)?;
-    let job = Job::new(alloc, Q4::given(), events, controls, SHAPE)?;
+    let settings = read_settings(alloc, config, &SHAPE, &RuleList::new())?;
+    let job = Job::new(alloc, Q4::given(), events, settings.controls, SHAPE)?;
     Ok(job)
 }
 
 /// The job whose first owners are turned round, and whose bins move by these lines.
 fn turned_by(alloc: Global, config: &[u8]) -> Result<Job<Q4>, Fail> {
     let events = read_events(alloc, CLOSINGS)?;
-    let controls = read_control(alloc, config, &SHAPE)?;
+    let settings = read_settings(alloc, config, &SHAPE, &RuleList::new())?;
     let mut firsts = Vec::new(alloc);
     firsts.extend_from_slice(&TURNED)?;
-    let job = Job::with_firsts(alloc, Q4::given(), events, controls, SHAPE, firsts)?;
+    let job = Job::with_firsts(alloc, Q4::given(), events, settings.controls, SHAPE, firsts)?;
     Ok(job)
 }
 

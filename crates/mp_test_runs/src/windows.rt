@@ -2,7 +2,7 @@
 ghost use Rattle.std.specs.Prelude.{◌≡◌};
 
 use crate::fold::{joined, writes};
-use mp_control::read_control;
+use mp_control::read_settings;
 use mp_events::read_events;
 use mp_fold::answer_pieces;
 use mp_job::Job;
@@ -40,17 +40,32 @@ fn folded(alloc: Global, query: &Q5) -> Result<Vec<u8>, Fail> {
     Ok(answer)
 }
 
-/// The job of such windows whose bins move by these lines.
+/// The job of q5 with the rules, the first owners and the moves of these lines.
 fn job_by(alloc: Global, config: &[u8]) -> Result<Job<Q5>, Fail> {
     let events = read_events(alloc, BIDS)?;
-    let controls = read_control(alloc, config, &SHAPE)?;
-    let job = Job::new(alloc, short_windows(), events, controls, SHAPE)?;
+    let given = Q5::given();
+    let settings = read_settings(alloc, config, &SHAPE, &given.rules())?;
+    let query = given.with(settings.values.as_slice());
+    let job = Job::with_firsts(
+        alloc,
+        query,
+        events,
+        settings.controls,
+        SHAPE,
+        settings.firsts,
+    )?;
     Ok(job)
 }
 
+/// Configurations that say such windows, without moves and with them.
+const SHORT: [&[u8]; 2] = [
+    b"V|2\nrule|slide|100\nrule|slides|2\n",
+    b"V|2\nfirst|1|0|2\nrule|slides|2\nrule|slide|100\nall|150|0|1\nall|150|1|2\n",
+];
+
 #[test]
 fn workers_keep_to_short_windows(rt: HostRuntime) -> Result<(), Fail> {
-    for config in [b"".as_slice(), b"all|150|0|1\nall|150|1|2\n"] {
+    for config in SHORT {
         let job = job_by(rt.alloc(), config)?;
         writes::<Q5, Brand>(&rt, rt.alloc(), &job, 2, 7, GREATEST)?;
     }

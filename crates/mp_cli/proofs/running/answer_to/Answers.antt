@@ -1,6 +1,8 @@
 -- The name holds what the run wrote, since it was begun.
-use Rattle.std.proofs.Common.{ap, inr, rules}
+use Rattle.std.proofs.Common.{ap, inl, inr, refl, rules}
 use Rattle.std.proofs.lemmas.Result.{on_err_weaker, on_ok_weaker}
+use Rattle.mp_model.specs.Answers.{one_thread_answer}
+use Rattle.mp_model.specs.Tables.{table_of}
 use Rattle.mp_outside.proofs.FileLemmas.{there_begun}
 use Rattle.mp_command.proofs.Written.{written_from_begun}
 use Rattle.mp_cli.proofs.running.answer_to.Goals as goal
@@ -14,7 +16,7 @@ returns-clause-part g c =
     on_err_weaker c.run_into.result (λ part.
     let here = rw (c.new-sink.ensures.depot, c.new-sink.ensures.name) at part.1 in
     let made = written_from_begun _ _ _ _ _ _ c.in_ok-begin.ensures.begun (ap (λ b. b.name) frame) here (ap (λ b. b.others) frame) in
-    inr (part.0, search rules))
+    inr (one_thread_answer (table_of g.Q.Query.facts c.args.job.now) c.args.job.now.events, refl, inl (part.0, search rules)))
     c.run_into.ensures.part
 
 pub returns-clause-whole : goal.returns-clause-whole

@@ -1,48 +1,53 @@
--- Each end is one that may come.
-use Rattle.std.proofs.Common.{inr, ◌∙◌}
+-- Each end is one that may come, and leaves what it says.
+use Rattle.std.proofs.Common.{◌∙◌, inr}
 use Rattle.std.proofs.lemmas.Result.{err_from_is_err_and}
 use Rattle.mp_words.specs.Values.{options_in}
-use Rattle.mp_words.specs.Words.{Run}
-use Rattle.mp_command.specs.Config.{run_reading}
-use Rattle.mp_command.specs.Lines.{line_after}
-use Rattle.mp_command.proofs.Coming.{may_answer, may_from_config, may_from_events, may_stop}
+use Rattle.mp_words.specs.Words.{Asked, Run}
+use Rattle.mp_command.specs.InputFiles.{found_in}
+use Rattle.mp_command.proofs.Came.{came_answered, came_refused, came_stopped, lacks_so, reads_so, refused_leaves, refuses_so}
+use Rattle.mp_command.proofs.Leaving.{leaves_part, leaves_whole}
 use Rattle.mp_cli.proofs.serve.answer.Goals as goal
 
-pub returns-in_err-events-clause-refused : goal.returns-in_err-events-clause-refused
-returns-in_err-events-clause-refused g c =
-    let asked = options_in c.args.options.now in
+pub returns-in_err-read-clause-came : goal.returns-in_err-read-clause-came
+returns-in_err-read-clause-came g c =
+    let asked : Asked = Run (options_in c.args.options.now) in
     let p = err_from_is_err_and c.from_residual.result c.from_residual.ensures.1 in
-    rw (p.1, p.2) (may_from_events (run_reading asked) (line_after (Run asked)) _ _ c.in_err-events.ensures.refused)
+    let same = c.of_run.ensures.files in
+    let refused = refuses_so _ _ _ same _ c.in_err-read.ensures.refused in
+    rw (p.1, p.2) (came_refused _ _ _ _ asked _ _ _ refused (λ e. lacks_so g.D.Depot.found _ _ same c.read_inputs.new.depot (c.in_err-read.ensures.not_found e)) c.in_err-read.ensures.failed)
 
-pub returns-in_err-controls-clause-refused : goal.returns-in_err-controls-clause-refused
-returns-in_err-controls-clause-refused g c =
-    let asked = options_in c.args.options.now in
-    let p = err_from_is_err_and c.from_residual-in_err-controls.result c.from_residual-in_err-controls.ensures.1 in
-    let refused = rw (c.shape_of-shape.ensures, c.events_in.ensures.files) at c.in_err-controls.ensures.refused in
-    rw (p.1, p.2) (may_from_config (run_reading asked) (line_after (Run asked)) _ _ _ c.in_ok-events.ensures.events refused)
+pub returns-in_err-read-clause-left : goal.returns-in_err-read-clause-left
+returns-in_err-read-clause-left g c =
+    let asked : Asked = Run (options_in c.args.options.now) in
+    let p = err_from_is_err_and c.from_residual.result c.from_residual.ensures.1 in
+    let refused = refuses_so _ _ _ c.of_run.ensures.files _ c.in_err-read.ensures.refused in
+    rw (p.1, p.2) (refused_leaves asked _ _ _ _ refused c.read_inputs.ensures.files)
 
-pub returns-in_err-write_answer-clause-refused : goal.returns-in_err-write_answer-clause-refused
-returns-in_err-write_answer-clause-refused g c =
-    let asked = options_in c.args.options.now in
+pub returns-in_err-write_answer-clause-came : goal.returns-in_err-write_answer-clause-came
+returns-in_err-write_answer-clause-came g c =
+    let asked : Asked = Run (options_in c.args.options.now) in
     let p = err_from_is_err_and c.from_residual-in_err-write_answer.result c.from_residual-in_err-write_answer.ensures.1 in
-    let config = rw (c.shape_of-shape.ensures, c.events_in.ensures.files) at c.in_ok-controls.ensures.config in
-    rw (p.1, p.2) (may_stop (run_reading asked) (line_after (Run asked)) _ _ _ _ c.in_ok-events.ensures.events config c.in_err-write_answer.ensures.refused)
+    let read = reads_so _ _ _ c.of_run.ensures.files _ c.in_ok-read.ensures.found in
+    let failed = rw c.read_inputs.ensures.writes at c.in_err-write_answer.ensures.failed in
+    rw (p.1, p.2) (came_stopped g.D.Depot.files g.D.Depot.found g.D.Depot.read_faults g.D.Depot.write_faults asked c.args.depot.now c.write_answer.new.depot (found_in c.in_ok-read.read) _ read c.in_err-write_answer.ensures.refused (λ e. (tt, failed e)))
 
-pub returns-clause-line : goal.returns-clause-line
-returns-clause-line g c =
-    let asked = options_in c.args.options.now in
-    let config = rw (c.shape_of-shape.ensures, c.events_in.ensures.files) at c.in_ok-controls.ensures.config in
-    rw c.new.ensures.items (may_answer (run_reading asked) (line_after (Run asked)) _ _ _ c.in_ok-events.ensures.events config)
-
-pub returns-clause-whole : goal.returns-clause-whole
-returns-clause-whole g c =
-    let config = rw (c.shape_of-shape.ensures, c.events_in.ensures.files) at c.in_ok-controls.ensures.config in
-    let writes = rw (c.controls_in.ensures.files ∙ c.events_in.ensures.files) at c.in_ok-write_answer.ensures.whole in
-    (c.in_ok-events.events.items, c.in_ok-controls.controls.items, c.in_ok-events.ensures.events, config, writes)
-
-pub returns-in_err-write_answer-clause-part : goal.returns-in_err-write_answer-clause-part
-returns-in_err-write_answer-clause-part g c =
+pub returns-in_err-write_answer-clause-left : goal.returns-in_err-write_answer-clause-left
+returns-in_err-write_answer-clause-left g c =
+    let asked : Asked = Run (options_in c.args.options.now) in
     let p = err_from_is_err_and c.from_residual-in_err-write_answer.result c.from_residual-in_err-write_answer.ensures.1 in
-    let config = rw (c.shape_of-shape.ensures, c.events_in.ensures.files) at c.in_ok-controls.ensures.config in
-    let writes = rw (c.controls_in.ensures.files ∙ c.events_in.ensures.files) at c.in_err-write_answer.ensures.part in
-    rw p.1 (inr (c.in_ok-events.events.items, c.in_ok-controls.controls.items, c.in_ok-events.ensures.events, config, writes))
+    let read = reads_so _ _ _ c.of_run.ensures.files _ c.in_ok-read.ensures.found in
+    let part = rw c.read_inputs.ensures.files at c.in_err-write_answer.ensures.part in
+    rw (p.1, p.2) (leaves_part asked _ _ _ c.in_err-write_answer.ensures.refused (inr (found_in c.in_ok-read.read, read, part)))
+
+pub returns-clause-came : goal.returns-clause-came
+returns-clause-came g c =
+    let asked : Asked = Run (options_in c.args.options.now) in
+    let read = reads_so _ _ _ c.of_run.ensures.files _ c.in_ok-read.ensures.found in
+    rw c.new.ensures.items (came_answered g.D.Depot.files g.D.Depot.found g.D.Depot.read_faults g.D.Depot.write_faults asked c.args.depot.now c.write_answer.new.depot (found_in c.in_ok-read.read) read)
+
+pub returns-clause-left : goal.returns-clause-left
+returns-clause-left g c =
+    let asked : Asked = Run (options_in c.args.options.now) in
+    let read = reads_so _ _ _ c.of_run.ensures.files _ c.in_ok-read.ensures.found in
+    let whole = rw c.read_inputs.ensures.files at c.in_ok-write_answer.ensures.whole in
+    leaves_whole asked _ _ _ (found_in c.in_ok-read.read, read, whole)

@@ -1,42 +1,39 @@
--- Each end is one that may come.
+-- Each end is one that may come, and nothing is written.
 use Rattle.std.proofs.Common.{◌∙◌}
 use Rattle.std.proofs.lemmas.Result.{err_from_is_err_and}
 use Rattle.mp_words.specs.Values.{check_in}
-use Rattle.mp_words.specs.Words.{Check}
-use Rattle.mp_command.specs.Config.{check_reading}
-use Rattle.mp_command.specs.Lines.{line_after}
-use Rattle.mp_command.proofs.Coming.{config_not_write_fault, events_not_write_fault, may_answer, may_from_config, may_from_events}
+use Rattle.mp_words.specs.Words.{Asked, Check}
+use Rattle.mp_command.specs.InputFiles.{found_in}
+use Rattle.mp_command.proofs.Came.{came_answered, came_refused, lacks_so, reads_so, refused_leaves, refuses_so}
+use Rattle.mp_command.proofs.Leaving.{leaves_whole}
 use Rattle.mp_command.proofs.checking.check.Goals as goal
 
-pub returns-in_err-events-clause-refused : goal.returns-in_err-events-clause-refused
-returns-in_err-events-clause-refused g c =
-    let asked = check_in c.args.options.now in
+pub returns-in_err-read-clause-came : goal.returns-in_err-read-clause-came
+returns-in_err-read-clause-came g c =
+    let asked : Asked = Check (check_in c.args.options.now) in
     let p = err_from_is_err_and c.from_residual.result c.from_residual.ensures.1 in
-    rw (p.1, p.2) (may_from_events (check_reading asked) (line_after (Check asked)) _ _ c.in_err-events.ensures.refused)
+    let same = c.of_check.ensures.files in
+    let refused = refuses_so _ _ _ same _ c.in_err-read.ensures.refused in
+    rw (p.1, p.2) (came_refused _ _ _ _ asked _ _ _ refused (λ e. lacks_so g.D.Depot.found _ _ same c.read_inputs.new.depot (c.in_err-read.ensures.not_found e)) c.in_err-read.ensures.failed)
 
-pub returns-in_err-events-clause-no_write_fault : goal.returns-in_err-events-clause-no_write_fault
-returns-in_err-events-clause-no_write_fault g c =
+pub returns-in_err-read-clause-left : goal.returns-in_err-read-clause-left
+returns-in_err-read-clause-left g c =
+    let asked : Asked = Check (check_in c.args.options.now) in
     let p = err_from_is_err_and c.from_residual.result c.from_residual.ensures.1 in
-    rw (p.1, p.2) (events_not_write_fault _ _ _ c.in_err-events.ensures.refused)
+    let refused = refuses_so _ _ _ c.of_check.ensures.files _ c.in_err-read.ensures.refused in
+    rw (p.1, p.2) (refused_leaves asked _ _ _ _ refused c.read_inputs.ensures.files)
 
-pub returns-in_err-controls-clause-refused : goal.returns-in_err-controls-clause-refused
-returns-in_err-controls-clause-refused g c =
-    let asked = check_in c.args.options.now in
-    let p = err_from_is_err_and c.from_residual-in_err-controls.result c.from_residual-in_err-controls.ensures.1 in
-    let refused = rw (c.shape_for-shape.ensures, c.events_in.ensures.files) at c.in_err-controls.ensures.refused in
-    rw (p.1, p.2) (may_from_config (check_reading asked) (line_after (Check asked)) _ _ _ c.in_ok-events.ensures.events refused)
-
-pub returns-in_err-controls-clause-no_write_fault : goal.returns-in_err-controls-clause-no_write_fault
-returns-in_err-controls-clause-no_write_fault g c =
-    let p = err_from_is_err_and c.from_residual-in_err-controls.result c.from_residual-in_err-controls.ensures.1 in
-    rw (p.1, p.2) (config_not_write_fault _ _ _ _ c.in_err-controls.ensures.refused)
-
-pub returns-clause-line : goal.returns-clause-line
-returns-clause-line g c =
-    let asked = check_in c.args.options.now in
-    let config = rw (c.shape_for-shape.ensures, c.events_in.ensures.files) at c.in_ok-controls.ensures.config in
-    let may = may_answer (check_reading asked) (line_after (Check asked)) _ _ _ c.in_ok-events.ensures.events config in
-    let some_events = c.len.ensures ∙ c.in_ok-events.events.ok.0 in
-    let some_controls = c.len-2.ensures ∙ c.in_ok-controls.controls.ok.0 in
+pub returns-clause-came : goal.returns-clause-came
+returns-clause-came g c =
+    let asked : Asked = Check (check_in c.args.options.now) in
+    let read = reads_so _ _ _ c.of_check.ensures.files _ c.in_ok-read.ensures.found in
+    let some_events = c.len.ensures ∙ c.in_ok-read.read.events.ok.0 in
+    let some_controls = c.len-2.ensures ∙ c.in_ok-read.read.settings.controls.ok.0 in
     let line = rw (some_events, some_controls) at c.in_ok-ok_line.ensures in
-    rw line may
+    rw line (came_answered _ _ _ _ asked _ _ (found_in c.in_ok-read.read) read)
+
+pub returns-clause-left : goal.returns-clause-left
+returns-clause-left g c =
+    let asked : Asked = Check (check_in c.args.options.now) in
+    let read = reads_so _ _ _ c.of_check.ensures.files _ c.in_ok-read.ensures.found in
+    leaves_whole asked _ _ _ (found_in c.in_ok-read.read, read, c.read_inputs.ensures.files)

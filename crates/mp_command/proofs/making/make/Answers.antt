@@ -1,27 +1,31 @@
--- The name holds the lines that were written, since it was begun.
-use Rattle.std.proofs.Common.{◌∙◌, ap, inr, rules}
+-- Nothing is read, and the file was written or stopped.
+use Rattle.std.proofs.Common.{inr, refl}
 use Rattle.std.proofs.lemmas.Result.{err_from_is_err_and}
-use Rattle.mp_outside.proofs.FileLemmas.{there_begun}
-use Rattle.mp_command.proofs.Written.{written_from_begun}
+use Rattle.mp_words.specs.Values.{make_in}
+use Rattle.mp_words.specs.Words.{Asked, Make}
+use Rattle.mp_command.specs.Inputs.{nothing_found}
+use Rattle.mp_command.proofs.Came.{came_answered, came_stopped}
+use Rattle.mp_command.proofs.Leaving.{leaves_part, leaves_whole}
 use Rattle.mp_command.proofs.making.make.Goals as goal
 
-pub new-sink-requires : goal.new-sink-requires
-new-sink-requires g c = there_begun _ _ _ _ c.in_ok-begin.ensures.begun
+pub returns-in_err-make_file-clause-came : goal.returns-in_err-make_file-clause-came
+returns-in_err-make_file-clause-came g c =
+    let asked : Asked = Make (make_in c.args.options.now) in
+    let p = err_from_is_err_and c.from_residual.result c.from_residual.ensures.1 in
+    rw (p.1, p.2) (came_stopped g.D.Depot.files g.D.Depot.found g.D.Depot.read_faults g.D.Depot.write_faults asked c.args.depot.now c.make_file.new.depot nothing_found _ refl c.in_err-make_file.ensures.refused (λ e. (tt, c.in_err-make_file.ensures.failed e)))
 
-pub returns-in_err-write_events-clause-part : goal.returns-in_err-write_events-clause-part
-returns-in_err-write_events-clause-part g c =
-    let is = c.as_slice.ensures.value ∙ c.in_ok-events.ensures.made in
-    let part = c.in_err-write_events.ensures.part in
-    let frame = rw (c.new-sink.ensures.depot, c.new-sink.ensures.name) at c.write_events.ensures.appends_only.same_frame in
-    let here = rw (c.new-sink.ensures.depot, c.new-sink.ensures.name, is) at part.1 in
-    let made = written_from_begun _ _ _ _ _ _ c.in_ok-begin.ensures.begun (ap (λ b. b.name) frame) here (ap (λ b. b.others) frame) in
-    let p = err_from_is_err_and c.from_residual-in_err-write_events.result c.from_residual-in_err-write_events.ensures.1 in
-    rw p.1 (inr (part.0, search rules))
+pub returns-in_err-make_file-clause-left : goal.returns-in_err-make_file-clause-left
+returns-in_err-make_file-clause-left g c =
+    let asked : Asked = Make (make_in c.args.options.now) in
+    let p = err_from_is_err_and c.from_residual.result c.from_residual.ensures.1 in
+    rw (p.1, p.2) (leaves_part asked _ _ _ c.in_err-make_file.ensures.refused (inr (nothing_found, refl, c.in_err-make_file.ensures.part)))
 
-pub returns-clause-whole : goal.returns-clause-whole
-returns-clause-whole g c =
-    let is = c.as_slice.ensures.value ∙ c.in_ok-events.ensures.made in
-    let frame = rw (c.new-sink.ensures.depot, c.new-sink.ensures.name) at c.write_events.ensures.appends_only.same_frame in
-    let here = rw (c.new-sink.ensures.depot, c.new-sink.ensures.name, is) at c.in_ok-write_events.ensures.whole in
-    let made = written_from_begun _ _ _ _ _ _ c.in_ok-begin.ensures.begun (ap (λ b. b.name) frame) here (ap (λ b. b.others) frame) in
-    search rules
+pub returns-clause-came : goal.returns-clause-came
+returns-clause-came g c =
+    let asked : Asked = Make (make_in c.args.options.now) in
+    rw c.new.ensures.items (came_answered g.D.Depot.files g.D.Depot.found g.D.Depot.read_faults g.D.Depot.write_faults asked c.args.depot.now c.make_file.new.depot nothing_found refl)
+
+pub returns-clause-left : goal.returns-clause-left
+returns-clause-left g c =
+    let asked : Asked = Make (make_in c.args.options.now) in
+    leaves_whole asked _ _ _ (nothing_found, refl, c.in_ok-make_file.ensures.whole)

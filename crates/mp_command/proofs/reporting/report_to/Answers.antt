@@ -20,7 +20,7 @@ returns-in_err-write_report-clause-part g c =
     let here = rw (c.new-sink.ensures.depot, c.new-sink.ensures.name) at part.3 in
     let made = written_from_begun _ _ _ _ _ _ c.in_ok-begin.ensures.begun (ap (λ b. b.name) frame) here (ap (λ b. b.others) frame) in
     let p = err_from_is_err_and c.from_residual-in_err-write_report.result c.from_residual-in_err-write_report.ensures.1 in
-    rw p.1 (inr (part.0, part.1, part.2, search rules))
+    rw p.1 (inr (part.0, part.1, inl (part.2, search rules)))
 
 pub returns-clause-whole : goal.returns-clause-whole
 returns-clause-whole g c =

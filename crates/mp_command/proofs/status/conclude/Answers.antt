@@ -4,8 +4,8 @@ use Rattle.std.proofs.Math.Seq.{take-length}
 use Rattle.mp_outside.specs.Sink.{grown}
 use Rattle.mp_command.proofs.status.conclude.Goals as goal
 
-pub returns-in-Ok-clause-said : goal.returns-in-Ok-clause-said
-returns-in-Ok-clause-said g c =
+pub returns-in-Ok : goal.returns-in-Ok
+returns-in-Ok g c =
     let line = c.args.line.now in
     record {
       count = length line;

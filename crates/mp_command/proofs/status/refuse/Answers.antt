@@ -6,8 +6,8 @@ use Rattle.mp_command.specs.Outcome.{line_said}
 use Rattle.mp_command.specs.Refused.{outcome_of}
 use Rattle.mp_command.proofs.status.refuse.Goals as goal
 
-pub returns-in-Ok-clause-said : goal.returns-in-Ok-clause-said
-returns-in-Ok-clause-said g c =
+pub returns-in-Ok : goal.returns-in-Ok
+returns-in-Ok g c =
     let line = line_said (outcome_of c.args.refusal.now) in
     record {
       count = length line;

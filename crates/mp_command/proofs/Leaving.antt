@@ -1,0 +1,223 @@
+-- What a command has written, and what the files then hold.
+use Rattle.std.proofs.Common.{ℕ, zero, suc, true, ◌≡◌, ◌⊎◌, inl, inr, Option, Some, None, List, [], ◌∷◌, take, refl, sym, ap, ◌∙◌, arith}
+use Rattle.std.specs.Prelude.{All, IfSome, OnSome, is_some, option_map, slice_index_or, ◌≢◌}
+use Rattle.std.proofs.lemmas.List.Elements.{All-cons, All-head, All-nil, All-tail}
+use Rattle.std.proofs.lemmas.List.Kept.{AllPairs-cons}
+use denote.Bor.{Bor}
+use Rattle.mp_outside.specs.Files.{Files, file_at, with_file}
+use Rattle.mp_outside.proofs.FileLemmas.{file_at-with_file, file_at-with_file-other, told-with_file}
+use Rattle.mp_words.specs.Limits.{AreWithinLimits, IsApart, IsWithinLimits}
+use Rattle.mp_words.specs.Values.{options_in}
+use Rattle.mp_words.specs.Words.{Asked, Run, asked_in}
+use Rattle.mp_words.specs.declared.options.Command.{Command}
+use Rattle.mp_words.specs.declared.options.Command.TheVariants as read
+use Rattle.mp_words.specs.declared.options.RunOptions.{RunOptions}
+use Rattle.mp_command.specs.Calls.{StopsAnswer}
+use Rattle.mp_command.specs.Ends.{AreInPart, EndsWith, IsCommandAnsweredInPart, IsDone, IsDoneInPart, IsLeft, IsRefusal, IsSame, IsStop, IsWhole, Leaves}
+use Rattle.mp_command.specs.Outcome.{Outcome, Answered, ConfigRefused, EventsRefused, NoFile, NoMemory, ReadFault, TooLarge, Usage, WriteFault, status_of}
+use Rattle.mp_command.specs.Writing.{AreApart, IsTextOf, Purpose, Report, Target, WritesAll, WritesPart, WritesSome, WritesWhole, report_in, targets_of}
+
+-- a target is behind the first of a list, so it has another name; and so is the rest apart
+later : (one : Target) (more : List Target) → AreApart (one ∷ more) → All (λ other. other.name ≢ one.name) more
+later one more apart i d low = apart zero (suc i) d (omega arith) (omega (arith, low))
+
+rest_apart : (one : Target) (more : List Target) → AreApart (one ∷ more) → AreApart more
+rest_apart one more apart i j d less low = apart (suc i) (suc j) d (omega (arith, less)) (omega (arith, low))
+
+-- a name that was written last holds what was written
+at_written : (told : Option Files) → is_some told ≡ true → (name bytes : List ℕ) → file_at (with_file told name bytes) name ≡ Some bytes
+at_written (Some files) some name bytes = file_at-with_file files name bytes
+at_written None some name bytes = cc
+
+-- what was told before a file is written is told after it
+still_told : (told : Option Files) (name bytes : List ℕ) → is_some told ≡ true → is_some (with_file told name bytes) ≡ true
+still_told told name bytes some = told-with_file told name bytes ∙ some
+
+module _ (IsText : Purpose → List ℕ → Type 0) where
+  -- a name that isn't written holds what it held
+  kept_by_all : (targets : List Target) (told new : Option Files) (name : List ℕ) → WritesAll IsText targets told new → All (λ target. name ≢ target.name) targets → file_at new name ≡ file_at told name
+  kept_by_all [] told new name w others = ap (λ (files : Option Files). file_at files name) w
+  kept_by_all (target ∷ more) told new name w others =
+      kept_by_all more (with_file told target.name w.0) new name w.2 (All-tail (λ target. name ≢ target.name) target more others)
+      ∙ file_at-with_file-other told target.name w.0 name (All-head (λ target. name ≢ target.name) target more others)
+
+  kept_by_some : (targets : List Target) (told new : Option Files) (name : List ℕ) → WritesSome IsText targets told new → All (λ target. name ≢ target.name) targets → file_at new name ≡ file_at told name
+  kept_by_some [] told new name w others = ap (λ (files : Option Files). file_at files name) w
+  kept_by_some (target ∷ more) told new name (inl same) others = ap (λ (files : Option Files). file_at files name) same
+  kept_by_some (target ∷ more) told new name (inr (text, is, inl part)) others =
+      ap (λ (files : Option Files). file_at files name) part.1 ∙ file_at-with_file-other told target.name (take part.0 text) name (All-head (λ target. name ≢ target.name) target more others)
+  kept_by_some (target ∷ more) told new name (inr (text, is, inr w)) others =
+      kept_by_some more (with_file told target.name text) new name w (All-tail (λ target. name ≢ target.name) target more others)
+      ∙ file_at-with_file-other told target.name text name (All-head (λ target. name ≢ target.name) target more others)
+
+  -- the name of the first isn't that of any behind it
+  not_later : (one : Target) (more : List Target) → AreApart (one ∷ more) → All (λ target. one.name ≢ target.name) more
+  not_later one more apart i d low same = later one more apart i d low (sym same)
+
+  -- each file that was written is whole
+  all_whole : (targets : List Target) (told new : Option Files) → is_some told ≡ true → AreApart targets → WritesAll IsText targets told new → All (IsWhole IsText new) targets
+  all_whole [] told new some apart w = All-nil (IsWhole IsText new)
+  all_whole (target ∷ more) told new some apart w =
+      let now = with_file told target.name w.0 in
+      All-cons (IsWhole IsText new) target more
+      (w.0, w.1, kept_by_all more now new target.name w.2 (not_later target more apart) ∙ at_written told some target.name w.0)
+      (all_whole more now new (still_told told target.name w.0 some) (rest_apart target more apart) w.2)
+
+  -- files that are as they were when a first one was written are as they were before it
+  same_before : (old told : Option Files) (target : Target) (more : List Target) (bytes : List ℕ) → AreApart (target ∷ more) → All (IsSame old told) more → All (IsSame old (with_file told target.name bytes)) more
+  same_before old told target more bytes apart same i d low =
+      file_at-with_file-other told target.name bytes (slice_index_or more i d).name (later target more apart i d low) ∙ same i d low
+
+  -- the files that were written in part, where none of them was written before
+  in_part : (targets : List Target) (old told new : Option Files) → is_some told ≡ true → AreApart targets → All (IsSame old told) targets → WritesSome IsText targets told new → AreInPart IsText old new targets
+  in_part [] old told new some apart same w = tt
+  in_part (target ∷ more) old told new some apart same (inl none) =
+      let unchanged : All (IsSame old new) (target ∷ more) = λ i d low. ap (λ (files : Option Files). file_at files (slice_index_or (target ∷ more) i d).name) none ∙ same i d low in
+      inl (inl (All-head (IsSame old new) target more unchanged), All-tail (IsSame old new) target more unchanged)
+  in_part (target ∷ more) old told new some apart same (inr (text, is, inl part)) =
+      let at : file_at new target.name ≡ Some (take part.0 text) = ap (λ (files : Option Files). file_at files target.name) part.1 ∙ at_written told some target.name (take part.0 text) in
+      let kept = same_before old told target more (take part.0 text) apart (All-tail (IsSame old told) target more same) in
+      inl (inr (text, is, part.0, at), λ i d low. ap (λ (files : Option Files). file_at files (slice_index_or more i d).name) part.1 ∙ kept i d low)
+  in_part (target ∷ more) old told new some apart same (inr (text, is, inr w)) =
+      let now = with_file told target.name text in
+      let kept = same_before old told target more text apart (All-tail (IsSame old told) target more same) in
+      let whole = kept_by_some more now new target.name w (not_later target more apart) ∙ at_written told some target.name text in
+      inr ((text, is, whole), in_part more old now new (still_told told target.name text some) (rest_apart target more apart) kept w)
+
+-- the files that a command writes have names of their own
+
+makes_apart : (target : Target) → AreApart (target ∷ [])
+makes_apart target = λ i j d less low. absurd (omega (arith, less, low))
+
+run_apart : (out : Target) (report : Option (List ℕ)) → IfSome report (λ name. name ≢ out.name) → AreApart (out ∷ report_in report)
+run_apart out None apart = makes_apart out
+run_apart out (Some name) apart =
+    let Differs : Target → Target → Type 0 = λ one other. other.name ≢ one.name in
+    let report : Target = record { purpose = Report; name = name } in
+    AllPairs-cons Differs out (report ∷ []) (All-cons (Differs out) report [] apart (All-nil (Differs out))) (makes_apart report)
+
+run_is_apart : (options : RunOptions) → AreWithinLimits options → AreApart (targets_of (Run (options_in options)))
+run_is_apart options within = run_apart _ (options_in options).report (go options.report within.report)
+  where
+    go : (report : Option (Bor (List ℕ))) → IfSome report (λ name. IsApart options name.now) → IfSome (option_map (λ name. name.now) report) (λ name. name ≢ options.out.now)
+    go None apart = tt
+    go (Some name) apart = apart.out
+
+pub command_is_apart : (command : Command) → IsWithinLimits command → AreApart (targets_of (asked_in command))
+command_is_apart (read.Run options) within = run_is_apart options within
+command_is_apart (read.Check options) within = λ i j d less low. absurd (omega (arith, low))
+command_is_apart (read.Make options) within = makes_apart _
+command_is_apart (read.Demo options) within = λ i j d less low. absurd (omega (arith, low))
+
+-- each status is that of an end, of a stop or of a refusal
+pub status_is : (o : Outcome) → (status_of o ≡ 0) ⊎ (IsStop (status_of o) ⊎ IsRefusal (status_of o))
+status_is (Answered line) = inl refl
+status_is Usage = inr (inr (inl refl))
+status_is (EventsRefused line why) = inr (inr (inr (inl refl)))
+status_is (ConfigRefused line why) = inr (inr (inr (inr (inl refl))))
+status_is (NoFile name) = inr (inr (inr (inr (inr (inl refl)))))
+status_is ReadFault = inr (inr (inr (inr (inr (inr (inl refl))))))
+status_is WriteFault = inr (inl (inl refl))
+status_is NoMemory = inr (inl (inr refl))
+status_is (TooLarge name) = inr (inr (inr (inr (inr (inr (inr refl))))))
+
+-- a stop is no end and no refusal
+pub no_stop : (code : ℕ) → IsStop code → code ≡ 0 → ⊥
+no_stop code (inl e) done = omega (arith, e, done)
+no_stop code (inr e) done = omega (arith, e, done)
+
+pub no_refusal : (code : ℕ) → IsRefusal code → code ≡ 0 → ⊥
+no_refusal code (inl e) done = omega (arith, e, done)
+no_refusal code (inr (inl e)) done = omega (arith, e, done)
+no_refusal code (inr (inr (inl e))) done = omega (arith, e, done)
+no_refusal code (inr (inr (inr (inl e)))) done = omega (arith, e, done)
+no_refusal code (inr (inr (inr (inr (inl e))))) done = omega (arith, e, done)
+no_refusal code (inr (inr (inr (inr (inr e))))) done = omega (arith, e, done)
+
+other : (code n : ℕ) → IsStop code → code ≡ n → (n ≡ 7 → ⊥) → (n ≡ 8 → ⊥) → ⊥
+other code n (inl e) is no_seven no_eight = no_seven (sym is ∙ e)
+other code n (inr e) is no_seven no_eight = no_eight (sym is ∙ e)
+
+pub no_both : (code : ℕ) → IsStop code → IsRefusal code → ⊥
+no_both code stop (inl e) = other code 2 stop e (λ h. omega (arith, h)) (λ h. omega (arith, h))
+no_both code stop (inr (inl e)) = other code 3 stop e (λ h. omega (arith, h)) (λ h. omega (arith, h))
+no_both code stop (inr (inr (inl e))) = other code 4 stop e (λ h. omega (arith, h)) (λ h. omega (arith, h))
+no_both code stop (inr (inr (inr (inl e)))) = other code 5 stop e (λ h. omega (arith, h)) (λ h. omega (arith, h))
+no_both code stop (inr (inr (inr (inr (inl e))))) = other code 6 stop e (λ h. omega (arith, h)) (λ h. omega (arith, h))
+no_both code stop (inr (inr (inr (inr (inr e))))) = other code 9 stop e (λ h. omega (arith, h)) (λ h. omega (arith, h))
+
+-- What a command leaves
+
+-- nothing has changed
+pub leaves_alone : (asked : Asked) (o : Outcome) (old new : Option Files) → (status_of o ≡ 0 → ⊥) → new ≡ old → Leaves asked o old new
+leaves_alone asked o old new not_done same = record { whole = λ e. absurd (not_done e); part = λ stop. inl same; untouched = λ refusal. same }
+
+-- all was written
+pub leaves_whole : (asked : Asked) (line : List ℕ) (old new : Option Files) → WritesWhole asked old new → Leaves asked (Answered line) old new
+leaves_whole asked line old new w =
+    record { whole = λ e. w; part = λ stop. absurd (no_stop 0 stop refl); untouched = λ refusal. absurd (no_refusal 0 refusal refl) }
+
+-- the writing was stopped
+pub leaves_part : (asked : Asked) (o : Outcome) (old new : Option Files) → StopsAnswer o → WritesPart asked old new → Leaves asked o old new
+leaves_part asked o old new stops w =
+    let stop : IsStop (status_of o) = stop_of stops in
+    record { whole = λ e. absurd (no_stop _ stop e); part = λ stop. w; untouched = λ refusal. absurd (no_both _ stop refusal) }
+  where
+    stop_of : StopsAnswer o → IsStop (status_of o)
+    stop_of (inl e) = inl (ap status_of e)
+    stop_of (inr e) = inr (ap status_of e)
+
+-- What the files hold then
+
+module _ (asked : Asked) (old new : Option Files) (apart : AreApart (targets_of asked)) where
+  whole_is_done : WritesWhole asked old new → OnSome old (IsDone old new asked)
+  whole_is_done = go old
+    where
+      go : (old : Option Files) → WritesWhole asked old new → OnSome old (IsDone old new asked)
+      go None w = tt
+      go (Some files) w = (w.0, w.1, all_whole (IsTextOf asked w.0) (targets_of asked) (Some files) new refl apart w.2)
+
+  part_is_done : WritesPart asked old new → OnSome old (IsDoneInPart old new asked)
+  part_is_done = go old
+    where
+      go : (old : Option Files) → WritesPart asked old new → OnSome old (IsDoneInPart old new asked)
+      go None w = tt
+      go (Some files) (inl same) = inl (λ i d low. ap (λ (told : Option Files). file_at told (slice_index_or (targets_of asked) i d).name) same)
+      go (Some files) (inr w) = inr (w.0, w.1, in_part (IsTextOf asked w.0) (targets_of asked) (Some files) (Some files) new refl apart (λ i d low. refl) w.2)
+
+  -- no other name has changed
+  others_stay : (o : Outcome) → Leaves asked o old new → (name : List ℕ) → IsLeft name asked → file_at new name ≡ file_at old name
+  others_stay o left name other = go (status_is o)
+    where
+      of_part : WritesPart asked old new → file_at new name ≡ file_at old name
+      of_part (inl same) = ap (λ (told : Option Files). file_at told name) same
+      of_part (inr w) = kept_by_some (IsTextOf asked w.0) (targets_of asked) old new name w.2 other
+
+      go : (status_of o ≡ 0) ⊎ (IsStop (status_of o) ⊎ IsRefusal (status_of o)) → file_at new name ≡ file_at old name
+      go (inl done) = let w = left.whole done in kept_by_all (IsTextOf asked w.0) (targets_of asked) old new name w.2 other
+      go (inr (inl stop)) = of_part (left.part stop)
+      go (inr (inr refusal)) = ap (λ (told : Option Files). file_at told name) (left.untouched refusal)
+
+  -- what a command leaves is what its end promises
+  pub ends_so : (o : Outcome) → Leaves asked o old new → EndsWith (Some asked) o old new
+  ends_so o left = record {
+    answered = λ e. whole_is_done (left.whole e);
+    part = λ stop. part_is_done (left.part stop);
+    untouched = left.untouched;
+    others = others_stay o left;
+  }
+
+-- where nothing has changed, what is promised of a stop holds
+pub stopped_alone : (command : Option Asked) (old new : Option Files) → new ≡ old → IsCommandAnsweredInPart command old new
+stopped_alone command None new same = tt
+stopped_alone None (Some files) new same = tt
+stopped_alone (Some asked) (Some files) new same = inl (λ i d low. ap (λ (told : Option Files). file_at told (slice_index_or (targets_of asked) i d).name) same)
+
+-- and so does all that is promised of an end
+pub ends_alone : (command : Option Asked) (o : Outcome) (old new : Option Files) → (status_of o ≡ 0 → ⊥) → new ≡ old → EndsWith command o old new
+ends_alone command o old new not_done same = record {
+  answered = λ e. absurd (not_done e);
+  part = λ stop. stopped_alone command old new same;
+  untouched = λ refusal. same;
+  others = λ name other. ap (λ (told : Option Files). file_at told name) same;
+}
