@@ -27,6 +27,16 @@ def moves(count, when, bins, workers):
     return b"".join(b"M|%d|0|%d|%d\n" % (when(i), i % bins, (i + 1) % workers) for i in range(count))
 
 
+def rounds(count, stages, bins, workers):
+    """Control records at as many times, of the bins of all stages in turn: each bin goes round the workers."""
+    return b"".join(b"M|%d|%d|%d|%d\n" % (i, i % stages, i // stages % bins, (i // stages % bins + i // stages // bins + 2) % workers) for i in range(count))
+
+
+def firsts(stages, bins, workers):
+    """A first owner of each bin of each stage, each another than the bin has otherwise."""
+    return b"".join(b"first|%d|%d|%d\n" % (stage, bin, (bin + 1) % workers) for stage in range(stages) for bin in range(bins))
+
+
 def costly():
     """The fixed cases: what each is, its words, its events and its configuration."""
     down = bids(COUNT, lambda i: COUNT - i, lambda i: i % 100_003)
@@ -53,4 +63,12 @@ def costly():
         yield f"25,000 bids, 65,536 control records of one bin at one time, {shape}", options, usual, moves(MOST_CONTROLS, lambda i: 500, 1, workers)
         yield f"25,000 bids, 65,536 control records of one bin at as many times, {shape}", options, usual, moves(MOST_CONTROLS, lambda i: i, 1, workers)
     yield "25,000 bids, 256 plan lines of 256 bins, 4 workers", "replay --query q1 --workers 4 --bins 256", usual, b"".join(b"all|%d|0|%d\n" % (100 * i, i % 4) for i in range(256))
+    yield "each bid wakes its key at six times of its own, q5", "run --query q5", bids(COUNT, lambda i: 7 * i, lambda i: i % 100_003), b"V|2\nrule|slide|1\n"
+    yield "one key, 6 slides of 7,200, q5", "run --query q5", one_key, b"V|2\nrule|slide|7200\n"
+    yield "125,000 auctions of one seller, each with a bid, the last 100 prices, q6", "run --query q6", sales(COUNT // 2), b"V|2\nrule|last|100\n"
+    shape = "--workers 4 --bins 4096"
+    settings = firsts(2, 4096, 4) + rounds(MOST_CONTROLS, 2, 4096, 4)
+    full = "8,192 first owners, 65,536 control records"
+    yield f"{full}, q4, {shape}", f"replay --query q4 {shape}", sales(12_500), b"V|2\n" + settings
+    yield f"25,000 bids, 2 rules, {full}, q5, {shape}", f"replay --query q5 {shape}", usual, b"V|2\nrule|slide|7200\nrule|slides|5\n" + settings
     yield "a price of 1,000,000 zeros and a 7", "run --query q1", b"B|1|1|1|" + b"0" * 1_000_000 + b"7\n", b""

@@ -3,7 +3,7 @@ import os
 import random
 import re
 
-from hostile_readers import COUNT, MOST_CONTROLS, NUMBER, PRICE, TIME, controls_of, events_of
+from hostile_readers import COUNT, MOST_CONTROLS, NUMBER, PRICE, RULES, TIME, controls_of, events_of
 from megaphone_tools import STAGES, read
 
 # What the answer and the report hold before a run.
@@ -13,7 +13,7 @@ SAID = {
     0: rb"",
     2: rb"usage: megaphone run\|replay\|check\|make\|demo\n",
     3: rb"events line [1-9][0-9]*: (count|kind|fields|number|range|name|order)\n",
-    4: rb"config line [1-9][0-9]*: (count|kind|fields|number|range)\n",
+    4: rb"config line [1-9][0-9]*: (kind|fields|number|range|name|late|twice|count)\n",
     5: rb"no file .*\n",
     6: rb"read fault\n",
     7: rb"write fault\n",
@@ -29,13 +29,33 @@ BASES = [
     b"",
 ]
 CONFIGS = [b"", b"", b"M|10|0|0|1\nM|20|0|0|0\n", b"all|5|0|1\nfluid|6|30|0|2\n", b"batch|25|10|2|0|1\r\n\nM|0|0|3|0\n", b"M|50|0|0|1"]
-LIMITS = [0, 1, 16, 63, 64, 65, 255, 256, 1024, 1025, 4096, 4097, COUNT, MOST_CONTROLS, PRICE, TIME, NUMBER, 1 << 32, 1 << 63, 1 << 64, 1 << 128]
+# Kinds of lines of a configuration, and the names of the rules of all queries.
+LINE_WORDS = [b"V", b"first", b"rule", b"M", b"all", *(name for rules in RULES.values() for name in rules)]
+LIMITS = [0, 1, 2, 6, 16, 63, 64, 65, 100, 255, 256, 1000, 1024, 1025, 4096, 4097, 7200, 43_200, COUNT, MOST_CONTROLS, PRICE, TIME, NUMBER, 1 << 32, 1 << 63, 1 << 64, 1 << 128]
 WORDS = [b"", b"--", b"-", b"--query", b"--out", b"--seed", b"=", b"q0", b"q9", b"Q1", b".", b"/", b"e", b"c", b"o", b"r", b"none", b"\xff\xfe", b"1e3", b"+1", b"-1", b"0x10"]
 
 
 def number(draw):
     value = max(0, draw.choice(LIMITS) + draw.choice((-1, 0, 0, 1)))
     return b"0" * draw.choice((0, 0, 0, 1, 30, 2000)) + (b"%d" % value if draw.random() < 0.9 else b"9" * draw.choice((19, 20, 21, 1000)))
+
+
+def rule_value(draw, limits):
+    """A value of a rule, within its limits but for one in twenty."""
+    least, greatest = limits[0], limits[-1]
+    beside = draw.choice((max(0, least - 1), greatest + 1))
+    return draw.choice((least, greatest, draw.choice(limits))) if draw.random() < 0.95 else beside
+
+
+def version_two(draw, query, workers, bins):
+    """A configuration with rules of the query and first owners, and one of the others behind them."""
+    lines = [b"rule|%s|%d" % (name, rule_value(draw, limits)) for name, limits in RULES[query].items() if draw.random() < 0.7]
+    places = [(stage, bin) for stage in range(STAGES[query]) for bin in range(bins)]
+    some = draw.sample(places, min(len(places), draw.choice((0, 1, 2, 8, 600))))
+    lines += [b"first|%d|%d|%d" % (stage, bin, draw.randrange(workers)) for stage, bin in some]
+    draw.shuffle(lines)
+    begin, end = draw.choice((b"", b"", b"\r\n\n")), draw.choice((b"\n", b"\n", b"\r\n", b"\n\n"))
+    return begin + end.join([b"V|2" if draw.random() < 0.9 else b"V|1", *lines, draw.choice(CONFIGS)])
 
 
 def pieces(text):
@@ -87,6 +107,22 @@ def put_bytes(draw, index, text, places):
     return text[:begin] + bytes(draw.choices(range(256), k=draw.choice((0, 1, 63, 64, 65)))) + text[end:]
 
 
+def put_line(draw, index, text, places):
+    """One of the lines stands elsewhere, or there too."""
+    lines = text.split(b"\n")
+    line = draw.choice(lines)
+    if draw.random() < 0.5:
+        lines.remove(line)
+    lines.insert(draw.randint(0, len(lines)), line)
+    return b"\n".join(lines)
+
+
+def put_word_of_a_line(draw, index, text, places):
+    """A kind of line, or the name of a rule, in place of a field."""
+    begin, end = draw.choice(pieces(text))
+    return text[:begin] + draw.choice(LINE_WORDS) + text[end:]
+
+
 def swap_fields(draw, index, text, places):
     begin, end = draw.choice(pieces(text))
     first, last = draw.choice(pieces(text))
@@ -97,7 +133,7 @@ def swap_fields(draw, index, text, places):
     return text[:begin] + text[first:last] + text[end:first] + text[begin:end] + text[last:]
 
 
-CHANGES = [cut_off, cut_out, put_byte, replace_byte, shuffle_lines, repeat, put_number, put_bytes, swap_fields]
+CHANGES = [cut_off, cut_out, put_byte, replace_byte, shuffle_lines, repeat, put_number, put_bytes, put_line, put_word_of_a_line, swap_fields]
 
 
 def change(draw, index, text):
@@ -157,7 +193,8 @@ class Case:
         if self.command in ("run", "replay"):
             line += f" --out o --depth {draw.choice((1, 2, 64))}" + draw.choice(("", " --report r"))
         self.words, self.is_whole = line.encode().split(), True
-        self.events, self.config = draw.choice(BASES), draw.choice(CONFIGS)
+        self.events = draw.choice(BASES)
+        self.config = draw.choice(CONFIGS) if draw.random() < 0.4 else version_two(draw, self.query, self.workers, self.bins)
         what = draw.choices(("events", "config", "both", "words"), (45, 25, 15, 15))[0]
         for _ in range(draw.choice((1, 1, 2, 4))):
             if what in ("events", "both"):
@@ -175,7 +212,7 @@ class Case:
         events = events_of(self.events)
         if isinstance(events, tuple):
             return 3, b"events line %d: %s\n" % (events[0], events[1].encode())
-        controls = controls_of(self.config, self.workers, self.bins, STAGES[self.query])
+        controls = controls_of(self.config, self.query, self.workers, self.bins)
         if isinstance(controls, tuple):
             return 4, b"config line %d: %s\n" % (controls[0], controls[1].encode())
         return 0, b"ok %d events %d controls\n" % (events, controls) if self.command == "check" else b""
