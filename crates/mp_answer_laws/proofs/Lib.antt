@@ -1,3 +1,4 @@
 pub mod ByName
 pub mod ByTime
+pub mod Runs
 pub mod Written

@@ -29,10 +29,10 @@ plus_one x y z e = omega (arith, ints)
 -- Places
 
 pub counted_along : (a b : CountTable) (loc : Loc) (t : ℕ) → SamePlaces a b → IsCounted b loc t → IsCounted a loc t
-counted_along a b loc t s h = rw (← s.stages, ← s.times) h
+counted_along a b loc t s h = rw (← s.stages, ← s.times, ← s.low) h
 
 pub counted_on : (a b : CountTable) (loc : Loc) (t : ℕ) → SamePlaces a b → IsCounted a loc t → IsCounted b loc t
-counted_on a b loc t s h = rw (s.stages, s.times) h
+counted_on a b loc t s h = rw (s.stages, s.times, s.low) h
 
 -- One change
 

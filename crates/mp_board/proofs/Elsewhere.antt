@@ -15,7 +15,7 @@ use Rattle.mp_names.proofs.Mails.{total_below, each_zero}
 use Rattle.mp_names.proofs.Owners.{move_in_shape}
 use Rattle.mp_names.proofs.Listed.{ctrl_owed, record_owed, row_owed, groups_are}
 use Rattle.mp_names.proofs.Steps.{IsEven, raised, each_even, zero_from_even}
-use Rattle.mp_stamps.specs.Counts.{CountTable, IsCounted}
+use Rattle.mp_stamps.specs.Counts.{CountTable}
 use Rattle.mp_board.specs.Soundness.{HoldsAllTimes}
 
 -- a name that can be counted: one that is owed, or a group
@@ -131,8 +131,8 @@ module _ (o : Outline) (logs : ℕ → Log) (ok : OutlineIsSound o) (good : Logs
   counted_location OutRoute x c e = tt
   counted_location OutMail x c e = tt
 
-  -- so where no count is kept the count is zero
-  pub nothing_elsewhere : (table : CountTable) → table.stages ≡ o.stages → HoldsAllTimes o table.times → (a : Loc) (t : ℕ) → (IsCounted table a t → ⊥) → count_at o logs a t ≡ pos 0
+  -- so where there is no count it is zero
+  pub nothing_elsewhere : (table : CountTable) → table.stages ≡ o.stages → HoldsAllTimes o table.times → (a : Loc) (t : ℕ) → (IsLocation table.stages a × Contains table.times t → ⊥) → count_at o logs a t ≡ pos 0
   nothing_elsewhere table stages times a t n =
       zero_from_even o logs a t (even_none a t (λ x c e f.
       n (subst (λ (k : ℕ). IsLocation k a) (sym stages) (counted_location a x c e), subst (Contains table.times) f (times x c))))

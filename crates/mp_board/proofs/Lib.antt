@@ -5,3 +5,4 @@ pub mod Elsewhere
 pub mod Posting
 pub mod Timed
 pub mod Opened
+pub mod GivenBack

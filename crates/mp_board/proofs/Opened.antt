@@ -1,5 +1,5 @@
 -- The empty logs of all workers are counted, and make a board that is sound.
-use Rattle.std.proofs.Common.{◌≡◌, ℕ, zero, suc, ◌+◌, ◌^◌, ◌≤◌, List, length, ℤ, ◌+ℤ◌, refl, sym, ap, subst, ◌∙◌, ⊎_elim, arith}
+use Rattle.std.proofs.Common.{◌≡◌, ℕ, zero, suc, ◌+◌, ◌^◌, ◌≤◌, List, length, get_or, ℤ, ◌+ℤ◌, refl, sym, ap, subst, ◌∙◌, ⊎_elim, arith}
 use Rattle.std.specs.Prelude.{replicate}
 use Rattle.std.proofs.lemmas.Int.{ints}
 use Rattle.std.proofs.lemmas.List.{length-replicate}
@@ -14,6 +14,7 @@ use Rattle.mp_names.specs.Outlines.{Outline, OutlineIsSound}
 use Rattle.mp_names.proofs.Keeps.{empty_is_legal}
 use Rattle.mp_stamps.specs.declared.seen.Seen.{Seen}
 use Rattle.mp_stamps.specs.Counts.{CountTable, IsCounted, SamePlaces, count_in}
+use Rattle.mp_stamps.specs.Places.{place_of}
 use Rattle.mp_stamps.specs.Seen.{seen_at}
 use Rattle.mp_stamps.proofs.Tables.{counted_or_not}
 use Rattle.mp_rows.specs.Entries.{AreContributions, sum_at}
@@ -21,7 +22,7 @@ use Rattle.mp_rows.specs.WorkerLog.{most_names}
 use Rattle.mp_board.specs.Opening.{AreOpened}
 use Rattle.mp_board.specs.Soundness.{BoardIsSound, HoldsAllTimes}
 use Rattle.mp_board.specs.Totals.{HasRoomFor}
-use Rattle.mp_board.proofs.Adding.{counted_along}
+use Rattle.mp_board.proofs.Adding.{counted_along, counted_on}
 use Rattle.mp_board.proofs.Elsewhere.{nothing_elsewhere}
 use Rattle.mp_board.proofs.Recounted.{frontier_of_equal}
 
@@ -36,7 +37,8 @@ module _ (o : Outline) (n : ℕ) (counts next : CountTable) (entries : List Chan
     counted = λ loc t c.
         let own = counted_along counts next loc t same c in
         next_sum (count_in next loc t) (count_in counts loc t) (sum_at entries loc t) (sum_below n (λ w. contribution o w empty_log loc t)) (contribution o n empty_log loc t) (counted loc t own) (h.counted loc t own) (are loc t);
-    not_counted = λ loc t m. let other = λ (c : IsCounted counts loc t). m (rw (same.stages, same.times) c) in dropped loc t other ∙ h.not_counted loc t other;
+    kept = λ loc. ap (λ (ns : List ℕ). get_or ns (place_of loc) 0) same.low ∙ h.kept loc;
+    not_counted = λ loc t m. let other = λ (c : IsCounted counts loc t). m (counted_on counts next loc t same c) in dropped loc t other ∙ h.not_counted loc t other;
     room = λ k m. room k (h.room (length entries + k) (omega (arith, m, few)));
   }
 
@@ -61,7 +63,7 @@ module _ (o : Outline) (ok : OutlineIsSound o) (counts : CountTable) (stages : c
   are_counted loc t =
       ⊎_elim
       (λ (c : IsCounted counts loc t). opened.counted loc t c ∙ ap (λ (f : ℕ → Log). sum_below o.workers (λ w. contribution o w (f w) loc t)) (λ i w. sym (empty_logs o.workers w) i))
-      (λ (n : IsCounted counts loc t → ⊥). opened.not_counted loc t n ∙ sym (nothing_elsewhere o (log_at (replicate o.workers empty_log)) ok legal counts stages times loc t n))
+      (λ (n : IsCounted counts loc t → ⊥). opened.not_counted loc t n ∙ sym (nothing_elsewhere o (log_at (replicate o.workers empty_log)) ok legal counts stages times loc t (λ c. n (c.0, c.1, omega (arith, opened.kept loc)))))
       (counted_or_not counts loc t)
 
   small : (w : ℕ) → log_size (log_at (replicate o.workers empty_log) w) ≤ most_names
@@ -80,6 +82,7 @@ module _ (o : Outline) (ok : OutlineIsSound o) (counts : CountTable) (stages : c
         stages = stages;
         times = times;
         counted = are_counted;
+        given_back = λ loc t has contains l. absurd (omega (arith, l, opened.kept loc));
         room = λ k m. opened.room k (omega (arith, m, few_workers));
         few_versions = omega (arith, version);
         seen_stages = seen_stages;

@@ -1,5 +1,5 @@
 -- A board stays sound as a log is posted on it.
-use Rattle.std.proofs.Common.{◌≡◌, ◌≢◌, ℕ, zero, suc, ◌+◌, ◌-◌, ◌*◌, ◌^◌, ◌<◌, ◌≤◌, ◌==◌, Bool, true, false, cond, List, ◌++◌, length, set, ℤ, ◌+ℤ◌, ◌-ℤ◌, refl, sym, ap, subst, ◌∙◌, ⊎_elim, arith, length-append}
+use Rattle.std.proofs.Common.{◌≡◌, ◌≢◌, ◌⊎◌, Contains, get_or, pos, ℕ, zero, suc, ◌+◌, ◌-◌, ◌*◌, ◌^◌, ◌<◌, ◌≤◌, ◌==◌, Bool, true, false, cond, List, ◌++◌, length, set, ℤ, ◌+ℤ◌, ◌-ℤ◌, refl, sym, ap, subst, ◌∙◌, ⊎_elim, arith, length-append}
 use Rattle.std.specs.Prelude.{replicate}
 use Rattle.std.proofs.lemmas.Bool.{cases_Bool, cases_eq, cases_lt, false≢true, eq-eqb, eqb-true, false_from_ne_true}
 use Rattle.std.proofs.lemmas.Int.{ints}
@@ -7,18 +7,20 @@ use Rattle.std.proofs.lemmas.List.{get_or-set_other, get_or-set_same, length-set
 use Rattle.mp_names.specs.declared.locations.Loc.{Loc}
 use Rattle.mp_names.specs.declared.names.Name.{Name}
 use Rattle.mp_names.specs.declared.pointstamps.Change.{Change}
-use Rattle.mp_names.specs.Frontiers.{contribution, count_at, IsClosedForOne, IsFrontierOf, log_at, sum_below}
+use Rattle.mp_names.specs.Frontiers.{contribution, count_at, HasPassed, IsClosed, IsClosedForOne, IsFrontierOf, log_at, sum_below}
 use Rattle.mp_names.specs.Laws.{log_size, names_in}
 use Rattle.mp_names.specs.Limits.{most_workers}
-use Rattle.mp_names.specs.Logs.{Log, LogGrows, LogIsLegal, LogsAreLegal, empty_log}
+use Rattle.mp_names.specs.Logs.{Log, LogGrows, LogsGrow, LogIsLegal, LogsAreLegal, empty_log}
 use Rattle.mp_names.specs.Names.{IsPrefix}
 use Rattle.mp_names.specs.Outlines.{Outline, OutlineIsSound}
-use Rattle.mp_names.proofs.Exact.{closed_from_passed}
-use Rattle.mp_names.specs.Locations.{IsLocation}
+use Rattle.mp_names.proofs.Exact.{closed_from_passed, passed_from_closed, quiet_from_closed}
+use Rattle.mp_names.proofs.Grows.{grown_closed, grows_refl}
+use Rattle.mp_names.specs.Locations.{IsLocation, stays}
 use Rattle.mp_stamps.specs.declared.seen.Seen.{Seen}
-use Rattle.mp_stamps.specs.Counts.{CountTable, IsCounted, SamePlaces, count_in}
+use Rattle.mp_stamps.specs.Counts.{CountTable, IsCounted, SamePlaces, count_in, low_of}
+use Rattle.mp_stamps.specs.Places.{place_of}
 use Rattle.mp_stamps.specs.Seen.{SeenIsDone, seen_at}
-use Rattle.mp_stamps.proofs.Tables.{counted_or_not}
+use Rattle.mp_stamps.proofs.Tables.{counted_or_gone}
 use Rattle.mp_machine.specs.Steps.{same_log, same_names}
 use Rattle.mp_machine.proofs.Turns.{same_log_is}
 use Rattle.mp_rows.specs.Entries.{sum_at}
@@ -180,18 +182,44 @@ module _ (o : Outline) (logs : List Log) (counts : CountTable) (seen : Seen) (w 
         ∙ ap (λ (x : Log). count_at o (log_at logs) loc t +ℤ (contribution o w x loc t -ℤ contribution o w (log_at logs w) loc t)) (posted_here logs w log inside)
         ∙ ap (λ (x : Log). count_at o (log_at logs) loc t +ℤ (contribution o w log loc t -ℤ contribution o w x loc t)) here
 
+    grow : LogsGrow o (log_at logs) (log_at (set logs w log))
+    grow v m =
+        ⊎_elim
+        (λ (e : v ≡ w). subst (λ (u : ℕ). LogGrows (log_at logs u) (log_at (set logs w log) u)) (sym e) (subst (λ (x : Log). LogGrows x (log_at (set logs w log) w)) (sym here) (subst (λ (x : Log). LogGrows posted x) (sym (posted_here logs w log inside)) un.grows)))
+        (λ (n : v ≢ w). subst (λ (x : Log). LogGrows (log_at logs v) x) (sym (others_stay logs w log inside v n)) (grows_refl (log_at logs v)))
+        (cases_eq v w)
+
+    -- where a frontier that was seen has passed a time the location is closed, and stays so
+    still_closed : (loc : Loc) (t : ℕ) → IsLocation o.stages loc → HasPassed (seen_at seen loc) t → IsClosed o (log_at (set logs w log)) loc t
+    still_closed loc t has passed v m = grown_closed o v (log_at logs v) (log_at (set logs w log) v) (grow v m) loc t (closed_from_passed o (log_at logs) sound.outline sound.legal_logs loc (seen_at seen loc) t (sound.frontiers loc has) passed v m)
+
+    -- so its count is zero before and after
+    zero_when_passed : (loc : Loc) (t : ℕ) → IsLocation o.stages loc → HasPassed (seen_at seen loc) t → (count_at o (log_at logs) loc t ≡ pos 0) × (count_at o (log_at (set logs w log)) loc t ≡ pos 0)
+    zero_when_passed loc t has passed = (
+      quiet_from_closed o (log_at logs) sound.outline sound.legal_logs loc t (closed_from_passed o (log_at logs) sound.outline sound.legal_logs loc (seen_at seen loc) t (sound.frontiers loc has) passed) t (omega arith) loc stays,
+      quiet_from_closed o (log_at (set logs w log)) sound.outline legal_after loc t (still_closed loc t has passed) t (omega arith) loc stays,
+    )
+
     module _ (next_counts : CountTable) (counted : (loc : Loc) (t : ℕ) → IsCounted counts loc t → count_in next_counts loc t ≡ count_in counts loc t +ℤ sum_at changes loc t) (dropped : (loc : Loc) (t : ℕ) → (IsCounted counts loc t → ⊥) → count_in next_counts loc t ≡ count_in counts loc t) (same : SamePlaces counts next_counts) (room : (k : ℕ) → HasRoomFor (length changes + k) counts → HasRoomFor k next_counts) where
       counted_after : (loc : Loc) (t : ℕ) → count_in next_counts loc t ≡ count_at o (log_at (set logs w log)) loc t
       counted_after loc t =
           ⊎_elim
           (λ (c : IsCounted counts loc t).
           next_count (count_in next_counts loc t) (count_in counts loc t) (sum_at changes loc t) (count_at o (log_at logs) loc t) (count_at o (log_at (set logs w log)) loc t) (contribution o w posted loc t) (contribution o w log loc t) (counted loc t c) (sound.counted loc t) (un.pending loc t) (count_after loc t))
-          (λ (n : IsCounted counts loc t → ⊥).
-          dropped loc t n
+          (λ (n : (IsLocation counts.stages loc × Contains counts.times t → ⊥) ⊎ (IsLocation counts.stages loc × Contains counts.times t × (t < low_of counts loc))).
+          ⊎_elim
+          (λ (m : IsLocation counts.stages loc × Contains counts.times t → ⊥).
+          dropped loc t (λ c. m (c.0, c.1))
           ∙ sound.counted loc t
-          ∙ nothing_elsewhere o (log_at logs) sound.outline sound.legal_logs counts sound.stages sound.times loc t n
-          ∙ sym (nothing_elsewhere o (log_at (set logs w log)) sound.outline legal_after counts sound.stages sound.times loc t n))
-          (counted_or_not counts loc t)
+          ∙ nothing_elsewhere o (log_at logs) sound.outline sound.legal_logs counts sound.stages sound.times loc t m
+          ∙ sym (nothing_elsewhere o (log_at (set logs w log)) sound.outline legal_after counts sound.stages sound.times loc t m))
+          (λ (m : IsLocation counts.stages loc × Contains counts.times t × (t < low_of counts loc)).
+          let has : IsLocation o.stages loc = subst (λ (k : ℕ). IsLocation k loc) sound.stages m.0 in
+          let passed = sound.given_back loc t has m.1 m.2 in
+          let gone : IsCounted counts loc t → ⊥ = (λ c. let below : t < low_of counts loc = m.2 in let kept : low_of counts loc ≤ t = c.2 in absurd (omega (arith, below, kept))) in
+          dropped loc t gone ∙ sound.counted loc t ∙ (zero_when_passed loc t has passed).0 ∙ sym (zero_when_passed loc t has passed).1)
+          n)
+          (counted_or_gone counts loc t)
 
       pub log_posted : (next : Seen) → next.version ≡ cond (log_size log == log_size posted) seen.version (suc seen.version) → next.stages ≡ seen.stages → ((at : Loc) → IsLocation seen.stages at → IsFrontierOf (count_in next_counts) at (seen_at next at)) → BoardIsSound o (set logs w log) next_counts next
       log_posted next version stages frontiers =
@@ -205,11 +233,18 @@ module _ (o : Outline) (logs : List Log) (counts : CountTable) (seen : Seen) (w 
             stages = same.stages ∙ sound.stages;
             times = subst (HoldsAllTimes o) (sym same.times) sound.times;
             counted = counted_after;
+            given_back = λ loc t has contains low.
+                let was : t < low_of counts loc = subst (λ (ns : List ℕ). t < get_or ns (place_of loc) 0) same.low low in
+                let passed = sound.given_back loc t has (subst (λ (ts : List ℕ). Contains ts t) same.times contains) was in
+                passed_from_closed o (log_at (set logs w log)) sound.outline legal_after loc (seen_at next loc) t (shown loc has) (still_closed loc t has passed);
             room = λ k m. room k (sound.room (length changes + k) (omega (arith, m, un.few_changes, sized)));
             few_versions = few seen.version next.version (names_in o.workers (log_at logs)) (names_in o.workers (log_at (set logs w log))) (log_size posted) (log_size log) (same_log log posted) sound.few_versions sized (grows_in_size posted log un.grows) (changes_in_size posted log un.grows) (version ∙ ap (λ (b : Bool). cond b seen.version (suc seen.version)) (same_by_size posted log un.grows));
             seen_stages = stages ∙ sound.seen_stages;
-            frontiers = λ at has. frontier_of_equal (count_in next_counts) (count_at o (log_at (set logs w log))) counted_after at (seen_at next at) (frontiers at (subst (λ (n : ℕ). IsLocation n at) (sym sound.seen_stages) has));
+            frontiers = shown;
           }
+        where
+          shown : ShowsFrontiers o (set logs w log) next
+          shown at has = frontier_of_equal (count_in next_counts) (count_at o (log_at (set logs w log))) counted_after at (seen_at next at) (frontiers at (subst (λ (n : ℕ). IsLocation n at) (sym sound.seen_stages) has))
 
 -- What an exchange tells the worker
 

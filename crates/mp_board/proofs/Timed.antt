@@ -1,5 +1,5 @@
 -- The times of a job are those of all names of its outline.
-use Rattle.std.proofs.Common.{◌≡◌, ◌⊎◌, ℕ, zero, suc, ◌-◌, ◌<◌, true, [], refl, length, inl, inr, sym, subst, ⊎_elim, Contains}
+use Rattle.std.proofs.Common.{◌≡◌, ◌⊎◌, ℕ, zero, suc, ◌-◌, ◌<◌, true, refl, length, inl, inr, sym, subst, ⊎_elim, Contains}
 use Rattle.std.proofs.lemmas.Bool.{eqb-true, false≢true}
 use Rattle.std.proofs.lemmas.List.{get_or_default}
 use Rattle.mp_names.specs.declared.controls.Control.{Control}

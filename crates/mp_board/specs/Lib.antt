@@ -2,5 +2,6 @@
 pub mod Answers
 pub mod Boards
 pub mod Opening
+pub mod Passing
 pub mod Soundness
 pub mod Totals

@@ -9,6 +9,7 @@ ghost use Rattle.mp_board.specs.Boards.{ShowsFrontiers, version_with};
 
 use crate::causes::Cause;
 use crate::opening::{empty_logs, opening_counts};
+use crate::passing::give_back_passed;
 use crate::totals::add_all;
 use mp_rows::{Job, Log, Naming, OutlineOf, Outlined, Query};
 use mp_stamps::{Counts, Seen};
@@ -65,7 +66,7 @@ impl<O: Outlined> Board<O> {
     /// Posts a worker's log, which has grown from the one that it posted last, and gives what all posted logs show then:
     /// the frontier of each location, as in Naiad's progress protocol, and how often one of these logs has changed. It
     /// takes no memory, and the time that the changes since then need. Frontiers are found anew only where a least time of
-    /// outstanding work has moved.
+    /// outstanding work has moved; what counts they have passed is given back then.
     pub fn exchange(&mut self, worker: u32, log: &mut Log<O>) -> Seen
         requires worker { worker < O.outline.workers }
         requires own { log.old.worker ≡ worker }
@@ -86,6 +87,7 @@ impl<O: Outlined> Board<O> {
         log.post();
         self.logs[worker as usize] = Snapshot::of(log);
         self.seen.follow(version, moved, &self.counts);
+        give_back_passed(&mut self.counts, moved, &self.seen);
         self.seen
     }
 

@@ -1,5 +1,9 @@
 //! Why workers stop, and what an exchange answers.
+ghost use Rattle.std.specs.Prelude.{◌≡◌};
+ghost use Rattle.mp_board.specs.declared.causes.Cause.TheVariants.{Memory};
+
 use mp_stamps::Seen;
+use std::alloc::AllocError;
 
 /// Why a worker stopped.
 #[derive(Clone, Copy, PartialEq, Eq, Debug)]
@@ -8,6 +12,14 @@ pub enum Cause {
     Write,
     /// There was no memory.
     Memory,
+}
+
+impl From<AllocError> for Cause {
+    ghost from_gives = { λ _ cause. cause ≡ Memory };
+
+    fn from(_: AllocError) -> Self {
+        Cause::Memory
+    }
 }
 
 /// What an exchange answers that posts the log, or that may be asked again.

@@ -63,7 +63,7 @@ pub trait Hub<O: Outlined> {
         ensures never_falls { version self.old ≤ version self.new }
 
         ensures busy { IfBusy result (was_busy self.old) }
-        ensures stopped { IfStopped result (λ cause. was_stopped self.old cause) }
+        ensures stopped { IfStopped result (λ cause. was_stopped self.new cause) }
         ensures tried { IfTried result (goes_on self.old) }
 
         ensures kept { IfNotPosted result (kept self.old self.new) }

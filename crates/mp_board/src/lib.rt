@@ -7,6 +7,7 @@ mod board;
 mod causes;
 mod hub;
 mod opening;
+mod passing;
 mod totals;
 
 pub use board::Board;

@@ -7,7 +7,7 @@ ghost use Rattle.mp_output.specs.Rows.{GivesRows};
 ghost use Rattle.mp_outside.specs.Fault.{Rose};
 ghost use Rattle.mp_outside.specs.Files.{with_file};
 ghost use Rattle.mp_outside.specs.Sink.{OnlyAppends, grown};
-ghost use Rattle.mp_drive.specs.Driven.{HasBegun};
+ghost use Rattle.mp_answer_laws.specs.Lines.{HasBegun};
 ghost use Rattle.mp_report.specs.Report.{AreTalliesOf};
 ghost use Rattle.mp_words.specs.Limits.{AreWithinLimits};
 ghost use Rattle.mp_command.specs.Calls.{StopsAnswer};
@@ -15,7 +15,7 @@ ghost use Rattle.mp_command.specs.Refused.{EndsAs, outcome_of};
 ghost use Rattle.mp_cli.specs.Running.{TellsSteps};
 ghost use Rattle.mp_command.specs.Writing.{IsTextOfJob, WritesSome, answer_at};
 
-use crate::causes::{refused_after, refused_at};
+use crate::causes::refused_after;
 use mp_command::Refusal;
 use mp_drive::{Replayed, replay_with_tallies};
 use mp_gate::Gate;
@@ -128,7 +128,7 @@ fn run_into<'a, Q: Query + Send, G: Gate + Sync, S: Sink, R: Threads + Wait + Sy
                     steps: Some(run.steps),
                     tallies: run.tallies,
                 }),
-                Err(stop) => Err(refused_at(stop)),
+                Err(cause) => Err(refused_after(cause)),
             }
         }
     }

@@ -3,7 +3,8 @@ use Rattle.std.proofs.Common.{◌≡◌, ⊎_elim, ℕ, ◌<◌, Bool, true, fal
 use Rattle.std.specs.Bool.{MatchBool}
 use Rattle.std.specs.List.{AllWithin, HoldsAt}
 use Rattle.std.specs.Option.{option_map_or}
-use Rattle.std.specs.Prelude.{◌↔◌, IsTrue, Option, slice_get}
+use Rattle.std.specs.Prelude.{◌≢◌, ◌↔◌, IsTrue, OnErr, OnOk, Option, Err, slice_get}
+use Rattle.std.specs.declared.result.Result.{Result}
 use Rattle.std.proofs.lemmas.Bool.{false≢true}
 use Rattle.std.proofs.lemmas.Iterator.Search.{true_from_All}
 use Rattle.std.proofs.lemmas.List.Elements.{All-from_all_within, All-head}
@@ -14,7 +15,9 @@ use Rattle.mp_names.specs.Logs.{Log, empty_log}
 use Rattle.mp_names.specs.Frontiers.{HasEnded}
 use Rattle.mp_names.specs.Names.{In}
 use Rattle.mp_names.specs.Outlines.{Outline, OutlineIsSound}
-use Rattle.mp_outside.specs.Sink.{grown}
+use Rattle.mp_outside.specs.Fault.{Rose}
+use Rattle.mp_outside.specs.Sink.{Beside, OnlyAppends, grown}
+use Rattle.mp_outside.proofs.SinkLemmas.{grown-nothing}
 use Rattle.mp_machine.specs.Promises.{LogIsFull}
 use Rattle.mp_machine.specs.Runs.{WorkerIsFinished, run_of_machine}
 use Rattle.mp_machine.specs.Worlds.{World}
@@ -25,9 +28,12 @@ use Rattle.mp_model.specs.Facts.{JobFacts, QueryFacts}
 use Rattle.mp_outline.specs.JobOutline.{outline_of}
 use Rattle.mp_worker_refinement.specs.State.{WorkerState}
 use Rattle.mp_worker_refinement.specs.SystemState.{IsWorkerOf, KnowsTheEnd, SystemState}
-use Rattle.mp_answer_laws.specs.Lines.{written_lines}
+use Rattle.mp_board.specs.declared.causes.Cause.{Cause}
+use Rattle.mp_board.specs.declared.causes.Cause.TheVariants as stop
+use Rattle.mp_answer_laws.specs.Lines.{HasBegun, written_lines}
+use Rattle.mp_answer_laws.specs.Runs.{RunLeaves}
 use Rattle.mp_answer_laws.proofs.Written.{full_logs_answer, written_lines_begin}
-use Rattle.mp_drive.specs.Driven.{AllKnowTheEnd, AreReached, HasBegun, HasKept, HasWritten, first_log}
+use Rattle.mp_drive.specs.Driven.{AllKnowTheEnd, AreReached, HasKept, HasWritten, first_log}
 use Rattle.mp_drive.proofs.Written.{first_legal, some_first}
 
 -- a worker that knows the end is finished as the machine has it
@@ -83,3 +89,12 @@ module _ {Cell : Type 0} (q : QueryFacts Cell) (job : JobFacts) (ok : OutlineIsS
 
   pub all_written : AllKnowTheEnd o t → written_lines q job.events (first_log t) ≡ one_thread_answer q job.events
   all_written all = full_logs_answer q job (first_log t) (first_full all)
+
+-- where nothing was written before it, a schedule leaves what a whole run leaves
+pub seed_leaves : {Cell S V : Type 0} (q : QueryFacts Cell) (job : JobFacts) (written : S → Option (List ℕ)) (faults : S → ℕ) (frame : S → Beside) (t : SystemState) (had has : S) (r : Result V Cause) → written_lines q job.events (first_log t) ≡ []
+    → ((before : Option (List ℕ)) → HasWritten q job.events before t (written had) → OnOk r (written has ≡ grown before (one_thread_answer q job.events)))
+    → ((before : Option (List ℕ)) → HasWritten q job.events before t (written had) → OnErr r (HasBegun q job.events before (written has)))
+    → (r ≡ Err stop.Write → Rose (faults had) (faults has)) → (r ≢ Err stop.Write → faults has ≡ faults had) → OnlyAppends frame faults had has → RunLeaves q job written faults frame r had has
+seed_leaves q job written faults frame t had has r nothing answer part failed no_fault appends =
+    let none = sym (grown-nothing (written had)) ∙ ap (grown (written had)) (sym nothing) in
+    record { whole = answer (written had) none; part = part (written had) none; failed = failed; no_fault = no_fault; appends = appends }

@@ -12,7 +12,7 @@ use Rattle.mp_machine.specs.Runs.{Turn, is_made, made_count, run_of_machine, tur
 use Rattle.mp_machine.proofs.Bounds.{steps_bounded}
 use Rattle.mp_machine.proofs.Worlds.{turns_more}
 use Rattle.mp_worker_refinement.specs.SystemState.{KnowsTheEnd, Refines, SystemState}
-use Rattle.mp_drive.specs.declared.stop.DriveStop.{DriveStop}
+use Rattle.mp_board.specs.declared.causes.Cause.{Cause}
 use Rattle.mp_draws.specs.Draws.{draw_of}
 use Rattle.mp_drive.specs.Driven.{AllKnowTheEnd, AreAfter, AreReached, LeadsOn}
 use Rattle.mp_drive.specs.Schedule.{AreFinished, AreScheduled, EndsAfter, FollowsSchedule, MakesPick, pick}
@@ -113,7 +113,7 @@ are_finished o depth t world are all w l =
     finished o world w s.0 (are.workers w s.0 s.1) (subst (KnowsTheEnd o) (get_or_from_slice_get t.workers w s.0 s.0 s.1) (all w s.0 inside))
 
 -- a schedule that is followed from the start to the end
-pub ends_after : (o : Outline) (depth seed : ℕ) (old new : SystemState) (r : Result ℕ DriveStop) → Refines o depth old (start_of_machine o) → old.post.depth ≡ depth
+pub ends_after : (o : Outline) (depth seed : ℕ) (old new : SystemState) (r : Result ℕ Cause) → Refines o depth old (start_of_machine o) → old.post.depth ≡ depth
     → IfOk r (λ n. FollowsSchedule o seed n old new) → OnOk r (AllKnowTheEnd o new) → IfOk r (λ n. EndsAfter o depth seed n)
 ends_after o depth seed old new (Ok n) start level f known =
     let begun : AreAfter o [] old = subst (λ (d : ℕ). Refines o d old (start_of_machine o)) (sym level) start in

@@ -12,7 +12,7 @@ use Rattle.mp_machine.proofs.Bounds.{steps_bounded}
 use Rattle.mp_machine.proofs.Worlds.{turns_more}
 use Rattle.mp_worker_refinement.specs.SystemState.{SystemState}
 use Rattle.mp_worker.specs.declared.turn.Turn.{Turn as Answered}
-use Rattle.mp_drive.specs.declared.stop.DriveStop.{DriveStop}
+use Rattle.mp_board.specs.declared.causes.Cause.{Cause}
 use Rattle.mp_drive.specs.Driven.{AreReachedBy, LeadsOn, made_by, turn_in}
 
 pub made_more : (a b : List Turn) → made_count (a ++ b) ≡ made_count a + made_count b
@@ -40,7 +40,7 @@ module _ (o : Outline) where
       (by.0 ++ steps, lead.state_is by.0 by.1, subst (λ (k : ℕ). made_count (turns_of o k (start_of_machine o) (by.0 ++ steps)) ≡ n + made_count turns) (sym lead.depth) all)
 
   -- what one step answers, or why it was refused
-  pub counted_by : (w n : ℕ) (kind : Kind) (answered : Result Answered DriveStop) (old new : SystemState) → AreReachedBy o old n → IfOk answered (λ turn. LeadsOn o ((w, kind) ∷ []) (turn_in turn ∷ []) old new) → OnErr answered (LeadsOn o [] [] old new) → AreReachedBy o new (n + made_by answered)
+  pub counted_by : (w n : ℕ) (kind : Kind) (answered : Result Answered Cause) (old new : SystemState) → AreReachedBy o old n → IfOk answered (λ turn. LeadsOn o ((w, kind) ∷ []) (turn_in turn ∷ []) old new) → OnErr answered (LeadsOn o [] [] old new) → AreReachedBy o new (n + made_by answered)
   counted_by w n kind (Ok turn) old new by lead still = counted_further ((w, kind) ∷ []) (turn_in turn ∷ []) n old new by lead
   counted_by w n kind (Err why) old new by lead still = counted_further [] [] n old new by still
 

@@ -11,9 +11,10 @@ use Rattle.mp_machine.specs.Runs.{Turn, made_count, run_of_machine}
 use Rattle.mp_model.specs.Facts.{JobFacts, QueryFacts}
 use Rattle.mp_outline.specs.JobOutline.{outline_of}
 use Rattle.mp_worker_refinement.specs.SystemState.{SystemState}
-use Rattle.mp_drive.specs.declared.stop.DriveStop.{DriveStop}
-use Rattle.mp_drive.specs.declared.stop.DriveStop.TheVariants as stop
-use Rattle.mp_drive.specs.Driven.{Driven, HasBegun, HasKept, HasWritten, LeadsOn}
+use Rattle.mp_board.specs.declared.causes.Cause.{Cause}
+use Rattle.mp_board.specs.declared.causes.Cause.TheVariants as cause
+use Rattle.mp_answer_laws.specs.Lines.{HasBegun}
+use Rattle.mp_drive.specs.Driven.{Driven, HasKept, HasWritten, LeadsOn}
 use Rattle.mp_drive.specs.Refused.{IsWriteNext, IsWriteTried, KeepsSteps, RefusesDraw}
 use Rattle.mp_drive.specs.Schedule.{IsTried}
 use Rattle.mp_drive.proofs.Leading.{leads_further, still_there}
@@ -39,7 +40,7 @@ module _ {Cell : Type 0} (q : QueryFacts Cell) (job : JobFacts) where
   o = outline_of q job
 
   -- a step of a draw is refused
-  pub refuses_draw : (draw : ℕ) (made : Kind) (why : DriveStop) (t new : SystemState) (had has : Option (List ℕ)) → (made ≡ kind.Write → IsWriteTried o draw [] t) → (why ≡ stop.Write → made ≡ kind.Write)
+  pub refuses_draw : (draw : ℕ) (made : Kind) (why : Cause) (t new : SystemState) (had has : Option (List ℕ)) → (made ≡ kind.Write → IsWriteTried o draw [] t) → (why ≡ cause.Write → made ≡ kind.Write)
       → ((before : Option (List ℕ)) → HasWritten q job.events before t had → HasKept q job.events made before new has) → RefusesDraw q job draw why [] t new had has
   refuses_draw draw made why t new had has tried failed lines = record {
     write = λ e. tried (failed e);
@@ -47,7 +48,7 @@ module _ {Cell : Type 0} (q : QueryFacts Cell) (job : JobFacts) where
   }
 
   -- and that draw comes after others
-  pub refuses_later : (draw : ℕ) (why : DriveStop) (made : List (ℕ × Kind)) (turns : List Turn) (t mid new : SystemState) (had then_has has : Option (List ℕ)) → LeadsOn o made turns t mid
+  pub refuses_later : (draw : ℕ) (why : Cause) (made : List (ℕ × Kind)) (turns : List Turn) (t mid new : SystemState) (had then_has has : Option (List ℕ)) → LeadsOn o made turns t mid
       → ((before : Option (List ℕ)) → HasWritten q job.events before t had → HasWritten q job.events before mid then_has) → RefusesDraw q job draw why [] mid new then_has has → RefusesDraw q job draw why made t new had has
   refuses_later draw why made turns t mid new had then_has has lead written refused = record {
     write = λ e. later (refused.write e);
@@ -64,7 +65,7 @@ module _ {Cell : Type 0} (q : QueryFacts Cell) (job : JobFacts) where
       )
 
   -- no step of a list is made, and none is refused
-  pub keeps_none : (steps : List (ℕ × Kind)) (why : DriveStop) (t : Driven) (has : Option (List ℕ)) → (why ≡ stop.Write → ⊥) → KeepsSteps q job steps why t t has has
+  pub keeps_none : (steps : List (ℕ × Kind)) (why : Cause) (t : Driven) (has : Option (List ℕ)) → (why ≡ cause.Write → ⊥) → KeepsSteps q job steps why t t has has
   keeps_none steps why t has not_write = record {
     kept = [];
     left = steps;
@@ -78,9 +79,9 @@ module _ {Cell : Type 0} (q : QueryFacts Cell) (job : JobFacts) where
   }
 
   -- a step of a list is refused, after those before it
-  pub keeps_steps : (steps : List (ℕ × Kind)) (i : ℕ) (step : ℕ × Kind) (why : DriveStop) (turns : List Turn) (t mid new : Driven) (had has : Option (List ℕ)) → drop i steps ≡ step ∷ drop (suc i) steps → LeadsOn o (take i steps) turns t.state mid.state → LeadsOn o [] [] mid.state new.state
+  pub keeps_steps : (steps : List (ℕ × Kind)) (i : ℕ) (step : ℕ × Kind) (why : Cause) (turns : List Turn) (t mid new : Driven) (had has : Option (List ℕ)) → drop i steps ≡ step ∷ drop (suc i) steps → LeadsOn o (take i steps) turns t.state mid.state → LeadsOn o [] [] mid.state new.state
       → mid.made ≡ t.made + made_count turns → new.made ≡ mid.made
-      → (why ≡ stop.Write → step.1 ≡ kind.Write) → ((before : Option (List ℕ)) → HasWritten q job.events before t.state had → HasKept q job.events step.1 before new.state has) → KeepsSteps q job steps why t new had has
+      → (why ≡ cause.Write → step.1 ≡ kind.Write) → ((before : Option (List ℕ)) → HasWritten q job.events before t.state had → HasKept q job.events step.1 before new.state has) → KeepsSteps q job steps why t new had has
   keeps_steps steps i step why turns t mid new had has here lead still more same failed lines = record {
     kept = take i steps;
     left = drop i steps;

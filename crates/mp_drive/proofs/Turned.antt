@@ -28,7 +28,7 @@ use Rattle.mp_worker_refinement.proofs.Steps as steps
 use Rattle.mp_worker.specs.declared.turn.Stop.{Stop}
 use Rattle.mp_worker.specs.declared.turn.Turn.{Turn as Answered}
 use Rattle.mp_worker.specs.declared.turn.Turn.TheVariants as worker
-use Rattle.mp_drive.specs.declared.stop.DriveStop.{DriveStop}
+use Rattle.mp_board.specs.declared.causes.Cause.{Cause}
 use Rattle.mp_drive.specs.Driven.{AreAfter, AreReached, LeadsOn, turn_in}
 use Rattle.mp_drive.proofs.Told.{Says, is_exchange}
 
@@ -62,9 +62,9 @@ module _ (o : Outline) (ok : OutlineIsSound o) (t : SystemState) (reached : AreR
   }
 
 -- the turn is handed on, and so is why there is none, under another name
-abbrev pub Passes : Result Answered Stop → Result Answered DriveStop → Type 0
+abbrev pub Passes : Result Answered Stop → Result Answered Cause → Type 0
 Passes (Ok turn) r = r ≡ Ok turn
-Passes (Err stop) r = (reason : DriveStop) × (r ≡ Err reason)
+Passes (Err stop) r = (reason : Cause) × (r ≡ Err reason)
 
 -- an exchange puts no name into the log
 names_none : (o : Outline) (kind : Kind) (s : WorkerState) (x : Name) → CanMake o kind s x → kind ≡ Exchange → ⊥
@@ -223,23 +223,23 @@ module _ (o : Outline) (ok : OutlineIsSound o) (t : SystemState) (w : ℕ) (kind
 
   -- the same of what is handed on
 
-  pub leads_on_if_ok : (r : Result Answered Stop) (given : Result Answered DriveStop) → Passes r given → Told r s.number → IfOk given (λ turn. LeadsOn o ((w, kind) ∷ []) (turn_in turn ∷ []) t next)
-  leads_on_if_ok (Ok turn) given is says = subst (λ (g : Result Answered DriveStop). IfOk g (λ turn. LeadsOn o ((w, kind) ∷ []) (turn_in turn ∷ []) t next)) (sym is) (leads_on turn says)
-  leads_on_if_ok (Err stop) given is says = subst (λ (g : Result Answered DriveStop). IfOk g (λ turn. LeadsOn o ((w, kind) ∷ []) (turn_in turn ∷ []) t next)) (sym is.1) tt
+  pub leads_on_if_ok : (r : Result Answered Stop) (given : Result Answered Cause) → Passes r given → Told r s.number → IfOk given (λ turn. LeadsOn o ((w, kind) ∷ []) (turn_in turn ∷ []) t next)
+  leads_on_if_ok (Ok turn) given is says = subst (λ (g : Result Answered Cause). IfOk g (λ turn. LeadsOn o ((w, kind) ∷ []) (turn_in turn ∷ []) t next)) (sym is) (leads_on turn says)
+  leads_on_if_ok (Err stop) given is says = subst (λ (g : Result Answered Cause). IfOk g (λ turn. LeadsOn o ((w, kind) ∷ []) (turn_in turn ∷ []) t next)) (sym is.1) tt
 
-  pub leads_nowhere_on_err : (r : Result Answered Stop) (given : Result Answered DriveStop) → Passes r given → Told r s.number → OnErr given (LeadsOn o [] [] t next)
-  leads_nowhere_on_err (Ok turn) given is says = subst (λ (g : Result Answered DriveStop). OnErr g (LeadsOn o [] [] t next)) (sym is) tt
-  leads_nowhere_on_err (Err stop) given is says = subst (λ (g : Result Answered DriveStop). OnErr g (LeadsOn o [] [] t next)) (sym is.1) (leads_nowhere stop says)
+  pub leads_nowhere_on_err : (r : Result Answered Stop) (given : Result Answered Cause) → Passes r given → Told r s.number → OnErr given (LeadsOn o [] [] t next)
+  leads_nowhere_on_err (Ok turn) given is says = subst (λ (g : Result Answered Cause). OnErr g (LeadsOn o [] [] t next)) (sym is) tt
+  leads_nowhere_on_err (Err stop) given is says = subst (λ (g : Result Answered Cause). OnErr g (LeadsOn o [] [] t next)) (sym is.1) (leads_nowhere stop says)
 
-  pub not_busy_if_ok : (r : Result Answered Stop) (given : Result Answered DriveStop) → Passes r given → Told r s.number → IfOk given (λ turn. turn ≡ worker.Busy → ⊥)
-  not_busy_if_ok (Ok turn) given is says = subst (λ (g : Result Answered DriveStop). IfOk g (λ turn. turn ≡ worker.Busy → ⊥)) (sym is) (not_busy turn says)
+  pub not_busy_if_ok : (r : Result Answered Stop) (given : Result Answered Cause) → Passes r given → Told r s.number → IfOk given (λ turn. turn ≡ worker.Busy → ⊥)
+  not_busy_if_ok (Ok turn) given is says = subst (λ (g : Result Answered Cause). IfOk g (λ turn. turn ≡ worker.Busy → ⊥)) (sym is) (not_busy turn says)
     where
       not_busy : (turn : Answered) → Told (Ok turn) s.number → turn ≡ worker.Busy → ⊥
       not_busy worker.Busy says e = absurd says.busy
       not_busy (worker.Did x n) says e = cc
       not_busy (worker.Seen version) says e = cc
       not_busy worker.NotNow says e = cc
-  not_busy_if_ok (Err stop) given is says = subst (λ (g : Result Answered DriveStop). IfOk g (λ turn. turn ≡ worker.Busy → ⊥)) (sym is.1) tt
+  not_busy_if_ok (Err stop) given is says = subst (λ (g : Result Answered Cause). IfOk g (λ turn. turn ≡ worker.Busy → ⊥)) (sym is.1) tt
 
   -- a run leads to where the workers are then
   pub still_reached : (r : Result Answered Stop) → Told r s.number → AreReached o t → AreReached o next

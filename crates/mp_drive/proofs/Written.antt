@@ -34,7 +34,7 @@ use Rattle.mp_worker.specs.declared.turn.Turn.{Turn as Answered}
 use Rattle.mp_worker.specs.declared.turn.Turn.TheVariants as worker
 use Rattle.mp_worker.specs.Writing.{WritesPart}
 use Rattle.mp_worker.proofs.Told.{no_lines_else, one_time}
-use Rattle.mp_drive.specs.declared.stop.DriveStop.{DriveStop}
+use Rattle.mp_board.specs.declared.causes.Cause.{Cause}
 use Rattle.mp_drive.specs.Driven.{HasKept, HasWritten, first_log}
 use Rattle.mp_drive.proofs.Told.{IfNotMade, Says, Writes, exchange_no_write, is_write}
 use Rattle.mp_drive.proofs.Turned.{Passes, left_with}
@@ -128,9 +128,9 @@ module _ {Cell : Type 0} (q : QueryFacts Cell) (job : JobFacts) where
       written_on worker.NotNow told says = silent says.nothing (ap (λ (n : WorkerState). lines n.log) told.unchanged)
       written_on worker.Busy told says = absurd told.busy
 
-      pub written_on_ok : (r : Result Answered Stop) (given : Result Answered DriveStop) → Passes r given → Says o kind board after post left s new r s.number → Writes q job kind s written now r → OnOk given (HasWritten q job.events before next now)
-      written_on_ok (Ok turn) given is told says = subst (λ (g : Result Answered DriveStop). OnOk g (HasWritten q job.events before next now)) (sym is) (written_on turn told says)
-      written_on_ok (Err stop) given is told says = subst (λ (g : Result Answered DriveStop). OnOk g (HasWritten q job.events before next now)) (sym is.1) tt
+      pub written_on_ok : (r : Result Answered Stop) (given : Result Answered Cause) → Passes r given → Says o kind board after post left s new r s.number → Writes q job kind s written now r → OnOk given (HasWritten q job.events before next now)
+      written_on_ok (Ok turn) given is told says = subst (λ (g : Result Answered Cause). OnOk g (HasWritten q job.events before next now)) (sym is) (written_on turn told says)
+      written_on_ok (Err stop) given is told says = subst (λ (g : Result Answered Cause). OnOk g (HasWritten q job.events before next now)) (sym is.1) tt
 
     module _ (depth : ℕ) (made : List (ℕ × Kind)) (are : Refines o depth t (run_of_machine o depth made)) where
       kept_on : (stop : Stop) → new ≡ s → Writes q job kind s written now (Err stop) → HasKept q job.events kind before next now
@@ -152,6 +152,6 @@ module _ {Cell : Type 0} (q : QueryFacts Cell) (job : JobFacts) where
           (λ (n : kind ≡ Write → ⊥). inl (silent (says.others n) same))
           (is_write kind)
 
-      pub kept_on_err : (r : Result Answered Stop) (given : Result Answered DriveStop) → Passes r given → IfNotMade r (new ≡ s) → Writes q job kind s written now r → OnErr given (HasKept q job.events kind before next now)
-      kept_on_err (Ok turn) given is unchanged says = subst (λ (g : Result Answered DriveStop). OnErr g (HasKept q job.events kind before next now)) (sym is) tt
-      kept_on_err (Err stop) given is unchanged says = subst (λ (g : Result Answered DriveStop). OnErr g (HasKept q job.events kind before next now)) (sym is.1) (kept_on stop unchanged says)
+      pub kept_on_err : (r : Result Answered Stop) (given : Result Answered Cause) → Passes r given → IfNotMade r (new ≡ s) → Writes q job kind s written now r → OnErr given (HasKept q job.events kind before next now)
+      kept_on_err (Ok turn) given is unchanged says = subst (λ (g : Result Answered Cause). OnErr g (HasKept q job.events kind before next now)) (sym is) tt
+      kept_on_err (Err stop) given is unchanged says = subst (λ (g : Result Answered Cause). OnErr g (HasKept q job.events kind before next now)) (sym is.1) (kept_on stop unchanged says)

@@ -1,5 +1,5 @@
 -- What driving workers on one thread does: a run of the machine, and the lines of the answer in a sink.
-use Rattle.std.specs.Prelude.{◌≡◌, ◌⊎◌, ℕ, List, [], ◌∷◌, ◌++◌, All, Option, Some, Result, Ok, Err, take, slice_get}
+use Rattle.std.specs.Prelude.{◌≡◌, ◌⊎◌, ℕ, List, [], ◌∷◌, ◌++◌, All, Option, Some, Result, Ok, Err, slice_get}
 use Rattle.std.specs.Option.{option_map_or}
 use Rattle.mp_names.specs.declared.kinds.Kind.{Kind}
 use Rattle.mp_names.specs.declared.kinds.Kind.TheVariants.{Write}
@@ -7,17 +7,16 @@ use Rattle.mp_names.specs.Outlines.{Outline}
 use Rattle.mp_names.specs.Logs.{Log, empty_log}
 use Rattle.mp_outside.specs.Sink.{grown}
 use Rattle.mp_model.specs.declared.record.Event.{Event}
-use Rattle.mp_model.specs.Answers.{one_thread_answer}
 use Rattle.mp_model.specs.Facts.{QueryFacts}
 use Rattle.mp_machine.specs.Promises.{LogIsFull}
 use Rattle.mp_machine.specs.Runs.{Turn, Did, IsFinished, NotNow, Saw, made_count, run_of_machine, turns_of}
 use Rattle.mp_machine.specs.Worlds.{start_of_machine}
 use Rattle.mp_worker_refinement.specs.State.{WorkerState}
 use Rattle.mp_worker_refinement.specs.SystemState.{Refines, KnowsTheEnd, SystemState}
-use Rattle.mp_answer_laws.specs.Lines.{written_lines}
+use Rattle.mp_answer_laws.specs.Lines.{HasBegun, written_lines}
 use Rattle.mp_worker.specs.declared.turn.Turn.{Turn as Answered}
 use Rattle.mp_worker.specs.declared.turn.Turn.TheVariants as worker
-use Rattle.mp_drive.specs.declared.stop.DriveStop.{DriveStop}
+use Rattle.mp_board.specs.declared.causes.Cause.{Cause}
 
 -- Workers on one thread: their state, and how many steps were made on them
 pub record Driven : Type 0 where
@@ -35,7 +34,7 @@ turn_in (worker.Seen version) = Saw version
 turn_in _ = NotNow
 
 -- how many steps are made where this is answered: one or none
-abbrev pub made_by : Result Answered DriveStop → ℕ
+abbrev pub made_by : Result Answered Cause → ℕ
 made_by (Ok turn) = made_count (turn_in turn ∷ [])
 made_by (Err _) = 0
 
@@ -79,10 +78,6 @@ module _ {Cell : Type 0} (q : QueryFacts Cell) (events : List Event) where
   abbrev pub HasWritten : Option (List ℕ) → SystemState → Option (List ℕ) → Type 0
   HasWritten before t now = now ≡ grown before (written_lines q events (first_log t))
 
-  -- on top of what was there before, a beginning of the one-thread answer stands
-  abbrev pub HasBegun : Option (List ℕ) → Option (List ℕ) → Type 0
-  HasBegun before now = (k : ℕ) × (now ≡ grown before (take k (one_thread_answer q events)))
-
   -- what stands in a sink after a step of this kind was refused: the lines that worker 0 has written; only a write may have begun the next ones
   abbrev pub HasKept : Kind → Option (List ℕ) → SystemState → Option (List ℕ) → Type 0
-  HasKept kind before t now = HasWritten before t now ⊎ ((kind ≡ Write) × HasBegun before now)
+  HasKept kind before t now = HasWritten before t now ⊎ ((kind ≡ Write) × HasBegun q events before now)

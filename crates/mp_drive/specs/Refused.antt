@@ -7,10 +7,11 @@ use Rattle.mp_model.specs.Facts.{JobFacts, QueryFacts}
 use Rattle.mp_outline.specs.JobOutline.{outline_of}
 use Rattle.mp_machine.specs.Runs.{Turn, made_count, run_of_machine}
 use Rattle.mp_worker_refinement.specs.SystemState.{SystemState}
-use Rattle.mp_drive.specs.declared.stop.DriveStop.{DriveStop}
-use Rattle.mp_drive.specs.declared.stop.DriveStop.TheVariants as stop
+use Rattle.mp_board.specs.declared.causes.Cause.{Cause}
+use Rattle.mp_board.specs.declared.causes.Cause.TheVariants as cause
 use Rattle.mp_draws.specs.Draws.{draw_of}
-use Rattle.mp_drive.specs.Driven.{AreAfter, Driven, HasBegun, HasWritten, LeadsOn, Steps}
+use Rattle.mp_answer_laws.specs.Lines.{HasBegun}
+use Rattle.mp_drive.specs.Driven.{AreAfter, Driven, HasWritten, LeadsOn, Steps}
 use Rattle.mp_drive.specs.Schedule.{FollowsSchedule, IsTried}
 
 -- the first of the steps is a write
@@ -25,7 +26,7 @@ IsWriteTried o draw made old =
 
 module _ {Cell : Type 0} (q : QueryFacts Cell) (job : JobFacts) where
   -- A list of steps was driven up to a refused one, or no step was made. Those before it are kept and counted. After `Write` it is a write. What stands in the sink are the lines written by then; only a write may have begun more
-  pub record KeepsSteps (steps : Steps) (why : DriveStop) (old new : Driven) (had has : Option (List ℕ)) : Type 0 where
+  pub record KeepsSteps (steps : Steps) (why : Cause) (old new : Driven) (had has : Option (List ℕ)) : Type 0 where
     pub kept : Steps
     pub left : Steps
     pub turns : List Turn
@@ -33,18 +34,18 @@ module _ {Cell : Type 0} (q : QueryFacts Cell) (job : JobFacts) where
     pub lead : LeadsOn (outline_of q job) kept turns old.state new.state
     pub counted : new.made ≡ old.made + made_count turns
     pub refused : (kept ≡ []) ⊎ ((step : ℕ × Kind) × (rest : Steps) × (left ≡ step ∷ rest))
-    pub write : why ≡ stop.Write → IsWriteNext left
+    pub write : why ≡ cause.Write → IsWriteNext left
     pub lines : (before : Option (List ℕ)) → HasWritten q job.events before old.state had
         → HasWritten q job.events before new.state has ⊎ (IsWriteNext left × HasBegun q job.events before has)
 
   -- After these steps, in trying the places of a draw, a step was refused. After `Write` it is a write. What stands in the sink are the lines written by then; only a write may have begun more
-  pub record RefusesDraw (draw : ℕ) (why : DriveStop) (made : Steps) (old new : SystemState) (had has : Option (List ℕ)) : Type 0 where
-    pub write : why ≡ stop.Write → IsWriteTried (outline_of q job) draw made old
+  pub record RefusesDraw (draw : ℕ) (why : Cause) (made : Steps) (old new : SystemState) (had has : Option (List ℕ)) : Type 0 where
+    pub write : why ≡ cause.Write → IsWriteTried (outline_of q job) draw made old
     pub lines : (before : Option (List ℕ)) → HasWritten q job.events before old had
         → HasWritten q job.events before new has ⊎ (IsWriteTried (outline_of q job) draw made old × HasBegun q job.events before has)
 
   -- A seed's schedule was followed up to a draw of which a step was refused. The steps before it are kept and counted
-  pub record KeepsSchedule (seed : ℕ) (why : DriveStop) (old new : Driven) (had has : Option (List ℕ)) : Type 0 where
+  pub record KeepsSchedule (seed : ℕ) (why : Cause) (old new : Driven) (had has : Option (List ℕ)) : Type 0 where
     pub n : ℕ
     pub follows : FollowsSchedule (outline_of q job) seed n old.state new.state
     pub counted : new.made ≡ old.made + n

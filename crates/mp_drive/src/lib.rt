@@ -10,10 +10,8 @@ mod places;
 mod plain;
 mod run;
 mod seed;
-mod stop;
 mod tallies;
 
 pub use mp_draws::Draws;
 pub use plain::Plain;
 pub use run::{Replayed, replay, replay_with_tallies};
-pub use stop::DriveStop;

@@ -5,12 +5,14 @@ ghost use Rattle.mp_outside.specs.Sink.{OnlyAppends};
 ghost use Rattle.mp_outline.specs.JobOutline.{outline_of};
 ghost use Rattle.mp_machine.specs.Runs.{made_count};
 ghost use Rattle.mp_worker.specs.declared.turn.Turn.TheVariants.{Busy};
-ghost use Rattle.mp_drive.specs.declared.stop.DriveStop.TheVariants.{Write};
-ghost use Rattle.mp_drive.specs.Driven.{HasBegun, HasWritten, LeadsOn, turn_in};
+ghost use Rattle.mp_board.specs.declared.causes.Cause.TheVariants.{Write};
+ghost use Rattle.mp_answer_laws.specs.Lines.{HasBegun};
+ghost use Rattle.mp_drive.specs.Driven.{HasWritten, LeadsOn, turn_in};
 ghost use Rattle.mp_drive.specs.Refused.{KeepsSteps};
 ghost use Rattle.mp_model.specs.Tables.{table_of};
 
-use crate::{DriveStop, Plain};
+use crate::Plain;
+use mp_board::Cause;
 use mp_model::{Naming, Query};
 use mp_names::Kind;
 use mp_outside::Sink;
@@ -27,7 +29,7 @@ impl<'a, Q: Query, J: Naming> Plain<'a, Q, J> {
         alloc: Global,
         steps: &[(u32, Kind)],
         sink: &mut S,
-    ) -> Result<Vec<Turn>, DriveStop>
+    ) -> Result<Vec<Turn>, Cause>
         ensures turns { let o = outline_of (table_of Q.facts J.job) J.job in
             IfOk result (λ turns. LeadsOn o steps.now (map turn_in turns.items) self.old.state self.new.state) }
         ensures counted { IfOk result (λ turns.
@@ -49,7 +51,7 @@ impl<'a, Q: Query, J: Naming> Plain<'a, Q, J> {
         // From here on the invariant is known: what is written so far is a beginning of the answer.
         let _ = &self.job;
         let Ok(mut turns) = Vec::with_capacity(alloc, steps.len()) else {
-            return Err(DriveStop::Memory);
+            return Err(Cause::Memory);
         };
         for (worker, kind) in steps {
             let turn = self.step(*worker, *kind, sink)?;

@@ -17,11 +17,10 @@ ghost use Rattle.mp_worker_refinement.specs.State.{WorkerState};
 ghost use Rattle.mp_worker_refinement.specs.SystemState.{Refines};
 ghost use Rattle.mp_answer_laws.specs.Lines.{written_lines};
 ghost use Rattle.mp_worker.specs.declared.turn.Turn.TheVariants.{Busy};
-ghost use Rattle.mp_drive.specs.declared.stop.DriveStop.TheVariants as stop;
+ghost use Rattle.mp_board.specs.declared.causes.Cause.TheVariants as cause;
 ghost use Rattle.mp_drive.specs.Driven.{AllKnowTheEnd, HasKept, HasWritten, LeadsOn, first_log, made_by, turn_in};
 
-use crate::DriveStop;
-use mp_board::{Board, OutlineOf};
+use mp_board::{Board, Cause, OutlineOf};
 use mp_job::Job;
 use mp_mailbox::PlainPost;
 use mp_model::{Naming, Query};
@@ -108,12 +107,7 @@ impl<'a, Q: Query, J: Naming> Plain<'a, Q, J> {
     /// comes only of a write, where the sink's count of faults rose in this call or stands at its last
     /// value, 2^64 - 1; any other answer leaves that count as it was. With either no step is made; where it
     /// is a write, a part of the lines of the next time, from their front, may be written.
-    pub fn step<S: Sink>(
-        &mut self,
-        worker: u32,
-        kind: Kind,
-        sink: &mut S,
-    ) -> Result<Turn, DriveStop>
+    pub fn step<S: Sink>(&mut self, worker: u32, kind: Kind, sink: &mut S) -> Result<Turn, Cause>
         ensures turn { let o = outline_of (table_of Q.facts J.job) J.job in
             IfOk result (λ turn. LeadsOn o ((worker, kind) ∷ []) (turn_in turn ∷ []) self.old.state self.new.state) }
         ensures counted { self.new.made ≡ self.old.made + made_by result }
@@ -127,22 +121,22 @@ impl<'a, Q: Query, J: Naming> Plain<'a, Q, J> {
         ensures part { let q = table_of Q.facts J.job in
             (before : Option (List ℕ)) → HasWritten q J.job.events before self.old.state (S.written sink.old)
             → OnErr result (HasKept q J.job.events kind before self.new.state (S.written sink.new)) }
-        ensures failed { result ≡ Err stop.Write
+        ensures failed { result ≡ Err cause.Write
             → (kind ≡ Write) × Rose (S.faults sink.old) (S.faults sink.new) }
-        ensures no_fault { result ≢ Err stop.Write → S.faults sink.new ≡ S.faults sink.old }
+        ensures no_fault { result ≢ Err cause.Write → S.faults sink.new ≡ S.faults sink.old }
         ensures appends_only { OnlyAppends S.frame S.faults sink.old sink.new }
     {
         if worker as usize >= self.workers.len() {
             return Ok(Turn::NotNow);
         }
         if self.made == u64::MAX {
-            return Err(DriveStop::Memory);
+            return Err(Cause::Memory);
         }
         let worker = &mut self.workers[worker as usize];
         let answered = match worker.step(kind, &mut self.post, &mut self.board, sink) {
             Ok(turn) => Ok(turn),
-            Err(Stop::Write) => Err(DriveStop::Write),
-            Err(Stop::Memory) => Err(DriveStop::Memory),
+            Err(Stop::Write) => Err(Cause::Write),
+            Err(Stop::Memory) => Err(Cause::Memory),
             Err(Stop::Other(_)) => unreachable!(),
         };
         self.made += made_in(&answered);
@@ -165,7 +159,7 @@ impl<'a, Q: Query, J: Naming> Plain<'a, Q, J> {
 }
 
 // How many steps are made where this is answered: one or none.
-fn made_in(answered: &Result<Turn, DriveStop>) -> u64
+fn made_in(answered: &Result<Turn, Cause>) -> u64
     ensures { result ≡ made_by answered.now }
 {
     match answered {

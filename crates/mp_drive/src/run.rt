@@ -1,18 +1,15 @@
 //! A whole run on one thread.
-ghost use Rattle.std.specs.Prelude.{◌≡◌, ◌≢◌, ◌<◌, ◌≤◌, ◌^◌, ℕ, [], Err, IfOk, OnErr, OnOk, Some, length, slice_get};
-ghost use Rattle.mp_outside.specs.Fault.{Rose};
-ghost use Rattle.mp_outside.specs.Sink.{OnlyAppends, grown};
-ghost use Rattle.mp_model.specs.Answers.{one_thread_answer};
+ghost use Rattle.std.specs.Prelude.{◌≡◌, ◌<◌, ℕ, IfOk, Some, length, slice_get};
 ghost use Rattle.mp_model.specs.Tables.{table_of};
 ghost use Rattle.mp_outline.specs.JobOutline.{outline_of};
 ghost use Rattle.mp_output.specs.Rows.{GivesRows};
-ghost use Rattle.mp_drive.specs.declared.stop.DriveStop.TheVariants.{Write};
-ghost use Rattle.mp_drive.specs.Driven.{HasBegun};
+ghost use Rattle.mp_answer_laws.specs.Runs.{RunLeaves};
 ghost use Rattle.mp_drive.specs.Schedule.{EndsAfter};
 ghost use Rattle.mp_tally.specs.Tallies.{IsTallyOf};
 ghost use Rattle.mp_tally.specs.declared.tally.Tally.{Tally as Told};
 
-use crate::{DriveStop, Plain};
+use crate::Plain;
+use mp_board::Cause;
 use mp_gate::Gate;
 use mp_job::Job;
 use mp_model::{Naming, Query};
@@ -32,18 +29,13 @@ pub fn replay<Q: Query, J: Naming, S: Sink, G: Gate>(
     seed: u64,
     gate: &G,
     sink: &mut S,
-) -> Result<u64, DriveStop>
+) -> Result<u64, Cause>
     requires job { job.now ≡ J.job }
     requires rows { GivesRows (table_of Q.facts J.job) }
     requires depth { 0 < depth }
     ensures made { IfOk result (λ n. EndsAfter (outline_of (table_of Q.facts J.job) J.job) depth seed n) }
-    ensures answer { let q = table_of Q.facts J.job in
-        OnOk result (S.written sink.new ≡ grown (S.written sink.old) (one_thread_answer q J.job.events)) }
-    ensures part { let q = table_of Q.facts J.job in
-        OnErr result (HasBegun q J.job.events (S.written sink.old) (S.written sink.new)) }
-    ensures failed { result ≡ Err Write → Rose (S.faults sink.old) (S.faults sink.new) }
-    ensures no_fault { result ≢ Err Write → S.faults sink.new ≡ S.faults sink.old }
-    ensures appends_only { OnlyAppends S.frame S.faults sink.old sink.new }
+    ensures leaves { let q = table_of Q.facts J.job in
+        RunLeaves q J.job S.written S.faults S.frame result sink.old sink.new }
 {
     let mut plain = Plain::<Q, J>::open(alloc, job, depth)?;
     plain.drive_seed(seed, gate, sink)
@@ -67,7 +59,7 @@ pub fn replay_with_tallies<Q: Query, J: Naming, S: Sink, G: Gate>(
     seed: u64,
     gate: &G,
     sink: &mut S,
-) -> Result<Replayed, DriveStop>
+) -> Result<Replayed, Cause>
     requires job { job.now ≡ J.job }
     requires rows { GivesRows (table_of Q.facts J.job) }
     requires depth { 0 < depth }
@@ -76,13 +68,8 @@ pub fn replay_with_tallies<Q: Query, J: Naming, S: Sink, G: Gate>(
     ensures all { IfOk result (λ run. length run.tallies.items ≡ J.job.shape.workers) }
     ensures tallies { IfOk result (λ run. (w : ℕ) (t : Told) → slice_get run.tallies.items w ≡ Some t
         → IsTallyOf (table_of Q.facts J.job) J.job w t) }
-    ensures answer { let q = table_of Q.facts J.job in
-        OnOk result (S.written sink.new ≡ grown (S.written sink.old) (one_thread_answer q J.job.events)) }
-    ensures part { let q = table_of Q.facts J.job in
-        OnErr result (HasBegun q J.job.events (S.written sink.old) (S.written sink.new)) }
-    ensures failed { result ≡ Err Write → Rose (S.faults sink.old) (S.faults sink.new) }
-    ensures no_fault { result ≢ Err Write → S.faults sink.new ≡ S.faults sink.old }
-    ensures appends_only { OnlyAppends S.frame S.faults sink.old sink.new }
+    ensures leaves { let q = table_of Q.facts J.job in
+        RunLeaves q J.job S.written S.faults S.frame result sink.old sink.new }
 {
     let mut plain = Plain::<Q, J>::open(alloc, job, depth)?;
     let steps = plain.drive_seed(seed, gate, sink)?;

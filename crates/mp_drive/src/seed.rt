@@ -5,13 +5,15 @@ ghost use Rattle.mp_outside.specs.Sink.{OnlyAppends, grown};
 ghost use Rattle.mp_model.specs.Answers.{one_thread_answer};
 ghost use Rattle.mp_model.specs.Tables.{table_of};
 ghost use Rattle.mp_outline.specs.JobOutline.{outline_of};
-ghost use Rattle.mp_drive.specs.declared.stop.DriveStop.TheVariants.{Write};
-ghost use Rattle.mp_drive.specs.Driven.{AllAreFull, AllKnowTheEnd, HasBegun, HasWritten, LeadsOn};
+ghost use Rattle.mp_board.specs.declared.causes.Cause.TheVariants.{Write};
+ghost use Rattle.mp_answer_laws.specs.Lines.{HasBegun};
+ghost use Rattle.mp_drive.specs.Driven.{AllAreFull, AllKnowTheEnd, HasWritten, LeadsOn};
 ghost use Rattle.mp_drive.specs.Refused.{KeepsSchedule, RefusesDraw};
 ghost use Rattle.mp_drive.specs.Schedule.{FollowsSchedule, MakesPick};
 
 use crate::places::{count_of_places, place_at};
-use crate::{Draws, DriveStop, Plain};
+use crate::{Draws, Plain};
+use mp_board::Cause;
 use mp_gate::Gate;
 use mp_model::{Naming, Query};
 use mp_outside::Sink;
@@ -30,7 +32,7 @@ impl<'a, Q: Query, J: Naming> Plain<'a, Q, J> {
         seed: u64,
         gate: &G,
         sink: &mut S,
-    ) -> Result<u64, DriveStop>
+    ) -> Result<u64, Cause>
         requires depth { 0 < self.old.state.post.depth }
         ensures made { let o = outline_of (table_of Q.facts J.job) J.job in
             IfOk result (λ n. FollowsSchedule o seed n self.old.state self.new.state) }
@@ -56,7 +58,7 @@ impl<'a, Q: Query, J: Naming> Plain<'a, Q, J> {
         let mut made: u64 = 0;
         while !self.is_finished() {
             let Some(counted) = made.checked_add(1) else {
-                return Err(DriveStop::Memory);
+                return Err(Cause::Memory);
             };
             self.step_from(draws.draw(), gate, sink)?;
             made = counted;
@@ -71,7 +73,7 @@ impl<'a, Q: Query, J: Naming> Plain<'a, Q, J> {
         draw: u64,
         gate: &G,
         sink: &mut S,
-    ) -> Result<(), DriveStop>
+    ) -> Result<(), Cause>
         requires depth { 0 < self.old.state.post.depth }
         requires unfinished { AllKnowTheEnd (outline_of (table_of Q.facts J.job) J.job) self.old.state → ⊥ }
         ensures made { let o = outline_of (table_of Q.facts J.job) J.job in

@@ -2,7 +2,6 @@
 use Rattle.std.proofs.Common.{◌≡◌, ℕ, ◌+◌, ◌-◌, ◌^◌, ◌<◌, ◌≤◌, min, Bool, true, false, cond, not, nat_lt, ◌==◌, List, [], ◌∷◌, filter, fold, length, arith}
 use Rattle.mp_names.specs.Outlines.{is_before_stop}
 use Rattle.mp_model.specs.Ascending.{placed}
-use Rattle.mp_model.specs.Entry.{Entry}
 use Rattle.mp_model.specs.Facts.{JobFacts, QueryFacts}
 use Rattle.mp_model.specs.Folds.{cell_before}
 use Rattle.mp_model.specs.QueryLaws.{MostIsEnough}

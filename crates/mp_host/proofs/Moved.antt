@@ -2,6 +2,7 @@
 use Rattle.std.proofs.Common.{◌≡◌, ◌++◌, ◌||◌, ℕ, suc, ◌+◌, ◌<◌, Bool, true, false, not, Option, None, Some, List, [], ◌∷◌, All, drop, filter, get_or, length, position, take, sym, ap, ◌∙◌, subst, refl, add-one}
 use Rattle.std.specs.List.{list_any}
 use Rattle.std.proofs.lemmas.List.Elements.{All-append, All-drop, All-get_or, All-push, All-take, filter_agree}
+use Rattle.std.proofs.lemmas.List.Sorted.{All-permutation, list_any-IsPermutation}
 use Rattle.mp_names.specs.declared.names.Name.{Name}
 use Rattle.mp_names.specs.declared.names.Name.TheVariants.{Rec as RecName}
 use Rattle.mp_names.specs.Outlines.{OutlineIsSound, is_posted}
@@ -15,7 +16,8 @@ use Rattle.mp_msg.specs.Contents.{IsPacketOf}
 use Rattle.mp_msg.specs.States.{BinContent}
 use Rattle.mp_host_laws.specs.declared.held.Held.{Held}
 use Rattle.mp_host_laws.specs.Hosted.{Hosted, has_wake_in, is_held_before, state_before, waits_at, wakes_in}
-use Rattle.mp_host_laws.specs.Moving.{AreNumbersOf, IsTakenOut, brought, not_waiting}
+use Rattle.mp_host_laws.specs.Moving.{AreNumbersOf, IsTakenOut, brought, last_first, not_waiting}
+use Rattle.mp_host_laws.proofs.LastFirst.{same_items}
 use Rattle.mp_host.specs.Hosts.{IsHosted, MayBeHeld}
 use Rattle.mp_host.specs.Waiting.{waits_beside}
 use Rattle.mp_host.proofs.Kept.{states_fit}
@@ -32,7 +34,7 @@ any_append p (x ∷ xs) ys = rw (any_append p xs ys) (or_assoc (p x) (list_any p
 module _ {Cell : Type 0} (b t : ℕ) (old new : Hosted Cell) (i : ℕ) (place : position (is_held_before b t) old.held ≡ Some i) where
   -- where the state at the first place is out it is taken out
   pub taken_out : (one : Held Cell) → new.stage ≡ old.stage → new.worker ≡ old.worker → new.records ≡ old.records
-      → one ≡ get_or old.held i one → new.held ≡ take i old.held ++ drop (i + 1) old.held → IsTakenOut b t one old new
+      → one ≡ get_or old.held i one → new.held ≡ take i old.held ++ last_first (drop (i + 1) old.held) → IsTakenOut b t one old new
   taken_out one stage worker records is held =
       let at = place_is (is_held_before b t) old.held i place one in
       record {
@@ -58,14 +60,16 @@ module _ {Cell : Type 0} (b t : ℕ) (old new : Hosted Cell) (i : ℕ) (place : 
       same : (u k : ℕ) → waits_beside old i (i + 1) u k ≡ waits_at new u k
       same u k =
           let parts = parts_are (is_held_before b t) old.held i place taken.front one taken.rest taken.was taken.none_before taken.found in
-          rw (taken.records, taken.is, any_append (has_wake_in u k) taken.front taken.rest, add-one, parts.0, parts.1) refl
+          let others = sym (list_any-IsPermutation (has_wake_in u k) taken.rest (last_first taken.rest) (same_items taken.rest)) in
+          rw (taken.records, taken.is, any_append (has_wake_in u k) taken.front (last_first taken.rest), others, add-one, parts.0, parts.1) refl
 
 module _ {Cell : Type 0} (q : QueryFacts Cell) (job its : JobFacts) (h : Hosted Cell) (hosted : IsHosted q job its h) where
   -- the states that are left, and one at a place
-  pub left_fit : (i : ℕ) → All (MayBeHeld q job h.stage) (take i h.held ++ drop (i + 1) h.held)
+  pub left_fit : (i : ℕ) → All (MayBeHeld q job h.stage) (take i h.held ++ last_first (drop (i + 1) h.held))
   left_fit i =
       let fit = states_fit q job its h hosted in
-      All-append (MayBeHeld q job h.stage) (take i h.held) (drop (i + 1) h.held) (All-take (MayBeHeld q job h.stage) i h.held fit) (All-drop (MayBeHeld q job h.stage) (i + 1) h.held fit)
+      let behind = All-permutation (MayBeHeld q job h.stage) (drop (i + 1) h.held) (last_first (drop (i + 1) h.held)) (same_items (drop (i + 1) h.held)) (All-drop (MayBeHeld q job h.stage) (i + 1) h.held fit) in
+      All-append (MayBeHeld q job h.stage) (take i h.held) (last_first (drop (i + 1) h.held)) (All-take (MayBeHeld q job h.stage) i h.held fit) behind
 
   pub out_fits : (i : ℕ) (one : Held Cell) → i < length h.held → one ≡ get_or h.held i one → MayBeHeld q job h.stage one
   out_fits i one l is = subst (MayBeHeld q job h.stage) (sym is) (All-get_or (MayBeHeld q job h.stage) h.held i one l (states_fit q job its h hosted))

@@ -14,7 +14,8 @@ use Rattle.mp_ordered.specs.InOrder.{IsInOrder}
 use Rattle.mp_postdated.specs.Wakes.{ComesNoLater, IsAscending, wake_cmp}
 use Rattle.mp_job.proofs.Members.{Contains-cases, Contains-here, Contains-later}
 use Rattle.mp_host_laws.specs.declared.held.Held.{Held}
-use Rattle.mp_host_laws.specs.Hosted.{Hosted, StandsInOrder, StateStands, earlier_of, first_group, first_record, first_wake_of, group_rank, has_wake_at, has_wake_in, is_of, is_wake, waits_at, wakes_in}
+use Rattle.mp_host_laws.specs.Hosted.{Hosted, StandsInOrder, StateStands, first_group, first_record, first_wake_of, group_rank, has_wake_at, has_wake_in, is_of, is_wake, waits_at, wakes_in}
+use Rattle.mp_tournament.specs.Firsts.{earlier_of}
 use Rattle.mp_host_laws.proofs.Lists.{Pairs-AllPairs, passing}
 use Rattle.mp_host_laws.proofs.Waiting.{from_is_of, is_of_from, wake_in}
 

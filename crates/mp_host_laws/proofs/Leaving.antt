@@ -1,5 +1,5 @@
 -- A bin that has to leave a host is there, it is what the bin has just before its move, and the host without it holds what its worker's log says with the packet sent.
-use Rattle.std.proofs.Common.{◌≡◌, ◌↔◌, ℕ, suc, ◌<◌, ◌≤◌, ◌==◌, nat_lt, true, false, Option, None, Some, IsSome, List, [], ◌∷◌, ◌++◌, All, AllPairs, Any, Contains, refl, sym, ap, ◌∙◌, subst, inl, inr, ⊎_elim, arith}
+use Rattle.std.proofs.Common.{◌≡◌, ◌↔◌, ℕ, suc, ◌<◌, ◌≤◌, ◌==◌, nat_lt, true, false, Option, None, Some, IsSome, List, [], ◌∷◌, ◌++◌, All, Any, Contains, refl, sym, ap, ◌∙◌, subst, inl, inr, ⊎_elim, arith}
 use Rattle.std.proofs.lemmas.Bool.{and_from, and_parts, both_ways, cases_lt, eq-eqb, false_from_ne_true, le-ltb, lt-ltb, ltb-true, or_from, or_left, or_right}
 use Rattle.std.proofs.lemmas.List.Elements.{All-contains}
 use Rattle.mp_names.specs.declared.names.Name.TheVariants.{Rec as RecName, Group, Packet}
@@ -26,11 +26,12 @@ use Rattle.mp_postdated.specs.Wakes.{Has}
 use Rattle.mp_msg.specs.States.{IsOfBin, IsPostedAt, IsStateBefore, cell_in}
 use Rattle.mp_host_laws.specs.declared.held.Held.{Held}
 use Rattle.mp_host_laws.specs.Hosted.{Hosted, StateStands, began_before, is_held_before, state_before, wakes_in}
-use Rattle.mp_host_laws.specs.Moving.{IsTakenOut}
+use Rattle.mp_host_laws.specs.Moving.{IsTakenOut, last_first}
 use Rattle.mp_host_laws.specs.HostOf.{CameInto, IsHostOf, IsInHandSince, IsStateOf, MovesInOrder, is_taken_in}
 use Rattle.mp_host_laws.specs.Laws.{BinsLeave, LeavingBinsAreHere, MayLeaveNow}
 use Rattle.mp_host_laws.proofs.Changed.{Contains-one}
-use Rattle.mp_host_laws.proofs.Lists.{All-each, Pairs-AllPairs, take_below}
+use Rattle.mp_host_laws.proofs.LastFirst.{still_apart, still_in, was_in}
+use Rattle.mp_host_laws.proofs.Lists.{All-each, take_below}
 use Rattle.mp_host_laws.proofs.Logs.{has_push, push_has}
 use Rattle.mp_host_laws.proofs.Parts.{Pairs-one, Pairs-others, one_or_other, other_is_in}
 use Rattle.mp_host_laws.proofs.Stays.{StaysSince, owned_in, state_leaving}
@@ -163,13 +164,13 @@ module _ {Cell : Type 0} (q : QueryFacts Cell) (job : JobFacts) (sound : Outline
     gone = with_sent log (Packet h.stage b t)
 
     abbrev others : List (Held Cell)
-    others = taken.front ++ taken.rest
+    others = taken.front ++ last_first taken.rest
 
     pub one_was_here : Contains h.held one
     one_was_here = subst (λ (hs : List (Held Cell)). Contains hs one) (sym taken.was) (Contains-one taken.front one one taken.rest)
 
     pub other_was_here : (s : Held Cell) → Contains others s → Contains h.held s
-    other_was_here s i = subst (λ (hs : List (Held Cell)). Contains hs s) (sym taken.was) (other_is_in one taken.front taken.rest s i)
+    other_was_here s i = was_in taken.front one taken.rest h.held taken.was s (other_is_in one taken.front (last_first taken.rest) s i)
 
     -- it is the state of the stay
     one_stays : (one.bin ≡ b) × StaysSince (outline_of q job) log h.stage b t one.since
@@ -178,8 +179,8 @@ module _ {Cell : Type 0} (q : QueryFacts Cell) (job : JobFacts) (sound : Outline
         let e = r.2.only one one_was_here taken.found in
         (e.0, subst (StaysSince (outline_of q job) log h.stage b t) (sym e.1) r.2.stays)
 
-    were_apart : Pairs AreApart (taken.front ++ one ∷ taken.rest)
-    were_apart = Pairs-AllPairs AreApart (taken.front ++ one ∷ taken.rest) (subst (λ (hs : List (Held Cell)). AllPairs AreApart hs) taken.was host.held_once)
+    were_apart : Pairs AreApart (taken.front ++ one ∷ last_first taken.rest)
+    were_apart = still_apart taken.front one taken.rest h.held taken.was AreApart apart_turn host.held_once
 
     -- no other one of the bin began before the move
     no_other : (s : Held Cell) → Contains others s → is_held_before b t s ≡ true → ⊥
@@ -187,7 +188,7 @@ module _ {Cell : Type 0} (q : QueryFacts Cell) (job : JobFacts) (sound : Outline
         let r = state_leaving q job log h host good b t sound may in
         let a = r.2.only one one_was_here taken.found in
         let c = r.2.only s (other_was_here s i) e in
-        Pairs-one AreApart apart_turn one taken.front taken.rest were_apart s i (a.0 ∙ sym c.0, a.1 ∙ sym c.1)
+        Pairs-one AreApart apart_turn one taken.front (last_first taken.rest) were_apart s i (a.0 ∙ sym c.0, a.1 ∙ sym c.1)
 
     still_in_hand : (c : ℕ) (a : Option ℕ) → (c ≡ b → began_before t a ≡ true → ⊥) → IsInHandSince q job h.worker log h.stage c a → IsInHandSince q job h.worker gone h.stage c a
     still_in_hand c None apart i = (i.0, i.1, (λ m. has_push log.sent (Packet h.stage c m) (Packet h.stage b t) (λ e. let d : c ≡ b = cc in apart d refl) ∙ i.2 m))
@@ -231,7 +232,7 @@ module _ {Cell : Type 0} (q : QueryFacts Cell) (job : JobFacts) (sound : Outline
           let since : one.since ≡ a = ap (λ (s : Held Cell). s.since) e ∙ r.2.1 in
           absurd (has_left a (subst (λ (x : Option ℕ). began_before t x ≡ true) since began) (subst (λ (n : ℕ). IsInHandSince q job h.worker gone h.stage n a) bin i)))
           (λ (k : Contains others r.0). found_there (IsSince c a) others r.0 k r.2)
-          (one_or_other one taken.front taken.rest r.0 (subst (λ (hs : List (Held Cell)). Contains hs r.0) taken.was r.1))),
+          (one_or_other one taken.front (last_first taken.rest) r.0 (still_in taken.front one taken.rest h.held taken.was r.0 r.1))),
     )
 
     moves_now : MovesInOrder (outline_of q job) h.worker gone h.stage
@@ -261,7 +262,7 @@ module _ {Cell : Type 0} (q : QueryFacts Cell) (job : JobFacts) (sound : Outline
           records = host.records;
           once = host.once;
           held = held_now;
-          held_once = AllPairs-Pairs AreApart others (Pairs-others AreApart one taken.front taken.rest were_apart);
+          held_once = AllPairs-Pairs AreApart others (Pairs-others AreApart one taken.front (last_first taken.rest) were_apart);
           states = states_now;
         })
 

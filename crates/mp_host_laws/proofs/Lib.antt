@@ -3,6 +3,7 @@ pub mod Groups
 pub mod Stays
 pub mod Changed
 pub mod Parts
+pub mod LastFirst
 pub mod Logs
 pub mod Waiting
 pub mod Holding

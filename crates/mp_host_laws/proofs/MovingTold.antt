@@ -16,11 +16,12 @@ use Rattle.mp_outline.proofs.Whole.{NothingOpens}
 use Rattle.mp_msg.specs.States.{BinContent, IsStateBefore}
 use Rattle.mp_host_laws.specs.declared.held.Held.{Held}
 use Rattle.mp_host_laws.specs.Hosted.{Hosted, StandsInOrder, StateStands, has_wake_at, has_wake_in, is_of, waits_at, wakes_in}
-use Rattle.mp_host_laws.specs.Moving.{IsPutIn, IsTakenOut, brought, not_waiting}
+use Rattle.mp_host_laws.specs.Moving.{IsPutIn, IsTakenOut, brought, last_first, not_waiting}
 use Rattle.mp_host_laws.specs.HostOf.{IsHostOf}
 use Rattle.mp_host_laws.specs.Laws.{ComingAreTold, LeavingAreTold}
 use Rattle.mp_host_laws.proofs.Coming.{packet_held}
 use Rattle.mp_host_laws.proofs.Leaving.{bin_left, one_was_here, other_was_here}
+use Rattle.mp_host_laws.proofs.LastFirst.{still_in}
 use Rattle.mp_host_laws.proofs.Lists.{All-each, passes, passing}
 use Rattle.mp_host_laws.proofs.Parts.{one_or_other}
 use Rattle.mp_host_laws.proofs.Waiting.{in_wake, waits_is_pending, wake_in}
@@ -80,13 +81,13 @@ module _ {Cell : Type 0} (q : QueryFacts Cell) (job : JobFacts) (sound : Outline
 
   -- a host that stands in order does so with some of its states
 
-  stands_without : (b t : ℕ) (one : Held Cell) (old new : Hosted Cell) (taken : IsTakenOut b t one old new) → ((s : Held Cell) → Contains (taken.front ++ taken.rest) s → Contains old.held s) → StandsInOrder q job old → StandsInOrder q job new
+  stands_without : (b t : ℕ) (one : Held Cell) (old new : Hosted Cell) (taken : IsTakenOut b t one old new) → ((s : Held Cell) → Contains (taken.front ++ last_first taken.rest) s → Contains old.held s) → StandsInOrder q job old → StandsInOrder q job new
   stands_without b t one old new taken there standing =
-      by_parts (StandsInOrder q job) new old.stage old.worker old.records (taken.front ++ taken.rest) taken.stage taken.worker taken.records taken.is
+      by_parts (StandsInOrder q job) new old.stage old.worker old.records (taken.front ++ last_first taken.rest) taken.stage taken.worker taken.records taken.is
       (record {
         content = standing.content;
         records = standing.records;
-        states = All-each (StateStands q job old.stage) (taken.front ++ taken.rest) (λ s i. All-contains (StateStands q job old.stage) old.held s standing.states (there s i));
+        states = All-each (StateStands q job old.stage) (taken.front ++ last_first taken.rest) (λ s i. All-contains (StateStands q job old.stage) old.held s standing.states (there s i));
       })
 
   -- and with one that a packet brings
@@ -111,8 +112,8 @@ module _ {Cell : Type 0} (q : QueryFacts Cell) (job : JobFacts) (sound : Outline
       (λ s i.
       ⊎_elim
       (λ (e : one ≡ s). inl e)
-      (λ (r : Contains (taken.front ++ taken.rest) s). inr (subst (λ (hs : List (Held Cell)). Contains hs s) (sym taken.is) r))
-      (one_or_other one taken.front taken.rest s (subst (λ (hs : List (Held Cell)). Contains hs s) taken.was i)))
+      (λ (r : Contains (taken.front ++ last_first taken.rest) s). inr (subst (λ (hs : List (Held Cell)). Contains hs s) (sym taken.is) r))
+      (one_or_other one taken.front (last_first taken.rest) s (still_in taken.front one taken.rest old.held taken.was s i)))
       u k)
 
   pub coming_are_told : ComingAreTold q job

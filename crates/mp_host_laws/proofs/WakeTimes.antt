@@ -1,9 +1,9 @@
--- The times of the wakes of a packet: they are the job's, so there are no more of them.
-use Rattle.std.proofs.Common.{◌≡◌, ◌≢◌, ℕ, zero, suc, ◌<◌, ◌≤◌, ◌==◌, ◌+◌, ◌++◌, Bool, true, cond, not, List, [], ◌∷◌, All, Contains, count_by, filter, length, map, refl, sym, ap, ◌∙◌, subst, arith}
-use Rattle.std.specs.List.{sum_by}
+-- The times of the wakes of a packet: records posted them, so there are no more of them.
+use Rattle.std.proofs.Common.{◌≡◌, ◌≢◌, ℕ, zero, suc, ◌<◌, ◌≤◌, ◌==◌, ◌+◌, Bool, true, cond, not, List, [], ◌∷◌, All, Contains, count_by, filter, length, map, refl, sym, ap, ◌∙◌, subst, arith}
+use Rattle.std.specs.List.{flat_map, sum_by}
 use Rattle.std.proofs.lemmas.Bool.{eq-eqb, eqb-true}
 use Rattle.std.proofs.lemmas.List.{length-map}
-use Rattle.std.proofs.lemmas.List.Elements.{All-contains, Contains-append_left}
+use Rattle.std.proofs.lemmas.List.Elements.{All-contains, All-tail, All-weaker}
 use Rattle.std.proofs.lemmas.List.Sums.{get_or-le-sum_by, length-filter}
 use Rattle.mp_names.specs.declared.names.Name.{Name}
 use Rattle.mp_names.specs.declared.names.Name.TheVariants.{Rec as RecName, Written}
@@ -13,13 +13,14 @@ use Rattle.mp_names.proofs.Counting.{length_within}
 use Rattle.mp_model.specs.declared.record.Rec.{Rec}
 use Rattle.mp_model.specs.Ascending.{ascending}
 use Rattle.mp_model.specs.Facts.{JobFacts, QueryFacts}
-use Rattle.mp_model.specs.Folds.{times_in}
-use Rattle.mp_model.specs.QueryLaws.{LaterStagesPostNothing, WakesAreInTime}
+use Rattle.mp_model.specs.QueryLaws.{LaterStagesPostNothing, PostsAreLater, WakesAreInTime}
 use Rattle.mp_model.specs.Stages.{input_records, stage_records}
+use Rattle.mp_model.proofs.LastTimes.{IsInTime, stage_in_time}
+use Rattle.mp_model.proofs.Lists.{All-ascending, All-flat_map}
 use Rattle.mp_model.proofs.SavedWakes.{saved_in_time}
 use Rattle.mp_names.specs.Limits.{last_time}
 use Rattle.mp_job.specs.Legal.{JobIsLegal}
-use Rattle.mp_job.specs.Times.{control_times, times_of}
+use Rattle.mp_job.specs.Times.{post_times_of}
 use Rattle.mp_job.proofs.Ascents.{Contains-ascending, Rises, Rises-ascending, ascending-Contains}
 use Rattle.mp_job.proofs.Members.{Contains-filter, Contains-here, Contains-later, Contains-map, flat_map-Contains, nothing_in_nil}
 use Rattle.mp_outline.specs.JobOutline.{outline_of}
@@ -87,24 +88,43 @@ number_has_group groups ns are u i =
 pub wakes_in_time : {Cell : Type 0} (q : QueryFacts Cell) (job : JobFacts) → JobIsLegal q job → (j : ℕ) → WakesAreInTime q j
 wakes_in_time q job legal j = subst (All (λ (w : ℕ × ℕ). w.0 ≤ last_time)) (sym (legal.table.waking j)) (saved_in_time q job.from legal.saved j)
 
+-- The times that records post
+
+-- numbers that rise between bounds are no more than those between them
+rising_within : (low high : ℕ) (xs : List ℕ) → Rises xs → ((x : ℕ) → Contains xs x → (low ≤ x) × (x ≤ high)) → low ≤ high + 1 → low + length xs ≤ high + 1
+rising_within low high [] rises inside fit = omega (arith, fit)
+rising_within low high (x ∷ xs) rises inside fit =
+    let here = inside x (Contains-here x xs) in
+    let more = rising_within (x + 1) high xs rises.1 (λ y i. (omega (arith, rises.0 y i), (inside y (Contains-later x y xs i)).1)) (omega (arith, here.1)) in
+    omega (arith, here.0, more)
+
+-- none is too late, so they are no more than there are times
+pub few_post_times : {Cell : Type 0} (q : QueryFacts Cell) → PostsAreLater q → LaterStagesPostNothing q → (job : JobFacts) → JobIsLegal q job → length (post_times_of q job.events) ≤ last_time + 1
+few_post_times q later nothing job legal =
+    let rs = input_records q job.events in
+    let posts = flat_map (q.posts 0) rs in
+    let each = All-weaker (IsInTime q 0) (λ (r : Rec). All (λ t. t ≤ last_time) (q.posts 0 r)) (λ r h. All-tail (λ (t : ℕ). t ≤ last_time) r.time (q.posts 0 r) h) rs (stage_in_time q later nothing (wakes_in_time q job legal) job.events legal.events 0) in
+    let all = All-ascending (λ (t : ℕ). t ≤ last_time) posts (All-flat_map (λ (t : ℕ). t ≤ last_time) (q.posts 0) rs each) in
+    let few = rising_within 0 last_time (post_times_of q job.events) (Rises-ascending posts) (λ t i. (omega arith, All-contains (λ (u : ℕ). u ≤ last_time) (post_times_of q job.events) t all i)) (omega arith) in
+    omega (arith, few)
+
 -- The wakes of a packet
 
 module _ {Cell : Type 0} (q : QueryFacts Cell) (nothing : LaterStagesPostNothing q) (job : JobFacts) where
-  -- a time that a record of a stage posts is one of the job's, as only records of stage 0 post
-  post_of_job : (j : ℕ) (r : Rec) (u : ℕ) → Contains (stage_records q job.events j) r → Contains (q.posts j r) u → Contains (times_of q job.events job.controls) u
+  -- a time that a record of a stage posts is one that records of stage 0 post, as only they do
+  post_of_job : (j : ℕ) (r : Rec) (u : ℕ) → Contains (stage_records q job.events j) r → Contains (q.posts j r) u → Contains (post_times_of q job.events) u
   post_of_job zero r u here posts =
       let rs = input_records q job.events in
-      let there = flat_map-Contains (λ (s : Rec). s.time ∷ q.posts 0 s) rs u (found_there (λ (s : Rec). Contains (s.time ∷ q.posts 0 s) u) rs r here (Contains-later r.time u (q.posts 0 r) posts)) in
-      ascending-Contains (times_in q 0 rs ++ control_times job.controls) u (Contains-append_left (times_in q 0 rs) (control_times job.controls) u there)
+      ascending-Contains (flat_map (q.posts 0) rs) u (flat_map-Contains (q.posts 0) rs u (found_there (λ (s : Rec). Contains (q.posts 0 s) u) rs r here posts))
   post_of_job (suc i) r u here posts = absurd (nothing_in_nil u (subst (λ (us : List ℕ). Contains us u) (nothing i r) posts))
 
   -- which stand once each
-  all_once : Pairs (λ x y. x ≢ y) (times_of q job.events job.controls)
-  all_once = rising_once (times_of q job.events job.controls) (Rises-ascending (times_in q 0 (input_records q job.events) ++ control_times job.controls))
+  all_once : Pairs (λ x y. x ≢ y) (post_times_of q job.events)
+  all_once = rising_once (post_times_of q job.events) (Rises-ascending (flat_map (q.posts 0) (input_records q job.events)))
 
   module _ (j b t : ℕ) (s : BinContent Cell) (state : IsStateBefore q job j b t s) where
-    -- a wake is at a time of the job
-    wake_of_job : (w : ℕ × ℕ) → Contains s.wakes w → Contains (times_of q job.events job.controls) w.0
+    -- a wake is at a time that a record posts
+    wake_of_job : (w : ℕ × ℕ) → Contains s.wakes w → Contains (post_times_of q job.events) w.0
     wake_of_job w i =
         let posted = ((state.wakes w.0 w.1 (state.own.wakes w.0 w.1 i)).0 i) in
         let v = posted.1 in
@@ -113,22 +133,22 @@ module _ {Cell : Type 0} (q : QueryFacts Cell) (nothing : LaterStagesPostNothing
         let posts = post_named q nothing job j a.0 w.0 a.1 (subst (λ (x : Name). is_posted (outline_of q job) x w.0 ≡ true) (sym a.2) p.2) in
         post_of_job j a.0 w.0 a.1 posts
 
-    -- so they are of no more times than the job has
-    pub few_times : length (ascending (map (λ w. w.0) s.wakes)) ≤ length (times_of q job.events job.controls)
+    -- so they are of no more times than records post
+    pub few_times : length (ascending (map (λ w. w.0) s.wakes)) ≤ length (post_times_of q job.events)
     few_times =
         let ts = map (λ (w : ℕ × ℕ). w.0) s.wakes in
-        no_more (ascending ts) (times_of q job.events job.controls) (rising_once (ascending ts) (Rises-ascending ts)) all_once
-        (λ u i. let a = found (λ (w : ℕ × ℕ). w.0 ≡ u) s.wakes (Contains-map (λ (w : ℕ × ℕ). w.0) s.wakes u (Contains-ascending ts u i)) in subst (λ (v : ℕ). Contains (times_of q job.events job.controls) v) a.2 (wake_of_job a.0 a.1))
+        no_more (ascending ts) (post_times_of q job.events) (rising_once (ascending ts) (Rises-ascending ts)) all_once
+        (λ u i. let a = found (λ (w : ℕ × ℕ). w.0 ≡ u) s.wakes (Contains-map (λ (w : ℕ × ℕ). w.0) s.wakes u (Contains-ascending ts u i)) in subst (λ (v : ℕ). Contains (post_times_of q job.events) v) a.2 (wake_of_job a.0 a.1))
 
     -- and there are no more numbers of groups that begin to wait
-    pub few_numbers : (h : Hosted Cell) (ns : List (ℕ × ℕ)) → AreNumbersOf (not_waiting h s) ns → length ns ≤ length (times_of q job.events job.controls)
+    pub few_numbers : (h : Hosted Cell) (ns : List (ℕ × ℕ)) → AreNumbersOf (not_waiting h s) ns → length ns ≤ length (post_times_of q job.events)
     few_numbers h ns are =
         let us = map (λ (n : ℕ × ℕ). n.0) ns in
         let apart = Pairs-map (λ (n : ℕ × ℕ). n.0) (λ (x y : ℕ). x ≢ y) ns (Pairs-AllPairs (λ (m n : ℕ × ℕ). m.0 ≢ n.0) ns are.once) in
         let l = length-map ns (λ (n : ℕ × ℕ). n.0) in
-        let few = no_more us (times_of q job.events job.controls) apart all_once
+        let few = no_more us (post_times_of q job.events) apart all_once
         (λ u i.
         let a = number_has_group (not_waiting h s) ns are u i in
         let here = Contains-filter (λ (w : ℕ × ℕ). not (waits_at h w.0 w.1)) s.wakes a.0 a.1 in
-        subst (λ (v : ℕ). Contains (times_of q job.events job.controls) v) a.2 (wake_of_job a.0 here.0)) in
+        subst (λ (v : ℕ). Contains (post_times_of q job.events) v) a.2 (wake_of_job a.0 here.0)) in
         omega arith

@@ -11,6 +11,7 @@ use Rattle.mp_outline.specs.JobOutline.{layout_of}
 use Rattle.mp_msg.specs.Contents.{IsRecordOf}
 use Rattle.mp_msg.specs.States.{BinContent, IsInOrder as StateIsInOrder, IsOfBin, cell_in}
 use Rattle.mp_ordered.specs.InOrder.{IsInOrder}
+use Rattle.mp_tournament.specs.Firsts.{earlier_of}
 use Rattle.mp_host_laws.specs.declared.held.Held.{Held}
 
 -- whose host it is and of which stage; the records whose group waits; the states of bins in hand; and for how many more records and for how many more bins there is room
@@ -33,12 +34,6 @@ is_of t k r = r.time == t && r.key == k
 -- the wake is that of this key at this time
 abbrev pub is_wake : ℕ → ℕ → ℕ × ℕ → Bool
 is_wake t k w = w.0 == t && w.1 == k
-
--- of two groups, each a time and a key, the first by time and then by key
-abbrev pub earlier_of : Option (ℕ × ℕ) → Option (ℕ × ℕ) → Option (ℕ × ℕ)
-earlier_of None g = g
-earlier_of (Some f) None = Some f
-earlier_of (Some f) (Some g) = cond (nat_lt g.0 f.0 || g.0 == f.0 && nat_lt g.1 f.1) (Some g) (Some f)
 
 -- the packet that brought a state, if one did, is of an earlier time
 abbrev pub began_before : ℕ → Option ℕ → Bool

@@ -1,12 +1,17 @@
 -- What a host is after a bin was taken out, put back, or installed, and which groups come and go with it.
-use Rattle.std.specs.Prelude.{◌≡◌, ◌≢◌, ℕ, true, false, not, cond, ◌==◌, Some, List, [], ◌∷◌, ◌++◌, All, AllPairs, count_by, filter}
+use Rattle.std.specs.Prelude.{◌≡◌, ◌≢◌, ℕ, true, false, not, cond, ◌==◌, Some, List, [], ◌∷◌, ◌++◌, All, AllPairs, count_by, filter, length, slice_index_or, take}
 use Rattle.std.specs.List.{sum_by}
 use Rattle.mp_msg.specs.States.{BinContent}
 use Rattle.mp_host_laws.specs.declared.held.Held.{Held}
 use Rattle.mp_host_laws.specs.Hosted.{Hosted, is_held_before, waits_at}
 
+-- the last of some items, in front of the others
+abbrev pub last_first : {X : Type 0} → List X → List X
+last_first [] = []
+last_first (x ∷ xs) = slice_index_or (x ∷ xs) (length xs) x ∷ take (length xs) (x ∷ xs)
+
 module _ {Cell : Type 0} where
-  -- The first state of the bin that began before the time is out, and all else is as it was
+  -- The first state of the bin that began before the time is out, the last one in hand has its place, and all else is as it was
   pub record IsTakenOut (b t : ℕ) (one : Held Cell) (old new : Hosted Cell) : Type 0 where
     pub stage : new.stage ≡ old.stage
     pub worker : new.worker ≡ old.worker
@@ -14,7 +19,7 @@ module _ {Cell : Type 0} where
     pub front : List (Held Cell)
     pub rest : List (Held Cell)
     pub was : old.held ≡ front ++ one ∷ rest
-    pub is : new.held ≡ front ++ rest
+    pub is : new.held ≡ front ++ last_first rest
     pub none_before : All (λ s. is_held_before b t s ≡ false) front
     pub found : is_held_before b t one ≡ true
 

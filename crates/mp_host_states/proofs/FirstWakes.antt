@@ -5,11 +5,14 @@ use Rattle.std.proofs.lemmas.Bool.{cases_Bool, cases_order, eq-eqb, ne_eqb}
 use Rattle.std.proofs.lemmas.List.{append-nil, get_or-replicate, length-replicate, take_all, take_more}
 use Rattle.std.proofs.lemmas.List.Elements.{filter-append}
 use Rattle.mp_host_laws.specs.declared.held.Held.{Held}
-use Rattle.mp_host_laws.specs.Hosted.{earlier_of, first_wake_of, wakes_in}
-use Rattle.mp_tournament.specs.Firsts.{first_among}
+use Rattle.mp_host_laws.specs.Hosted.{first_wake_of, wakes_in}
+use Rattle.mp_host_laws.specs.Moving.{last_first}
+use Rattle.mp_host_laws.proofs.LastFirst.{last_behind}
+use Rattle.mp_tournament.specs.Firsts.{earlier_of, first_among}
 use Rattle.mp_tournament.proofs.Among.{first_push}
 use Rattle.mp_tournament.proofs.Earlier.{earlier_assoc, earlier_comm}
 use Rattle.mp_host_states.specs.FirstWakes.{AreFirsts, of_bin}
+use Rattle.mp_host_states.specs.Spans.{without}
 
 swapped : (a b c : Option (ℕ × ℕ)) → earlier_of a (earlier_of b c) ≡ earlier_of b (earlier_of a c)
 swapped a b c = sym (earlier_assoc a b c) ∙ (ap (λ (d : Option (ℕ × ℕ)). earlier_of d c) (earlier_comm a b) ∙ earlier_assoc b a c)
@@ -72,9 +75,9 @@ module _ {Cell : Type 0} where
       let count = are.count in
       sym (ap first_among (take_all bins firsts (omega arith))) ∙ (among_those firsts held bins (omega arith) are.each ∙ all_below bins held below)
 
-  -- where only a bin's states changed only its entry has to
+  -- where only a bin's first wake changed only its entry has to
   pub first_set : (bins : ℕ) (firsts : List (Option (ℕ × ℕ))) (old new : List (Held Cell)) (bin : ℕ) → bin < bins → AreFirsts bins firsts old
-      → ((b : ℕ) → b ≢ bin → of_bin b new ≡ of_bin b old) → AreFirsts bins (slice_set firsts bin (first_wake_of (of_bin bin new))) new
+      → ((b : ℕ) → b ≢ bin → first_wake_of (of_bin b new) ≡ first_wake_of (of_bin b old)) → AreFirsts bins (slice_set firsts bin (first_wake_of (of_bin bin new))) new
   first_set bins firsts old new bin inside are others = record { count = length-set firsts bin first ∙ are.count; each = each }
     where
       first : Option (ℕ × ℕ)
@@ -83,7 +86,7 @@ module _ {Cell : Type 0} where
       each : (b : ℕ) → b < bins → get_or (slice_set firsts bin (first_wake_of (of_bin bin new))) b None ≡ first_wake_of (of_bin b new)
       each b l =
           let count = are.count in
-          let other : b ≢ bin → get_or (slice_set firsts bin (first_wake_of (of_bin bin new))) b None ≡ first_wake_of (of_bin b new) = λ ne. get_or-set_other firsts bin b (first_wake_of (of_bin bin new)) None ne ∙ (are.each b l ∙ ap first_wake_of (sym (others b ne))) in
+          let other : b ≢ bin → get_or (slice_set firsts bin (first_wake_of (of_bin bin new))) b None ≡ first_wake_of (of_bin b new) = λ ne. get_or-set_other firsts bin b (first_wake_of (of_bin bin new)) None ne ∙ (are.each b l ∙ sym (others b ne)) in
           ⊎_elim
           (λ (e : bin ≡ b). subst (λ (n : ℕ). get_or (slice_set firsts bin (first_wake_of (of_bin bin new))) n None ≡ first_wake_of (of_bin n new)) e (get_or-set_same firsts bin (first_wake_of (of_bin bin new)) None (omega arith)))
           (λ (f : (bin < b) ⊎ (b < bin)). other (⊎_elim (λ (m : bin < b). λ e. absurd (omega arith)) (λ (m : b < bin). λ e. absurd (omega arith)) f))
@@ -103,8 +106,51 @@ module _ {Cell : Type 0} where
   left_out (x ∷ xs) zero d inside b ne = let was : (x.bin == b) ≡ false = apart x b ne in rw was refl
   left_out (x ∷ xs) (suc at) d inside b ne = ap (λ (ys : List (Held Cell)). cond (x.bin == b) (x ∷ ys) ys) (left_out xs at d (omega arith) b ne)
 
-  pub others_left : (held : List (Held Cell)) (at : ℕ) (one : Held Cell) → at < length held → one ≡ get_or held at one → (b : ℕ) → b ≢ one.bin → of_bin b (take at held ++ drop (at + 1) held) ≡ of_bin b held
-  others_left held at one inside is b ne = rw add-one (left_out held at one inside b (subst (λ (s : Held Cell). b ≢ s.bin) is ne))
+  -- with one more in front of them the first wake is its, or that of the others
+  abbrev with_wake : ℕ → Held Cell → Option (ℕ × ℕ) → Option (ℕ × ℕ)
+  with_wake b s w = cond (s.bin == b) (earlier_of (slice_get (wakes_in s) 0) w) w
+
+  one_in_front : (b : ℕ) (s : Held Cell) (ss : List (Held Cell)) → first_wake_of (of_bin b (s ∷ ss)) ≡ with_wake b s (first_wake_of (of_bin b ss))
+  one_in_front b s ss =
+      ⊎_elim
+      (λ (e : (s.bin == b) ≡ true). rw e refl)
+      (λ (e : (s.bin == b) ≡ false). rw e refl)
+      (cases_Bool (s.bin == b))
+
+  either_first : (b : ℕ) (r s : Held Cell) (w : Option (ℕ × ℕ)) → with_wake b r (with_wake b s w) ≡ with_wake b s (with_wake b r w)
+  either_first b r s w =
+      ⊎_elim
+      (λ (e : (r.bin == b) ≡ true).
+      ⊎_elim
+      (λ (f : (s.bin == b) ≡ true). rw (e, f) (swapped (slice_get (wakes_in r) 0) (slice_get (wakes_in s) 0) w))
+      (λ (f : (s.bin == b) ≡ false). rw (e, f) refl)
+      (cases_Bool (s.bin == b)))
+      (λ (e : (r.bin == b) ≡ false). rw e refl)
+      (cases_Bool (r.bin == b))
+
+  -- so the order of states doesn't matter
+  one_behind : (b : ℕ) (ss : List (Held Cell)) (s : Held Cell) → first_wake_of (of_bin b (ss ++ s ∷ [])) ≡ first_wake_of (of_bin b (s ∷ ss))
+  one_behind b [] s = refl
+  one_behind b (r ∷ ss) s =
+      one_in_front b r (ss ++ s ∷ [])
+      ∙ (ap (with_wake b r) (one_behind b ss s ∙ one_in_front b s ss)
+      ∙ (either_first b r s (first_wake_of (of_bin b ss))
+      ∙ sym (one_in_front b s (r ∷ ss) ∙ ap (with_wake b s) (one_in_front b r ss))))
+
+  last_moved : (b : ℕ) (front rest : List (Held Cell)) → first_wake_of (of_bin b (front ++ last_first rest)) ≡ first_wake_of (of_bin b (front ++ rest))
+  last_moved b [] [] = refl
+  last_moved b [] (s ∷ ss) =
+      sym (one_behind b (take (length ss) (s ∷ ss)) (get_or (s ∷ ss) (length ss) s))
+      ∙ ap (λ (rs : List (Held Cell)). first_wake_of (of_bin b rs)) (last_behind s ss)
+  last_moved b (r ∷ front) rest =
+      one_in_front b r (front ++ last_first rest)
+      ∙ (ap (with_wake b r) (last_moved b front rest)
+      ∙ sym (one_in_front b r (front ++ rest)))
+
+  pub others_left : (held : List (Held Cell)) (at : ℕ) (one : Held Cell) → at < length held → one ≡ get_or held at one → (b : ℕ) → b ≢ one.bin → first_wake_of (of_bin b (without at held)) ≡ first_wake_of (of_bin b held)
+  others_left held at one inside is b ne =
+      let others : of_bin b (take at held ++ drop (at + 1) held) ≡ of_bin b held = rw add-one (left_out held at one inside b (subst (λ (s : Held Cell). b ≢ s.bin) is ne)) in
+      last_moved b (take at held) (drop (at + 1) held) ∙ ap first_wake_of others
 
   pub others_with : (held : List (Held Cell)) (one : Held Cell) (b : ℕ) → b ≢ one.bin → of_bin b (held ++ one ∷ []) ≡ of_bin b held
   others_with held one b ne =

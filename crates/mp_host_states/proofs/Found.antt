@@ -1,7 +1,11 @@
 -- What a group finds in hand, and what is in hand once a state is out, behind the others, or stepped.
 use Rattle.std.proofs.Common.{◌≡◌, ◌≢◌, ◌↔◌, ◌⊎◌, ◌==◌, ◌++◌, ◌+◌, ◌<◌, ◌∙◌, ℕ, suc, All, Contains, IsSome, length, List, [], ◌∷◌, None, Option, Some, true, ap, cond, drop, get_or, position, refl, set, subst, sym, take}
+use Rattle.std.specs.Prelude.{slice_get}
+use Rattle.std.specs.Option.{option_map}
+use Rattle.std.proofs.lemmas.Option.{slice_get-map, slice_get_read}
 use Rattle.std.proofs.lemmas.List.{set-get_or, set_split}
 use Rattle.std.proofs.lemmas.List.Elements.{All-append, All-drop, All-get_or, All-push, All-set, All-take}
+use Rattle.std.proofs.lemmas.List.Sorted.{All-permutation}
 use Rattle.mp_bins.specs.Bins.{bin_of_key}
 use Rattle.mp_model.specs.Entry.{Entry}
 use Rattle.mp_model.specs.Facts.{QueryFacts}
@@ -10,13 +14,26 @@ use Rattle.mp_postdated.specs.Wakes.{Has, IsWake}
 use Rattle.mp_host_laws.specs.declared.held.Held.{Held}
 use Rattle.mp_host_laws.specs.Applying.{FirstIsChanged}
 use Rattle.mp_host_laws.specs.Hosted.{is_held_before}
-use Rattle.mp_host_states.specs.Spans.{without}
+use Rattle.mp_host_laws.specs.Moving.{last_first}
+use Rattle.mp_host_laws.proofs.LastFirst.{same_items}
+use Rattle.mp_host_states.specs.Spans.{bins_of, without}
 use Rattle.mp_host_states.specs.States.{StateIsStepped, States, cell_for, state_for}
 use Rattle.mp_host_states.proofs.Places.{around, no_place, place_is}
 
+module _ {Cell : Type 0} where
+  -- the bin of a state at its place
+  pub bin_there : (held : List (Held Cell)) (at : ℕ) (one : Held Cell) → at < length held → one ≡ get_or held at one → slice_get (bins_of held) at ≡ Some one.bin
+  bin_there held at one l is = slice_get-map (λ (s : Held Cell). s.bin) held at ∙ ap (option_map (λ (s : Held Cell). s.bin)) (slice_get_read held (length held) at one refl l is)
+
+  -- what contracts see of equal parts
+  pub same_states : (bins : ℕ) (h k : List (Held Cell)) (r s : ℕ) → h ≡ k → r ≡ s → ◌≡◌ {A = States Cell} (record { bins = bins; held = h; room = r }) (record { bins = bins; held = k; room = s })
+  same_states bins h k r s e f = cc
+
 module _ {Cell : Type 0} (bins : ℕ) (held : List (Held Cell)) (inside : All (λ s. s.bin < bins) held) where
   pub inside_without : (at : ℕ) → All (λ s. s.bin < bins) (without at held)
-  inside_without at = All-append (λ s. s.bin < bins) (take at held) (drop (at + 1) held) (All-take (λ s. s.bin < bins) at held inside) (All-drop (λ s. s.bin < bins) (at + 1) held inside)
+  inside_without at =
+      let behind = All-permutation (λ s. s.bin < bins) (drop (at + 1) held) (last_first (drop (at + 1) held)) (same_items (drop (at + 1) held)) (All-drop (λ s. s.bin < bins) (at + 1) held inside) in
+      All-append (λ s. s.bin < bins) (take at held) (last_first (drop (at + 1) held)) (All-take (λ s. s.bin < bins) at held inside) behind
 
   pub inside_with : (one : Held Cell) → one.bin < bins → All (λ s. s.bin < bins) (held ++ one ∷ [])
   inside_with one l = All-push (λ s. s.bin < bins) held one inside l

@@ -13,7 +13,7 @@ use Rattle.mp_host_states.specs.declared.spans.Span.{Span}
 use Rattle.mp_host_states.specs.FirstWakes.{AreFirsts}
 use Rattle.mp_host_states.specs.Spans.{AreSpans, bins_of}
 
--- of how many bins they are, the states in the order in which they came, and for how many more there is room
+-- of how many bins they are, the states, and for how many more there is room
 pub record States (Cell : Type 0) : Type 0 where
   pub bins : ℕ
   pub held : List (Held Cell)

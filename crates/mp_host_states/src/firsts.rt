@@ -10,12 +10,12 @@ use mp_host_laws::Held;
 use mp_model::Time;
 use mp_tournament::{Firsts, earlier_of};
 
-/// Brings the first wake of a bin in line with the states in hand, of which the others are as they were.
+/// Brings the first wake of a bin in line with the states in hand; those of the others are as they were.
 pub fn renew<C: Drop>(firsts: &mut Firsts, held: &[Held<C>], spans: &Spans, bin: u32)
     requires spans { AreSpans spans.now (bins_of held.now) }
     requires bin { bin < length firsts.old }
     ensures { (bins : ℕ) (was : List (HeldOf C)) → AreFirsts bins firsts.old was
-        → ((b : ℕ) → b ≢ bin → of_bin b held.now ≡ of_bin b was) → AreFirsts bins firsts.new held.now }
+        → ((b : ℕ) → b ≢ bin → first_wake_of (of_bin b held.now) ≡ first_wake_of (of_bin b was)) → AreFirsts bins firsts.new held.now }
 {
     firsts.set(bin as usize, first_wake(held, spans.of(bin), bin));
 }

@@ -18,7 +18,7 @@ use mp_tournament::Firsts;
 use std::alloc::{AllocError, Global};
 use std::marker::Model;
 
-/// The states of bins that a host has in hand, in the order in which they came. Contracts see `States`.
+/// The states of bins that a host has in hand. Contracts see `States`.
 #[derive(Drop)]
 pub struct InHand<C: Drop> {
     bins: u32,
@@ -77,14 +77,16 @@ impl<C: Drop> InHand<C> {
         self.held.reserve(1)
     }
 
-    /// Takes out the state at a place. Takes no memory, and leaves room to put it back.
+    /// Takes out the state at a place, which the last one takes. Takes no memory, and leaves room to put it back.
     pub fn take(&mut self, at: usize) -> Held<C>
         requires { at < length self.old.held }
         ensures taken { result ≡ slice_index_or self.old.held at result }
         ensures left { self.new ≡ record self.old { held = without at self.old.held; room = self.old.room + 1 } }
     {
-        let one = self.held.remove(at);
-        self.spans.close_up(at);
+        let last = self.held.len() - 1;
+        let moved = self.held[last].bin;
+        let one = self.held.swap_remove(at);
+        self.spans.fill(at, one.bin, last, moved);
         renew(&mut self.firsts, &self.held, &self.spans, one.bin);
         one
     }

@@ -1,5 +1,5 @@
 //! Where the states of each bin stand: a span of places for each, so that no walk has to go over all states.
-ghost use Rattle.std.specs.Prelude.{◌≡◌, ◌≤◌, ◌<◌, ◌++◌, ◌∷◌, [], ℕ, All, IfOk, List, drop, length, slice_index_or};
+ghost use Rattle.std.specs.Prelude.{◌≡◌, ◌≢◌, ◌≤◌, ◌<◌, ◌+◌, ◌++◌, ◌∷◌, [], ℕ, All, IfOk, List, Some, drop, length, slice_get, slice_index_or};
 ghost use Rattle.mp_host_states.specs.Spans.{AreSpans, IsSpanOf, bins_of, nowhere, without};
 
 use mp_host_laws::Held;
@@ -39,37 +39,43 @@ impl Span {
         }
     }
 
-    // The span once what stands at a place is out.
-    fn closed_up(self, place: usize) -> Span
-        ensures { (b : ℕ) (bins : List ℕ) → IsSpanOf self b bins → IsSpanOf result b (without place bins) }
+    // The span without a place, where that is at an end of it.
+    fn narrowed(self, place: usize) -> Span
+        ensures { (p : ℕ) → p ≢ place → self.from ≤ p → p < self.to → (result.from ≤ p) × (p < result.to) }
     {
-        Span {
-            from: if place < self.from {
-                self.from - 1
-            } else {
-                self.from
-            },
-            to: if place < self.to {
-                self.to - 1
-            } else {
-                self.to
-            },
+        if place < self.from || self.to <= place {
+            self
+        } else if self.from == place {
+            Span {
+                from: place + 1,
+                to: self.to,
+            }
+        } else if self.to - 1 == place {
+            Span {
+                from: self.from,
+                to: place,
+            }
+        } else {
+            self
         }
     }
 
-    // The span with a place, which is behind the others of its bin.
+    // The span with a place.
     fn widened(self, place: usize) -> Span
         requires { place < usize.MAX }
-        ensures { (b : ℕ) (bins : List ℕ) → length bins ≡ place → IsSpanOf self b bins → IsSpanOf result b (bins ++ b ∷ []) }
+        ensures place { (result.from ≤ place) × (place < result.to) }
+        ensures others { (p : ℕ) → self.from ≤ p → p < self.to → (result.from ≤ p) × (p < result.to) }
     {
-        let from = if self.from < self.to {
-            self.from.min(place)
+        if self.from < self.to {
+            Span {
+                from: self.from.min(place),
+                to: self.to.max(place + 1),
+            }
         } else {
-            place
-        };
-        Span {
-            from,
-            to: place + 1,
+            Span {
+                from: place,
+                to: place + 1,
+            }
         }
     }
 }
@@ -122,21 +128,20 @@ impl Spans {
         self.spans[bin as usize] = span;
     }
 
-    /// Closes the gap of what stood at a place and is out.
-    pub fn close_up(&mut self, place: usize)
-        ensures spans { (bins : List ℕ) → AreSpans self.old bins → AreSpans self.new (without place bins) }
+    /// Forgets a place of the bin `out`, which the last of all places, of the bin `moved`, takes.
+    pub fn fill(&mut self, place: usize, out: u32, last: usize, moved: u32)
+        requires bins { (out < length self.old) × (moved < length self.old) }
+        requires places { (place ≤ last) × (last < usize.MAX) }
+        ensures spans { (bins : List ℕ) → length bins ≡ last + 1 → slice_get bins place ≡ Some out → slice_get bins last ≡ Some moved
+            → AreSpans self.old bins → AreSpans self.new (without place bins) }
         ensures length { length self.new ≡ length self.old }
     {
-        close_each(&mut self.spans, place);
-    }
-}
-
-// Closes the gap in each span.
-fn close_each(spans: &mut [Span], place: usize)
-    ensures { (bins : List ℕ) → AreSpans spans.old bins → AreSpans spans.new (without place bins) }
-{
-    for span in spans.iter_mut() {
-        *span = span.closed_up(place);
+        let span = self.spans[out as usize].narrowed(place);
+        self.spans[out as usize] = span;
+        if place < last {
+            let span = self.spans[moved as usize].narrowed(last).widened(place);
+            self.spans[moved as usize] = span;
+        }
     }
 }
 

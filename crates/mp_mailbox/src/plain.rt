@@ -55,6 +55,10 @@ impl<M: Named + Drop> Post<M> for PlainPost<M> {
         push_below(&mut self.queues[at], self.depth, message)
     }
 
+    fn is_empty(&mut self, from: u32, to: u32) -> bool {
+        self.queues[place(self.workers, from, to)].is_empty()
+    }
+
     fn pop(&mut self, from: u32, to: u32) -> Option<M> {
         let at = place(self.workers, from, to);
         pop_oldest(&mut self.queues[at])

@@ -1,5 +1,5 @@
 //! What a message and a post are.
-ghost use Rattle.std.specs.Prelude.{◌≡◌, ℕ, ◌<◌, List, OnOk, OnErr, IfErr, IfSome, IfNone};
+ghost use Rattle.std.specs.Prelude.{◌≡◌, ℕ, ◌<◌, true, List, OnOk, OnErr, IfErr, IfSome, IfNone};
 ghost use Rattle.mp_mailbox.specs.Standing.{IsFresh, Denotes, AddsLast, AddsPushed, AddsPopped, PopsNew, KeepsEdge, KeepsEnds, KeepsOthers, KeepsOthersWaiting, KeepsWaiting, TakesFirst};
 
 /// A message has names, and goes along one edge, from one worker to another. Which job it belongs to is
@@ -76,6 +76,15 @@ pub trait Post<M: Named> {
         ensures others { KeepsOthers (denotes self.old) (denotes self.new) from to }
         ensures others_wait { KeepsOthersWaiting (waits self.old) (waits self.new) from to }
         ensures keeps { KeepsEnds workers depth serves self.old self.new };
+
+    /// Whether no message waits on the edge: where `true`, none waited, and a pop would have answered `None`. `false`
+    /// promises nothing. Takes no memory, and nothing changes.
+    fn is_empty(&mut self, from: u32, to: u32) -> bool
+        requires workers { (from < workers self.old) × (to < workers self.old) }
+        requires serves { serves self.old to }
+
+        ensures empty { result ≡ true → was_empty self.old from to }
+        ensures same { self.new ≡ self.old };
 
     /// Pops the message that was pushed first of those that wait on the edge, or answers `None` where
     /// none waited. Takes no memory.

@@ -3,3 +3,4 @@ mod One
 mod Noted
 mod Prefixes
 mod Tallied
+mod Searched

@@ -1,9 +1,17 @@
 -- What tallies tell.
-use Rattle.std.specs.Prelude.{ℕ, Bool, ◌==◌, ◌&&◌, List, [], ◌∷◌, if◌then◌else◌, slice_get}
+use Rattle.std.specs.Prelude.{ℕ, Bool, ◌==◌, ◌&&◌, List, [], ◌∷◌, flat_map, if◌then◌else◌, slice_get}
 use Rattle.std.specs.Option.{option_map_or}
 use Rattle.mp_names.specs.declared.controls.Move.{Move}
 use Rattle.mp_tally.specs.declared.tally.Moved.{Moved}
 use Rattle.mp_tally.specs.declared.tally.Tally.{Tally}
+
+-- the packets of one worker after the other
+abbrev pub packets_of : List Tally → List Moved
+packets_of tallies = flat_map (λ t. t.moved.items) tallies
+
+-- what orders packets: their time, stage and bin, as those of moves do
+abbrev pub rank_of_packet : Moved → List ℕ
+rank_of_packet x = x.time ∷ x.stage ∷ x.bin ∷ []
 
 -- the packet is that of the move
 abbrev pub is_moved_by : Move → Moved → Bool
@@ -13,10 +21,6 @@ is_moved_by m x = x.stage == m.stage && (x.bin == m.bin && x.time == m.time)
 abbrev pub keys_in : List Moved → Move → ℕ
 keys_in [] m = 0
 keys_in (x ∷ xs) m = if is_moved_by m x then x.keys else keys_in xs m
-
--- how many keys the worker that the move goes from tells
-abbrev pub keys_told : List Tally → Move → ℕ
-keys_told tallies m = option_map_or (λ t. keys_in t.moved.items m) (slice_get tallies m.from) 0
 
 -- how many groups the worker of this number tells
 abbrev pub groups_told : List Tally → ℕ → ℕ

@@ -4,19 +4,20 @@ ghost use Rattle.mp_names.specs.Names.{IsPrefix};
 ghost use Rattle.mp_outside.specs.Fault.{Rose};
 ghost use Rattle.mp_outside.specs.Sink.{OnlyAppends, grown};
 ghost use Rattle.mp_output.specs.declared.refused.OutRefused.TheVariants.{WriteFault};
+ghost use Rattle.mp_ordered.specs.InOrder.{IsInOrder};
 ghost use Rattle.mp_report.specs.Report.{AreTalliesOf, IsReported, IsReportedInPart, move_lines, worker_lines};
-ghost use Rattle.mp_report.specs.Told.{groups_told, keys_told};
+ghost use Rattle.mp_report.specs.Told.{groups_told, keys_in, rank_of_packet};
 ghost use Rattle.mp_model.specs.Tables.{table_of};
 
 use crate::lines::{line_of_move, line_of_worker};
 use crate::owners::moves_of;
-use crate::told::keys_told;
+use crate::told::{keys_in, packets_told};
 use mp_job::Job;
 use mp_model::Query;
 use mp_names::Move;
 use mp_output::OutRefused;
 use mp_outside::{Sink, write_piece};
-use mp_tally::Tally;
+use mp_tally::{Moved, Tally};
 use std::alloc::Global;
 
 /// Writes the report of a job, whose tallies these are by the workers' numbers, each line as one piece: each move of a bin
@@ -40,28 +41,31 @@ pub fn write_report<Q: Query, S: Sink>(
     ensures appends_only { OnlyAppends S.frame S.faults sink.old sink.new }
 {
     let moves = moves_of(alloc, job)?;
-    write_moves(alloc, &moves, tallies, sink)?;
+    let packets = packets_told(alloc, tallies)?;
+    write_moves(alloc, &moves, &packets, sink)?;
     write_workers(alloc, tallies, sink)
 }
 
-// Writes the lines of moves, with the keys that the tallies tell. The refusals are those of the report.
+// Writes the lines of moves, with the keys of their packets, which come by time, stage and bin. The refusals are those of
+// the report.
 fn write_moves<S: Sink>(
     alloc: Global,
     moves: &[Move],
-    tallies: &[Tally],
+    packets: &[Moved],
     sink: &mut S,
 ) -> Result<(), OutRefused>
+    requires { IsInOrder rank_of_packet packets.now }
     ensures whole { OnOk result (S.written sink.new
-        ≡ grown (S.written sink.old) (move_lines (keys_told tallies.now) moves.now)) }
+        ≡ grown (S.written sink.old) (move_lines (keys_in packets.now) moves.now)) }
     ensures part { OnErr result ((text : List ℕ)
-        × IsPrefix text (move_lines (keys_told tallies.now) moves.now)
+        × IsPrefix text (move_lines (keys_in packets.now) moves.now)
         × (S.written sink.new ≡ grown (S.written sink.old) text)) }
     ensures failed { result ≡ Err WriteFault → Rose (S.faults sink.old) (S.faults sink.new) }
     ensures no_fault { result ≢ Err WriteFault → S.faults sink.new ≡ S.faults sink.old }
     ensures appends_only { OnlyAppends S.frame S.faults sink.old sink.new }
 {
     for change in moves {
-        let line = line_of_move(alloc, *change, keys_told(tallies, *change))?;
+        let line = line_of_move(alloc, *change, keys_in(packets, *change))?;
         write_piece(sink, line.as_slice())?;
     }
     Ok(())

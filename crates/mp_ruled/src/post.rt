@@ -48,6 +48,10 @@ impl<M: Named + Drop, R: Wait> Post<M> for RuledPost<M, R> {
         self.senders[to as usize].push(&self.rt, message)
     }
 
+    fn is_empty(&mut self, from: u32, _to: u32) -> bool {
+        self.receivers[from as usize].is_empty()
+    }
+
     fn pop(&mut self, from: u32, _to: u32) -> Option<M> {
         self.receivers[from as usize].pop(&self.rt)
     }

@@ -1,5 +1,5 @@
 //! The end that pops.
-ghost use Rattle.std.specs.Prelude.{◌≡◌, ◌∷◌, [], ◌++◌, IfSome, IfNone};
+ghost use Rattle.std.specs.Prelude.{◌≡◌, true, ◌∷◌, [], ◌++◌, IfSome, IfNone};
 ghost use Rattle.mp_mailbox.specs.Names.{Distinct, names_of};
 ghost use Rattle.mp_ruled.specs.Ends.{WasEmpty, with_got};
 
@@ -45,6 +45,15 @@ impl<M: Named + Drop> ReceiverEnd<M> {
         ensures empty { IfNone result (WasEmpty self.old) }
     {
         self.queue.pop_as::<Gets, R>(rt, &mut self.pass)
+    }
+
+    /// Whether no message waits: where `true`, none waited at one moment of the call. `false` promises nothing. Takes no
+    /// memory, and doesn't wait.
+    pub fn is_empty(&mut self) -> bool
+        ensures empty { result ≡ true → WasEmpty self.old }
+        ensures same { self.new ≡ self.old }
+    {
+        self.queue.is_empty_as::<Gets>(&mut self.pass)
     }
 
     /// Writes down what this end knows, for the sender: all that was popped so far.

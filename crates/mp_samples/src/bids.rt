@@ -6,17 +6,20 @@ use mp_model::{Field, Fields, Group, PostList, Query, Rec, RuleList, Time, Value
 use std::alloc::{AllocError, Global};
 
 /// Each bid makes a record of its auction's key, which wakes the key ten later. Where it answers, a group that has records
-/// gives a row of the key and marks its cell; otherwise no group gives anything.
+/// gives a row of the key and marks its cell; otherwise no group gives anything. Where it is starved, no group finds memory.
 #[derive(Drop)]
-pub struct SampleBids<const ANSWERS: bool> {}
+pub struct SampleBids<const ANSWERS: bool, const STARVED: bool> {}
 
 /// The sample query whose groups give nothing.
-pub type WakingBids = SampleBids<false>;
+pub type WakingBids = SampleBids<false, false>;
 
 /// The sample query whose groups give rows.
-pub type AnsweringBids = SampleBids<true>;
+pub type AnsweringBids = SampleBids<true, false>;
 
-impl<const ANSWERS: bool> Query for SampleBids<ANSWERS> {
+/// The sample query whose groups find no memory.
+pub type StarvedBids = SampleBids<false, true>;
+
+impl<const ANSWERS: bool, const STARVED: bool> Query for SampleBids<ANSWERS, STARVED> {
     ghost use Rattle.std.specs.Prelude.{[]};
     ghost use Rattle.mp_samples.specs.Bids.{sample_bids, text_of};
     ghost use Rattle.mp_samples.specs.Laws.{begins_fresh, fresh_stays_fresh, has_stages, later_stages_post_nothing, most_is_enough, posts_are_later, sums_fit, texts_tell_cells};
@@ -39,7 +42,7 @@ impl<const ANSWERS: bool> Query for SampleBids<ANSWERS> {
         RuleList::new()
     }
 
-    fn with(self, _given: &[u64]) -> SampleBids<ANSWERS> {
+    fn with(self, _given: &[u64]) -> SampleBids<ANSWERS, STARVED> {
         self
     }
 
@@ -77,6 +80,9 @@ impl<const ANSWERS: bool> Query for SampleBids<ANSWERS> {
         cell: &mut u64,
         group: &Group,
     ) -> Result<Vec<Value>, AllocError> {
+        if STARVED {
+            return Err(AllocError);
+        }
         if !ANSWERS {
             return Ok(Vec::new(alloc));
         }

@@ -2,9 +2,11 @@
 ghost use Rattle.std.specs.Prelude.{◌≡◌, ◌≤◌, [], IfOk, length};
 ghost use Rattle.mp_names.specs.Limits.{most_controls, most_events};
 ghost use Rattle.mp_job.specs.Legal.{ShapeIsLegal};
-ghost use Rattle.mp_samples.specs.Jobs.{one_move, three_workers};
+ghost use Rattle.mp_samples.specs.Jobs.{one_bid, one_move, three_workers};
 
-use crate::{AnsweringBids, WakingBids, bid_at, bids_at, controls_at, events_of, to_worker_two};
+use crate::{
+    AnsweringBids, StarvedBids, WakingBids, bid_at, bids_at, controls_at, events_of, to_worker_two,
+};
 use mp_job::{Job, Shape};
 use std::alloc::{AllocError, Global};
 
@@ -57,4 +59,20 @@ pub fn one_move(alloc: Global) -> Result<Job<AnsweringBids>, AllocError>
     let mut controls = Vec::new(alloc);
     controls.push(to_worker_two())?;
     Job::new(alloc, AnsweringBids {}, events, controls, THREE_WORKERS)
+}
+
+/// A job of a bid on auction 7 at 5, of three workers with four bins, whose groups find no memory. The bin of the auction is
+/// worker 1's. `AllocError`: no memory.
+pub fn starved_job(alloc: Global) -> Result<Job<StarvedBids>, AllocError>
+    ensures { IfOk result (λ job. job ≡ one_bid) }
+{
+    let mut events = Vec::new(alloc);
+    events.push(bid_at(5))?;
+    Job::new(
+        alloc,
+        StarvedBids {},
+        events,
+        Vec::new(alloc),
+        THREE_WORKERS,
+    )
 }

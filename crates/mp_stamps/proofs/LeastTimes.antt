@@ -8,7 +8,7 @@ use Rattle.mp_names.specs.declared.locations.Frontier.{Frontier}
 use Rattle.mp_names.specs.declared.locations.Frontier.TheVariants.{At, Done}
 use Rattle.mp_names.specs.declared.locations.Loc.{Loc}
 use Rattle.mp_names.specs.Frontiers.{IsFrontierOf}
-use Rattle.mp_stamps.specs.Counts.{CountTable, IsTable, count_in, count_of, row_of}
+use Rattle.mp_stamps.specs.Counts.{CountTable, IsRowFor, IsTable, count_in, count_of, row_of}
 use Rattle.mp_stamps.specs.Flow.{AreFirstTimes, IsFirstTime}
 use Rattle.mp_stamps.specs.Places.{place_of}
 use Rattle.mp_stamps.specs.Rows.{IsFirstOpen}
@@ -17,7 +17,7 @@ use Rattle.mp_stamps.proofs.Tables.{HasNot, count_of_none, count_of_there, find_
 
 -- The least time of a row
 
-module _ (times : List ℕ) (row : List ℤ) (first : ℕ) (rising : IsStrictlyIncreasing times) (long : length row ≡ length times) (is : IsFirstOpen row first) where
+module _ (times : List ℕ) (row : List ℤ) (first : ℕ) (rising : IsStrictlyIncreasing times) (long : length times ≤ length row) (is : IsFirstOpen row first) where
   zero_before : (t : ℕ) → ((k : ℕ) → k < length times → get_or times k 0 ≡ t → k < first) → count_of times row t ≡ pos 0
   zero_before t below =
       ⊎_elim
@@ -52,7 +52,7 @@ no_first_times table n m h at = subst (λ (f : Frontier). IsFirstTime (count_in 
 
 -- A table with another row
 
-module _ (table : CountTable) (p : ℕ) (row : List ℤ) (h : IsTable table) (long : length row ≡ length table.times) where
+module _ (table : CountTable) (p : ℕ) (row : List ℤ) (h : IsTable table) (long : IsRowFor (length table.times) row) where
   abbrev pub with_row : CountTable
   with_row = record table { rows = set table.rows p row }
 
@@ -61,7 +61,8 @@ module _ (table : CountTable) (p : ℕ) (row : List ℤ) (h : IsTable table) (lo
     few_stages = h.few_stages;
     rising = h.rising;
     each_place = length-set table.rows p row ∙ h.each_place;
-    each_time = All-set (λ (r : List ℤ). length r ≡ length table.times) table.rows p row long h.each_time;
+    each_time = All-set (IsRowFor (length table.times)) table.rows p row long h.each_time;
+    each_low = h.each_low ∙ sym (length-set table.rows p row);
   }
 
   module _ (firsts : List Frontier) (first : Frontier) (inside : p < length table.rows) (is : IsFirstTime (count_of table.times row) first) (before : AreFirstTimes table firsts) where

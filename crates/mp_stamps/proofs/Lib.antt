@@ -1,7 +1,9 @@
 pub mod Places
 pub mod Paths
 pub mod Firsts
-pub mod Numbers
+pub mod Joined
+pub mod Times
+pub mod Tabled
 pub mod Parts
 pub mod Tables
 pub mod Edges

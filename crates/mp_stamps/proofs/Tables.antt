@@ -1,12 +1,12 @@
 -- What a table of counts says of each location and time.
-use Rattle.std.proofs.Common.{◌≡◌, ◌≢◌, ◌⊎◌, ℕ, zero, suc, ◌+◌, ◌<◌, ◌≤◌, min, Bool, true, false, ◌==◌, cond, List, [], ◌∷◌, length, get_or, set, replicate, ℤ, pos, refl, sym, ap, ◌∙◌, subst, arith, ⊎_elim, inl, inr, Contains, All, Ok, Err, ◌+ℤ◌, SFits}
+use Rattle.std.proofs.Common.{◌≡◌, ◌≢◌, ◌⊎◌, ℕ, zero, suc, ◌+◌, ◌*◌, ◌<◌, ◌≤◌, min, Bool, true, false, ◌==◌, cond, List, [], ◌∷◌, length, get_or, set, replicate, ℤ, pos, refl, sym, ap, ◌∙◌, subst, arith, ⊎_elim, inl, inr, Contains, All, Ok, Err, ◌+ℤ◌, SFits}
 use Rattle.std.specs.Int.{w128}
 use Rattle.std.specs.declared.result.Result.{Result}
 use Rattle.std.specs.List.Sorted.{IsBinarySearchResult, IsStrictlyIncreasing}
 use Rattle.std.specs.Ordering.{nat_cmp}
 use Rattle.std.proofs.lemmas.Bool.{cases_eq, cases_lt, eqb-true, eq-eqb, false_from_ne_true}
 use Rattle.std.proofs.lemmas.Grind.{get_or_default_zero}
-use Rattle.std.proofs.lemmas.List.{get_or_default, get_or_past, get_or-set_same, get_or-set_other, length-replicate, length-set}
+use Rattle.std.proofs.lemmas.List.{get_or_default, get_or_past, get_or-replicate, get_or-set_same, get_or-set_other, length-replicate, length-set}
 use Rattle.std.proofs.lemmas.List.Elements.{All-get_or, All-set}
 use Rattle.std.proofs.lemmas.List.Kept.{AllPairs-from_increasing}
 use Rattle.std.proofs.lemmas.List.Sorted.{searched}
@@ -16,9 +16,9 @@ use Rattle.mp_names.specs.declared.locations.Loc.TheVariants.{Ctl, CtlMail, Sour
 use Rattle.mp_names.specs.Frontiers.{IsFrontierOf, IsQuiet}
 use Rattle.mp_names.specs.Limits.{most_stages}
 use Rattle.mp_names.specs.Locations.{IsLocation, Reaches}
-use Rattle.mp_stamps.specs.Counts.{CountTable, IsCounted, IsFirstFor, IsTable, count_in, count_of, row_of}
+use Rattle.mp_stamps.specs.Counts.{CountTable, IsCounted, IsFirstFor, IsRowFor, IsTable, count_in, count_of, low_of, row_of}
 use Rattle.mp_stamps.specs.Places.{place_of, places_of}
-use Rattle.mp_stamps.specs.Rows.{IsFirstOpen, count_there}
+use Rattle.mp_stamps.specs.Rows.{IsFirstOpen, count_there, pieces_of}
 
 -- Places
 
@@ -98,7 +98,7 @@ pub count_of_nil : (times : List ℕ) (t : ℕ) → count_of times [] t ≡ pos 
 count_of_nil [] t = refl
 count_of_nil (u ∷ us) t = refl
 
-pub count_of_there : (times : List ℕ) (row : List ℤ) (k : ℕ) → Rises times → k < length times → length row ≡ length times → count_of times row (get_or times k 0) ≡ count_there row k
+pub count_of_there : (times : List ℕ) (row : List ℤ) (k : ℕ) → Rises times → k < length times → length times ≤ length row → count_of times row (get_or times k 0) ≡ count_there row k
 count_of_there [] row k h l e = absurd (omega arith)
 count_of_there (u ∷ us) [] k h l e = absurd (omega arith)
 count_of_there (u ∷ us) (n ∷ ns) zero h l e = let f = eq-eqb u u refl in rw f refl
@@ -132,8 +132,22 @@ count_of_zeros (u ∷ us) (suc n) t = pick (u == t) (count_of_zeros us n t)
 
 -- Counts by location and time
 
-pub row_length : (table : CountTable) (a : Loc) → IsTable table → place_of a < length table.rows → length (row_of table a) ≡ length table.times
-row_length table a h l = All-get_or (λ (row : List ℤ). length row ≡ length table.times) table.rows (place_of a) [] l h.each_time
+pub row_there : (table : CountTable) (a : Loc) → IsTable table → place_of a < length table.rows → IsRowFor (length table.times) (row_of table a)
+row_there table a h l = All-get_or (IsRowFor (length table.times)) table.rows (place_of a) [] l h.each_time
+
+-- a row has a count of each time
+pub long_row : (n : ℕ) (row : List ℤ) → IsRowFor n row → n < length row
+long_row n row h = omega (arith, h.long)
+
+pub row_length : (table : CountTable) (a : Loc) → IsTable table → place_of a < length table.rows → length table.times ≤ length (row_of table a)
+row_length table a h l = let r = long_row (length table.times) (row_of table a) (row_there table a h l) in omega (arith, r)
+
+-- another count of one of the times
+pub row_set : (n : ℕ) (row : List ℤ) (i : ℕ) (v : ℤ) → i < n → IsRowFor n row → IsRowFor n (set row i v)
+row_set n row i v l h = record {
+  long = length-set row i v ∙ h.long;
+  no_more = λ k m. get_or-set_other row i k v (pos 0) (λ e. absurd (omega (arith, l, m, e))) ∙ h.no_more k m;
+}
 
 pub no_row : (table : CountTable) (a : Loc) (t : ℕ) → length table.rows ≤ place_of a → count_in table a t ≡ pos 0
 no_row table a t l = ap (λ (row : List ℤ). count_of table.times row t) (get_or_past table.rows (place_of a) [] l) ∙ count_of_nil table.times t
@@ -141,7 +155,7 @@ no_row table a t l = ap (λ (row : List ℤ). count_of table.times row t) (get_o
 pub no_time : (table : CountTable) (a : Loc) (t : ℕ) → HasNot table.times t → count_in table a t ≡ pos 0
 no_time table a t h = count_of_none table.times (row_of table a) t h
 
-pub no_count : (table : CountTable) (a : Loc) (t : ℕ) → IsTable table → (IsCounted table a t → ⊥) → count_in table a t ≡ pos 0
+pub no_count : (table : CountTable) (a : Loc) (t : ℕ) → IsTable table → (IsLocation table.stages a × Contains table.times t → ⊥) → count_in table a t ≡ pos 0
 no_count table a t h n =
     ⊎_elim
     (λ (p : place_of a < length table.rows).
@@ -212,7 +226,7 @@ module _ (table : CountTable) (loc : Loc) (n first : ℕ) (is : IsFirstFor table
       → IsFirstFor table loc (n + 1) least
   next_first_for here row own least h l only placed r e o m =
       let there : row ≡ row_of table here = e ∙ get_or_default table.rows n row [] (omega (arith, l, h.each_place)) ∙ ap (λ (p : ℕ). get_or table.rows p []) (sym placed) in
-      let long : length row ≡ length table.times = ap length there ∙ row_length table here h (omega (arith, l, placed, h.each_place)) in
+      let long : length table.times ≤ length row = omega (arith, ap (λ (xs : List ℤ). length xs) there, row_length table here h (omega (arith, l, placed, h.each_place))) in
       record {
         within = ⊎_elim (λ (p : (least ≡ first) × (first < own)). omega (arith, p.0, is.within)) (λ (p : (least ≡ own) × (own ≤ first)). omega (arith, p.0, p.1, is.within)) m;
         quiet = λ a k b s q.
@@ -227,7 +241,7 @@ module _ (table : CountTable) (loc : Loc) (n first : ℕ) (is : IsFirstFor table
             let f = is.open_there (omega (arith, p.0)) in
             (f.0, f.1, f.2, (λ z. f.3 (subst (λ (i : ℕ). count_there (row_of table f.0) i ≡ pos 0) p.0 z))))
             (λ (p : (least ≡ own) × (own ≤ first)).
-            (here, omega (arith, placed), r, (λ z. o.open_there (omega (arith, p.0, long)) (subst (λ (xs : List ℤ). count_there xs own ≡ pos 0) (sym there) (subst (λ (i : ℕ). count_there (row_of table here) i ≡ pos 0) p.0 z)))))
+            (here, omega (arith, placed), r, (λ z. o.open_there (omega (arith, p.0, q, long)) (subst (λ (xs : List ℤ). count_there xs own ≡ pos 0) (sym there) (subst (λ (i : ℕ). count_there (row_of table here) i ≡ pos 0) p.0 z)))))
             m;
       }
 
@@ -242,7 +256,8 @@ module _ (table : CountTable) (loc : Loc) (i : ℕ) (v : ℤ) (h : IsTable table
     few_stages = h.few_stages;
     rising = h.rising;
     each_place = length-set table.rows (place_of loc) (set (row_of table loc) i v) ∙ h.each_place;
-    each_time = All-set (λ (row : List ℤ). length row ≡ length table.times) table.rows (place_of loc) (set (row_of table loc) i v) (length-set (row_of table loc) i v ∙ row_length table loc h inside) h.each_time;
+    each_time = All-set (IsRowFor (length table.times)) table.rows (place_of loc) (set (row_of table loc) i v) (row_set (length table.times) (row_of table loc) i v l (row_there table loc h inside)) h.each_time;
+    each_low = h.each_low ∙ sym (length-set table.rows (place_of loc) (set (row_of table loc) i v));
   }
 
   pub changed_here : count_in changed loc (get_or table.times i 0) ≡ v
@@ -282,13 +297,22 @@ no_counts table n h a t =
     (λ (l : length table.rows ≤ place_of a). no_row table a t l)
     (cases_lt (place_of a) (length table.rows))
 
-pub zero_table : (stages : ℕ) (times own : List ℕ) (rows : List (List ℤ)) → stages ≤ most_stages → IsStrictlyIncreasing times → times ≡ own → length rows ≡ places_of stages → All (λ (row : List ℤ). row ≡ replicate (length times) (pos 0)) rows → IsTable (record { stages = stages; times = own; rows = rows })
-zero_table stages times own rows few rising same places zeros = record {
+pub zero_table : (stages : ℕ) (times low : List ℕ) (rows : List (List ℤ)) → stages ≤ most_stages → IsStrictlyIncreasing times → length rows ≡ places_of stages → length low ≡ length rows → All (λ (row : List ℤ). row ≡ replicate (1024 * pieces_of (length times)) (pos 0)) rows → IsTable (record { stages = stages; times = times; rows = rows; low = low })
+zero_table stages times low rows few rising places lows zeros = record {
   few_stages = few;
-  rising = subst IsStrictlyIncreasing same rising;
+  rising = rising;
   each_place = places;
-  each_time = λ i row l. let z = zeros i row l in ap length z ∙ length-replicate (length times) (pos 0) ∙ ap length same;
+  each_time = λ i row l.
+      let z = zeros i row l in
+      record {
+        long = ap (λ (xs : List ℤ). length xs) z ∙ length-replicate (1024 * pieces_of (length times)) (pos 0);
+        no_more = λ k m. ap (λ (xs : List ℤ). count_there xs k) z ∙ zero_there (1024 * pieces_of (length times)) k;
+      };
+  each_low = lows;
 }
+  where
+    zero_there : (n k : ℕ) → get_or (replicate n (pos 0)) k (pos 0) ≡ pos 0
+    zero_there n k = ⊎_elim (λ (l : k < n). get_or-replicate n k (pos 0) (pos 0) l) (λ (l : n ≤ k). get_or_past (replicate n (pos 0)) k (pos 0) (omega (arith, l, length-replicate n (pos 0)))) (cases_lt k n)
 
 -- What a search among the times finds
 
@@ -337,14 +361,14 @@ module _ (inside now : CountTable) (t : ℕ) (h : IsTable inside) (is : inside �
       ∙ ap (λ (u : ℕ). count_in inside loc u) here.1
       ∙ ap (λ (table : CountTable). count_in table loc t) is
 
-  pub is_counted : IsCounted now loc t
-  is_counted =
+  pub is_counted : low_of inside loc ≤ t → IsCounted now loc t
+  is_counted kept =
       let here = found_time inside t h r i s e in
-      let counted : IsCounted inside loc t = (location_placed inside.stages loc (omega (arith, placed, h.each_place)), contains_there inside.times t i here.0 here.1) in
+      let counted : IsCounted inside loc t = (location_placed inside.stages loc (omega (arith, placed, h.each_place)), contains_there inside.times t i here.0 here.1, kept) in
       subst (λ (table : CountTable). IsCounted table loc t) is counted
 
-  pub added_fits : (IsCounted now loc t → SFits w128 (count_in now loc t +ℤ by)) → SFits w128 (count_there row i +ℤ plus)
-  added_fits fits = rw (was, same) (fits is_counted)
+  pub added_fits : low_of inside loc ≤ t → (IsCounted now loc t → SFits w128 (count_in now loc t +ℤ by)) → SFits w128 (count_there row i +ℤ plus)
+  added_fits kept fits = rw (was, same) (fits (is_counted kept))
 
   module _ (new : List ℤ) (changes : new ≡ set row i (count_there row i +ℤ plus)) where
     abbrev after : CountTable
@@ -369,14 +393,30 @@ module _ (inside now : CountTable) (t : ℕ) (h : IsTable inside) (is : inside �
         ∙ changed_others inside loc i (count_there row i +ℤ plus) h placed here.0 at u (λ f. n (f.0, f.1 ∙ here.1))
         ∙ ap (λ (table : CountTable). count_in table at u) is
 
+-- a count is kept of a location at a time; or there never was one; or it was given back
+pub counted_or_gone : (table : CountTable) (at : Loc) (t : ℕ) → IsCounted table at t ⊎ ((IsLocation table.stages at × Contains table.times t → ⊥) ⊎ (IsLocation table.stages at × Contains table.times t × (t < low_of table at)))
+counted_or_gone table at t =
+    ⊎_elim
+    (λ (p : place_of at < places_of table.stages).
+    ⊎_elim
+    (λ (f : (k : ℕ) × (k < length table.times) × (get_or table.times k 0 ≡ t)).
+    let here = location_placed table.stages at p in
+    let there = contains_there table.times t f.0 f.1 f.2 in
+    ⊎_elim (λ (l : t < low_of table at). inr (inr (here, there, l))) (λ (l : low_of table at ≤ t). inl (here, there, l)) (cases_lt t (low_of table at)))
+    (λ (m : HasNot table.times t). inr (inl (λ c. has_not_contained table.times t m c.1)))
+    (find_time table.times t))
+    (λ (p : places_of table.stages ≤ place_of at). inr (inl (λ c. let q = place_inside table.stages at c.0 in absurd (omega (arith, p, q)))))
+    (cases_lt (place_of at) (places_of table.stages))
+
 -- a count is kept of a location at a time, or isn't
 pub counted_or_not : (table : CountTable) (at : Loc) (t : ℕ) → IsCounted table at t ⊎ (IsCounted table at t → ⊥)
 counted_or_not table at t =
     ⊎_elim
-    (λ (p : place_of at < places_of table.stages).
+    (λ (c : IsCounted table at t). inl c)
+    (λ (h : (IsLocation table.stages at × Contains table.times t → ⊥) ⊎ (IsLocation table.stages at × Contains table.times t × (t < low_of table at))).
+    inr (λ c.
     ⊎_elim
-    (λ (f : (k : ℕ) × (k < length table.times) × (get_or table.times k 0 ≡ t)). inl (location_placed table.stages at p, contains_there table.times t f.0 f.1 f.2))
-    (λ (m : HasNot table.times t). inr (λ c. has_not_contained table.times t m c.1))
-    (find_time table.times t))
-    (λ (p : places_of table.stages ≤ place_of at). inr (λ c. let q = place_inside table.stages at c.0 in absurd (omega arith)))
-    (cases_lt (place_of at) (places_of table.stages))
+    (λ (n : IsLocation table.stages at × Contains table.times t → ⊥). n (c.0, c.1))
+    (λ (g : IsLocation table.stages at × Contains table.times t × (t < low_of table at)). let l : t < low_of table at = g.2 in let k : low_of table at ≤ t = c.2 in absurd (omega (arith, l, k)))
+    h))
+    (counted_or_gone table at t)

@@ -1,5 +1,5 @@
 //! Counts by location and time.
-ghost use Rattle.std.specs.Prelude.{◌≡◌, ◌<◌, ◌≤◌, ℕ, pos, ◌+ℤ◌, Contains, IfOk, OnOk, FitsSigned, List, length, true, false};
+ghost use Rattle.std.specs.Prelude.{◌≡◌, ◌<◌, ◌≤◌, ◌^◌, ℕ, max, pos, ◌+ℤ◌, Contains, IfOk, OnOk, FitsSigned, List, length, true, false};
 ghost use Rattle.std.specs.Int.{w128};
 ghost use Rattle.std.specs.List.Sorted.{IsStrictlyIncreasing};
 ghost use Rattle.mp_names.specs.Frontiers.{IsFrontierOf};
@@ -7,13 +7,15 @@ ghost use Rattle.mp_names.specs.Limits.{most_stages};
 ghost use Rattle.mp_names.specs.Locations.{IsLocation};
 ghost use Rattle.mp_names.specs.declared.locations.Frontier.{Frontier};
 ghost use Rattle.mp_names.specs.declared.locations.Loc.{Loc};
-ghost use Rattle.mp_stamps.specs.Counts.{AreZeroRows, IsCounted, IsFirstFor, SamePlaces, count_in};
+ghost use Rattle.mp_stamps.specs.Counts.{AreZeroRows, IsCounted, IsFirstFor, SamePlaces, count_in, low_of, piece_start};
 ghost use Rattle.mp_stamps.specs.Flow.{IsFirstTime, KeepsFrontiers};
 ghost use Rattle.mp_stamps.specs.Places.{places_of};
 
 use crate::hints::Hints;
 use crate::least::{first_in, has_moved};
 use crate::near::index_of;
+use crate::piece::PIECE;
+use crate::pieces::{has_no_piece_below, pieces_below};
 use crate::place::{PLACES, loc_at, place_of};
 use crate::reaching::reaches;
 use crate::row::Row;
@@ -41,14 +43,14 @@ impl Model for Counts {
 
     ghost Value = { CountTable };
 
-    ghost use Rattle.mp_stamps.specs.Counts.{IsTable};
+    ghost use Rattle.mp_stamps.specs.Counts.{IsTable, table_of_rows};
     ghost use Rattle.mp_stamps.specs.Flow.{AreFirstTimes};
 
-    ghost view = { λ c. record { stages = c.stages; times = c.times.items; rows = c.rows.items } };
+    ghost view = { λ c. table_of_rows c.stages c.times.items c.rows.items };
 
     ghost invariant = { λ c.
-        IsTable (record { stages = c.stages; times = c.times.items; rows = c.rows.items })
-        × AreFirstTimes (record { stages = c.stages; times = c.times.items; rows = c.rows.items }) c.firsts };
+        IsTable (table_of_rows c.stages c.times.items c.rows.items)
+        × AreFirstTimes (table_of_rows c.stages c.times.items c.rows.items) c.firsts };
 }
 
 impl Counts {
@@ -60,6 +62,7 @@ impl Counts {
         ensures none { IfOk result (λ counts. (at : Loc) (t : ℕ) → count_in counts at t ≡ pos 0) }
         ensures stages { IfOk result (λ counts. counts.stages ≡ stages) }
         ensures times { IfOk result (λ counts. counts.times ≡ times.now) }
+        ensures kept { IfOk result (λ counts. (at : Loc) → low_of counts at ≡ 0) }
     {
         let mut own = Vec::with_capacity(alloc, times.len())?;
         own.extend_from_slice(times)?;
@@ -75,7 +78,8 @@ impl Counts {
 
     /// Adds to the count of a location at a time, and gives whether another time is now the least there with a count other
     /// than 0; where it isn't, all frontiers stay. What is added where no count is kept is dropped: at a location that the
-    /// job hasn't, or a time that isn't in the list. The sum fits an `i128`.
+    /// job hasn't, a time that isn't in the list, or one whose counts were given back. The sum fits an `i128`. Takes no
+    /// memory.
     pub fn add(&mut self, loc: Loc, time: Time, by: i64) -> bool
         requires { IsCounted self.old loc time → FitsSigned w128 (count_in self.old loc time +ℤ by) }
         ensures counted { IsCounted self.old loc time → count_in self.new loc time ≡ count_in self.old loc time +ℤ by }
@@ -94,12 +98,38 @@ impl Counts {
         let Ok(index) = index_of(&self.times, near, time) else {
             return false;
         };
+        if index / PIECE < self.rows[place].given() {
+            return false;
+        }
         self.rows[place].add(index, by);
         let before = self.firsts[place];
         let after = first_in(&self.times, &self.rows[place]);
         self.firsts[place] = after;
         self.hints.note(time, index);
         has_moved(before, after)
+    }
+
+    /// Gives back the pieces of the counts of a location whose times are all below one, before which no count there is
+    /// other than 0. Takes no memory.
+    pub fn drop_below(&mut self, loc: Loc, time: Time)
+        requires none { (t : ℕ) → t < time → count_in self.old loc t ≡ pos 0 }
+        ensures counts { (at : Loc) (t : ℕ) → count_in self.new at t ≡ count_in self.old at t }
+        ensures given_back { IsLocation self.old.stages loc →
+            low_of self.new loc ≡ max (low_of self.old loc) (piece_start self.old.times time) }
+        ensures kept { (t : ℕ) → time ≤ t → IsCounted self.old loc t → IsCounted self.new loc t }
+        ensures others { (at : Loc) → ¬ (at ≡ loc) → low_of self.new at ≡ low_of self.old at }
+        ensures same { (self.new.stages ≡ self.old.stages) × (self.new.times ≡ self.old.times) }
+        ensures frontiers { KeepsFrontiers self.old self.new }
+    {
+        let place = place_of(loc);
+        if place >= self.rows.len() {
+            return;
+        }
+        if has_no_piece_below(&self.times, self.rows[place].given(), time) {
+            return;
+        }
+        let count = pieces_below(&self.times, time);
+        self.rows[place].give_back(count);
     }
 
     // An index from which a time is looked for at a location.
@@ -173,6 +203,7 @@ impl Counts {
 
 // Rows of counts that are all 0.
 fn zero_rows(alloc: Global, places: u32, times: usize) -> Result<Vec<Row>, AllocError>
+    requires { times < 2 ^ 62 }
     ensures { IfOk result (λ rows. AreZeroRows places times rows.items) }
 {
     let mut rows = Vec::new(alloc);

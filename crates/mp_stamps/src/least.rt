@@ -1,5 +1,5 @@
 //! The least time of outstanding work at a location.
-ghost use Rattle.std.specs.Prelude.{◌≡◌, ◌↔◌, false, length};
+ghost use Rattle.std.specs.Prelude.{◌≡◌, ◌↔◌, ◌≤◌, false, length};
 ghost use Rattle.std.specs.List.Sorted.{IsStrictlyIncreasing};
 ghost use Rattle.mp_stamps.specs.Counts.{count_of};
 ghost use Rattle.mp_stamps.specs.Flow.{IsFirstTime};
@@ -10,8 +10,8 @@ use mp_names::{Frontier, Time};
 /// The least time with a count other than 0 in a row of counts at these times; `Done` where there is none.
 pub(crate) fn first_in(times: &[Time], row: &Row) -> Frontier
     requires rising { IsStrictlyIncreasing times.now }
-    requires long { length row.now ≡ length times.now }
-    ensures { IsFirstTime (count_of times.now row.now) result }
+    requires long { length times.now ≤ length row.now.counts }
+    ensures { IsFirstTime (count_of times.now row.now.counts) result }
 {
     match times.get(row.first()) {
         Some(time) => Frontier::At(*time),

@@ -27,7 +27,7 @@ pub fn place_of(loc: Loc) -> usize
 }
 
 /// The location of a place.
-pub(crate) fn loc_at(place: u32) -> Loc
+pub fn loc_at(place: u32) -> Loc
     ensures there { place_of result ≡ place }
     ensures alone { (at : Loc) → place_of at ≡ place → at ≡ result }
 {

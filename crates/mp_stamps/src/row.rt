@@ -1,52 +1,49 @@
 //! The counts of one location.
-ghost use Rattle.std.specs.Prelude.{◌≡◌, ◌≢◌, ◌<◌, ◌≤◌, ◌+◌, ◌-◌, ◌^◌, ℕ, pos, ◌+ℤ◌, IfOk, FitsSigned, count_by, get_or, length, replicate, slice_set};
+ghost use Rattle.std.specs.Prelude.{◌≡◌, ◌<◌, ◌≤◌, ◌+◌, ◌*◌, ◌/◌, ◌^◌, ℕ, pos, ◌+ℤ◌, max, IfOk, FitsSigned, count_by, length, replicate, slice_set};
 ghost use Rattle.std.specs.Int.{w128};
-ghost use Rattle.mp_stamps.specs.Rows.{AreNumbered, IsFirstBut, IsFirstOpen, count_there, is_outstanding, number_of};
+ghost use Rattle.mp_stamps.specs.Rows.{AreFresh, AreWhole, GivesBack, IsFirst, IsFirstBut, IsFirstOpen, IsZeroAt, IsZeroPiece, count_there, is_outstanding, joined, pieces_of};
 
+use crate::piece::{PIECE, Piece};
 use std::alloc::{AllocError, Global};
 use std::marker::Model;
 
-// As many counts as are numbered together.
-const BLOCK: usize = 256;
-
-/// The counts of one location, by the indices of the times. Contracts see the list of them.
+/// The counts of one location, by the indices of the times, in pieces. Contracts see the list of them, and how many pieces
+/// were given back.
 #[derive(Drop)]
 pub struct Row {
-    counts: Vec<i128>,
-    // How many of them are other than 0, and where the first of these is.
+    pieces: Vec<Piece>,
+    // How many of them were given back.
+    given: usize,
+    // How many counts are other than 0, and which is the first piece with one.
     outstanding: usize,
     first: usize,
-    // How many of each block of them are other than 0.
-    numbers: Vec<usize>,
     // The index that changed last.
     near: usize,
 }
 
 impl Model for Row {
-    ghost use Rattle.std.specs.Prelude.{List, ℤ};
-    ghost use Rattle.mp_stamps.specs.Rows.{AreNumbered, IsRow};
+    ghost use Rattle.mp_stamps.specs.Rows.{IsRow, RowState, joined};
 
-    ghost Value = { List ℤ };
+    ghost Value = { RowState };
 
-    ghost view = { λ r. r.counts.items };
+    ghost view = { λ r. record { given = r.given; counts = joined r.pieces.items } };
 
-    ghost invariant = { λ r. IsRow r.counts.items r.outstanding r.first × AreNumbered r.counts.items r.numbers.items };
+    ghost invariant = { λ r. IsRow r.pieces.items r.given r.outstanding r.first };
 }
 
 impl Row {
-    /// Counts that are all 0. `AllocError`: no memory.
+    /// Counts of so many times that are all 0, in whole pieces. `AllocError`: no memory.
     pub(crate) fn zeros(alloc: Global, times: usize) -> Result<Row, AllocError>
-        ensures { IfOk result (λ row. row ≡ replicate times (pos 0)) }
+        requires { times < 2 ^ 62 }
+        ensures { IfOk result (λ row. row ≡ record { given = 0; counts = replicate (1024 * pieces_of times) (pos 0) }) }
     {
-        let mut counts = Vec::with_capacity(alloc, times)?;
-        for _ in 0..times {
-            counts.push(0)?;
-        }
+        let pieces = zero_pieces(alloc, times / PIECE + 1)?;
+        let first = pieces.len();
         Ok(Row {
-            counts,
+            pieces,
+            given: 0,
             outstanding: 0,
-            first: times,
-            numbers: none_open(alloc, times / BLOCK + 1)?,
+            first,
             near: 0,
         })
     }
@@ -56,138 +53,115 @@ impl Row {
         self.near
     }
 
+    /// How many pieces were given back.
+    pub(crate) fn given(&self) -> usize
+        ensures { result ≡ self.now.given }
+    {
+        self.given
+    }
+
     /// The count at an index.
     pub(crate) fn at(&self, index: usize) -> i128
-        requires { index < length self.now }
-        ensures { result ≡ count_there self.now index }
+        requires { index < length self.now.counts }
+        ensures { result ≡ count_there self.now.counts index }
     {
-        self.counts[index]
+        self.pieces[index / PIECE].at(index % PIECE)
     }
 
     /// The index of the first count other than 0, or the number of counts.
     pub(crate) fn first(&self) -> usize
-        ensures { IsFirstOpen self.now result }
+        ensures { IsFirstOpen self.now.counts result }
     {
-        self.first
+        match self.pieces.get(self.first) {
+            Some(piece) => PIECE * self.first + piece.first(),
+            None => PIECE * self.pieces.len(),
+        }
     }
 
-    /// Adds to the count at an index. The sum fits an `i128`.
+    /// Adds to the count at an index, whose piece wasn't given back. The sum fits an `i128`. Takes no memory.
     pub(crate) fn add(&mut self, index: usize, by: i64)
-        requires index { index < length self.old }
-        requires fits { FitsSigned w128 (count_there self.old index +ℤ by) }
-        ensures { self.new ≡ slice_set self.old index (count_there self.old index +ℤ by) }
+        requires index { index < length self.old.counts }
+        requires kept { self.old.given ≤ index / 1024 }
+        requires fits { FitsSigned w128 (count_there self.old.counts index +ℤ by) }
+        ensures given { self.new.given ≡ self.old.given }
+        ensures counts { self.new.counts ≡ slice_set self.old.counts index (count_there self.old.counts index +ℤ by) }
     {
-        let before = self.counts[index];
-        let after = before + i128::from(by);
-        self.counts[index] = after;
-        self.outstanding = recounted(self.outstanding, before, after);
-        let block = index / BLOCK;
-        self.numbers[block] = recounted(self.numbers[block], before, after);
-        self.first = first_after(
-            &self.counts,
-            &self.numbers,
-            self.outstanding,
-            self.first,
-            index,
-        );
+        let place = index / PIECE;
+        let before = self.pieces[place].outstanding();
+        self.pieces[place].add(index % PIECE, by);
+        let after = self.pieces[place].outstanding();
+        self.outstanding = self.outstanding + after - before;
+        self.first = first_after(&self.pieces, self.outstanding, self.first, place);
         self.near = index;
     }
-}
 
-// Numbers of blocks that have no count other than 0. `AllocError`: no memory.
-fn none_open(alloc: Global, blocks: usize) -> Result<Vec<usize>, AllocError>
-    ensures { IfOk result (λ numbers. numbers.items ≡ replicate blocks 0) }
-{
-    let mut numbers = Vec::with_capacity(alloc, blocks)?;
-    for _ in 0..blocks {
-        numbers.push(0)?;
-    }
-    Ok(numbers)
-}
-
-// How many counts are other than 0 after one of them changed.
-fn recounted(outstanding: usize, before: i128, after: i128) -> usize
-    requires some { number_of before ≤ outstanding }
-    requires few { outstanding < 2 ^ 64 - 1 }
-    ensures { result + number_of before ≡ outstanding + number_of after }
-{
-    match (before == 0, after == 0) {
-        (true, false) => outstanding + 1,
-        (false, true) => outstanding - 1,
-        _ => outstanding,
+    /// Gives back the first so many pieces, in which all counts are 0. Takes no memory.
+    pub(crate) fn give_back(&mut self, count: usize)
+        requires count { 1024 * count ≤ length self.old.counts }
+        requires zero { (k : ℕ) → k < 1024 * count → IsZeroAt self.old.counts k }
+        ensures { self.new ≡ record { given = max self.old.given count; counts = self.old.counts } }
+    {
+        if count > self.given {
+            give_back_between(&mut self.pieces, self.given, count);
+            self.given = count;
+        }
     }
 }
 
-// The index of the first count other than 0 after the one at an index changed.
-fn first_after(
-    counts: &[i128],
-    numbers: &[usize],
-    outstanding: usize,
-    first: usize,
-    index: usize,
-) -> usize
-    requires index { index < length counts.now }
-    requires numbers { AreNumbered counts.now numbers.now }
-    requires outstanding { outstanding ≡ count_by is_outstanding counts.now }
-    requires before { IsFirstBut counts.now first index }
-    ensures { IsFirstOpen counts.now result }
+// So many pieces of counts that are all 0. `AllocError`: no memory.
+fn zero_pieces(alloc: Global, count: usize) -> Result<Vec<Piece>, AllocError>
+    ensures { IfOk result (λ pieces. AreFresh count pieces.items) }
+{
+    let mut pieces = Vec::with_capacity(alloc, count)?;
+    for _ in 0..count {
+        pieces.push(Piece::zeros(alloc)?)?;
+    }
+    Ok(pieces)
+}
+
+// Gives back the pieces between two places, in which all counts are 0.
+fn give_back_between(pieces: &mut Vec<Piece>, from: usize, to: usize)
+    requires order { from ≤ to }
+    requires inside { to ≤ length pieces.old.items }
+    requires zero { (b : ℕ) → b < to → IsZeroPiece pieces.old.items b }
+    ensures { GivesBack from to pieces.old.items pieces.new.items }
+{
+    for place in from..to {
+        pieces[place].give_back();
+    }
+}
+
+// The first piece with a count other than 0, or the number of pieces, after one changed.
+fn first_after(pieces: &[Piece], outstanding: usize, first: usize, changed: usize) -> usize
+    requires whole { AreWhole pieces.now }
+    requires inside { changed < length pieces.now }
+    requires outstanding { outstanding ≡ count_by is_outstanding (joined pieces.now) }
+    requires before { IsFirstBut (IsZeroPiece pieces.now) (length pieces.now) first changed }
+    ensures { IsFirst (IsZeroPiece pieces.now) (length pieces.now) result }
 {
     if outstanding == 0 {
-        return counts.len();
+        return pieces.len();
     }
-    if counts[index] != 0 {
-        return first.min(index);
+    if pieces[changed].first() < PIECE {
+        return first.min(changed);
     }
-    if index != first {
+    if changed != first {
         return first;
     }
-    next_open(counts, numbers, first + 1)
+    next_open(pieces, first + 1)
 }
 
-// The index of the first count other than 0, from an index on before which there is none: in the index's block, or in the
-// next block that has one.
-fn next_open(counts: &[i128], numbers: &[usize], from: usize) -> usize
-    requires from { from ≤ length counts.now }
-    requires quiet { (k : ℕ) → k < from → count_there counts.now k ≡ pos 0 }
-    requires numbers { AreNumbered counts.now numbers.now }
-    ensures { IsFirstOpen counts.now result }
+// The first piece with a count other than 0, from one on before which there is none, or the number of pieces.
+fn next_open(pieces: &[Piece], from: usize) -> usize
+    requires whole { AreWhole pieces.now }
+    requires inside { from ≤ length pieces.now }
+    requires quiet { (b : ℕ) → b < from → IsZeroPiece pieces.now b }
+    ensures { IsFirst (IsZeroPiece pieces.now) (length pieces.now) result }
 {
-    let block = from / BLOCK + 1;
-    let end = counts.len().min(BLOCK.saturating_mul(block));
-    let here = next_within(counts, from, end);
-    if here < end {
-        return here;
-    }
-    let next = next_block(numbers, block);
-    let start = counts.len().min(BLOCK.saturating_mul(next));
-    next_within(counts, start, counts.len())
-}
-
-// The index of the first count other than 0, between an index before which there is none and an end.
-fn next_within(counts: &[i128], from: usize, end: usize) -> usize
-    requires from { from ≤ end }
-    requires end { end ≤ length counts.now }
-    requires quiet { (k : ℕ) → k < from → count_there counts.now k ≡ pos 0 }
-    ensures inside { result ≤ end }
-    ensures quiet { (k : ℕ) → k < result → count_there counts.now k ≡ pos 0 }
-    ensures open_there { result < end → count_there counts.now result ≢ pos 0 }
-{
-    for index in from..end {
-        if counts[index] != 0 {
-            return index;
+    for place in from..pieces.len() {
+        if pieces[place].first() < PIECE {
+            return place;
         }
     }
-    end
-}
-
-// The first block from one on that has a count other than 0, or one past the last.
-fn next_block(numbers: &[usize], from: usize) -> usize
-    ensures { (b : ℕ) → from ≤ b → b < result → b < length numbers.now → get_or numbers.now b 0 ≡ 0 }
-{
-    for block in from..numbers.len() {
-        if numbers[block] != 0 {
-            return block;
-        }
-    }
-    numbers.len()
+    pieces.len()
 }

@@ -9,6 +9,8 @@ mod faults;
 #[cfg(test)]
 mod fixture;
 #[cfg(test)]
+mod stops;
+#[cfg(test)]
 mod threads;
 #[cfg(test)]
 mod workers;

@@ -2,7 +2,7 @@
 ghost use Rattle.mp_model.specs.Legal.{EventIsLegal};
 
 use crate::script::{Line, Part, follows};
-use mp_drive::DriveStop;
+use mp_board::Cause;
 use mp_job::{Event, Job, Shape};
 use mp_model::Value;
 use mp_names::{Frontier, Kind, Loc, Name, Tag};
@@ -135,7 +135,7 @@ fn parts<'l>(ingested: &'l [Line], sent: &'l [Line]) -> [Part<'l>; 3] {
 }
 
 #[test]
-fn seventy_in_two_bundles(rt: HostRuntime) -> Result<(), DriveStop> {
+fn seventy_in_two_bundles(rt: HostRuntime) -> Result<(), Cause> {
     let job = seventy_bids(rt.alloc())?;
     let ingested = ingested(rt.alloc())?;
     let sent = rows_sent(rt.alloc())?;

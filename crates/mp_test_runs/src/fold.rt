@@ -3,8 +3,9 @@ ghost use Rattle.std.specs.Prelude.{◌≡◌, ◌<◌};
 ghost use Rattle.mp_model.specs.Tables.{table_of};
 ghost use Rattle.mp_output.specs.Rows.{GivesRows};
 
+use mp_board::Cause;
 use mp_control::{RuleList, read_settings};
-use mp_drive::{DriveStop, replay};
+use mp_drive::replay;
 use mp_events::read_events;
 use mp_fold::answer_pieces;
 use mp_gate::OpenGate;
@@ -110,7 +111,7 @@ pub fn writes<Q: Query, J: Naming>(
     depth: u32,
     seed: u64,
     answer: &[u8],
-) -> Result<(), DriveStop>
+) -> Result<(), Cause>
     requires job { job.now ≡ J.job }
     requires rows { GivesRows (table_of Q.facts J.job) }
 {

@@ -2,7 +2,7 @@
 ghost use Rattle.mp_model.specs.Legal.{EventIsLegal};
 
 use crate::script::{Line, Part, follows};
-use mp_drive::DriveStop;
+use mp_board::Cause;
 use mp_job::{Control, Event, Job, Shape};
 use mp_model::Value;
 use mp_names::{Frontier, Kind, Loc, Name, Tag};
@@ -229,7 +229,7 @@ const PARTS: [Part<'static>; 7] = [
 ];
 
 #[test]
-fn gated_handoff(rt: HostRuntime) -> Result<(), DriveStop> {
+fn gated_handoff(rt: HostRuntime) -> Result<(), Cause> {
     let job = one_move(rt.alloc())?;
     follows::<Q4, Brand>(&rt, rt.alloc(), &job, 64, &PARTS)
 }

@@ -2,7 +2,8 @@
 ghost use Rattle.std.specs.Prelude.{◌≡◌, ◌<◌};
 
 use crate::handing::one_move;
-use mp_drive::{Draws, DriveStop, replay};
+use mp_board::Cause;
+use mp_drive::{Draws, replay};
 use mp_gate::{Gate, OpenGate};
 use mp_job::Job;
 use mp_model::Naming;
@@ -158,7 +159,7 @@ fn seed_makes_the_steps<J: Naming>(
     job: &Job<Q4>,
     gate: &ListedGate,
     sink: &mut MemSink,
-) -> Result<(), DriveStop>
+) -> Result<(), Cause>
     requires { job.now ≡ J.job }
 {
     let made = replay::<Q4, J, _, _>(alloc, job, 64, 0, gate, sink)?;
@@ -168,7 +169,7 @@ fn seed_makes_the_steps<J: Naming>(
 }
 
 #[test]
-fn the_schedule_of_seed_0(rt: HostRuntime) -> Result<(), DriveStop> {
+fn the_schedule_of_seed_0(rt: HostRuntime) -> Result<(), Cause> {
     let job = one_move(rt.alloc())?;
     let gate = listed(rt.alloc())?;
     let mut sink = MemSink::new(rt.alloc());
@@ -178,7 +179,7 @@ fn the_schedule_of_seed_0(rt: HostRuntime) -> Result<(), DriveStop> {
 }
 
 // How many steps the schedule of a seed has.
-fn steps_of_seed<J: Naming>(alloc: Global, job: &Job<Q4>, seed: u64) -> Result<u64, DriveStop>
+fn steps_of_seed<J: Naming>(alloc: Global, job: &Job<Q4>, seed: u64) -> Result<u64, Cause>
     requires { job.now ≡ J.job }
 {
     let mut sink = MemSink::new(alloc);
@@ -186,7 +187,7 @@ fn steps_of_seed<J: Naming>(alloc: Global, job: &Job<Q4>, seed: u64) -> Result<u
 }
 
 #[test]
-fn other_seeds_make_other_steps(rt: HostRuntime) -> Result<(), DriveStop> {
+fn other_seeds_make_other_steps(rt: HostRuntime) -> Result<(), Cause> {
     let job = one_move(rt.alloc())?;
     for (seed, steps) in [(1, 46), (7, 50), (281_474_976_710_656, 46)] {
         let made = steps_of_seed::<Brand>(rt.alloc(), &job, seed)?;

@@ -3,7 +3,8 @@ ghost use Rattle.std.specs.Prelude.{◌≡◌};
 ghost use Rattle.mp_output.specs.Rows.{GivesRows};
 ghost use Rattle.mp_model.specs.Tables.{table_of};
 
-use mp_drive::{DriveStop, Plain};
+use mp_board::Cause;
+use mp_drive::Plain;
 use mp_job::Job;
 use mp_model::{Naming, Query};
 use mp_names::{Frontier, Kind, Loc};
@@ -54,7 +55,7 @@ pub fn plays<Q: Query, J: Naming>(
     plain: &mut Plain<'_, Q, J>,
     lines: &[Line],
     sink: &mut MemSink,
-) -> Result<(), DriveStop> {
+) -> Result<(), Cause> {
     let steps = steps_of(alloc, lines)?;
     let turns = plain.drive_list(alloc, steps.as_slice(), sink)?;
     are_as_wanted(rt, turns.as_slice(), lines);
@@ -68,7 +69,7 @@ fn goes_on<Q: Query, J: Naming>(
     plain: &mut Plain<'_, Q, J>,
     parts: &[Part<'_>],
     sink: &mut MemSink,
-) -> Result<(), DriveStop> {
+) -> Result<(), Cause> {
     for part in parts {
         plays(rt, alloc, plain, part.lines, sink)?;
         assert!(rt; plain.seen().frontier(part.at) == part.frontier);
@@ -83,7 +84,7 @@ pub fn follows<Q: Query, J: Naming>(
     job: &Job<Q>,
     depth: u32,
     parts: &[Part<'_>],
-) -> Result<(), DriveStop>
+) -> Result<(), Cause>
     requires job { job.now ≡ J.job }
     requires rows { GivesRows (table_of Q.facts J.job) }
 {

@@ -3,7 +3,8 @@ ghost use Rattle.std.specs.Prelude.{◌≡◌, ◌≤◌, length};
 ghost use Rattle.mp_model.specs.Legal.{EventIsLegal};
 
 use crate::script::{Line, Part, follows};
-use mp_drive::{DriveStop, Plain};
+use mp_board::Cause;
+use mp_drive::Plain;
 use mp_gate::OpenGate;
 use mp_job::{Event, Job, Shape, Time};
 use mp_model::{Naming, Value};
@@ -131,7 +132,7 @@ const COUNTS_CANCEL: [Part<'static>; 3] = [
 ];
 
 #[test]
-fn counts_cancel(rt: HostRuntime) -> Result<(), DriveStop> {
+fn counts_cancel(rt: HostRuntime) -> Result<(), Cause> {
     let job = job_of(rt.alloc(), &TWO_BIDS)?;
     follows::<Q1, Brand>(&rt, rt.alloc(), &job, 64, &COUNTS_CANCEL)
 }
@@ -208,7 +209,7 @@ const SHARES_BY_INDEX: [Part<'static>; 2] = [
 ];
 
 #[test]
-fn shares_by_index(rt: HostRuntime) -> Result<(), DriveStop> {
+fn shares_by_index(rt: HostRuntime) -> Result<(), Cause> {
     let job = job_of(rt.alloc(), &FOUR_BIDS)?;
     follows::<Q1, Brand>(&rt, rt.alloc(), &job, 64, &SHARES_BY_INDEX)
 }
@@ -241,7 +242,7 @@ const NOT_THERE: [Part<'static>; 3] = [
 ];
 
 #[test]
-fn places_that_the_job_lacks(rt: HostRuntime) -> Result<(), DriveStop> {
+fn places_that_the_job_lacks(rt: HostRuntime) -> Result<(), Cause> {
     let job = job_of(rt.alloc(), &TWO_BIDS)?;
     follows::<Q1, Brand>(&rt, rt.alloc(), &job, 64, &NOT_THERE)
 }
@@ -291,7 +292,7 @@ fn starves_and_ends<J: Naming>(
     job: &Job<Q1>,
     places: &[(u32, Kind)],
     sink: &mut MemSink,
-) -> Result<(), DriveStop>
+) -> Result<(), Cause>
     requires job { job.now ≡ J.job }
 {
     let mut plain = Plain::<Q1, J>::open(alloc, job, 64)?;
@@ -306,7 +307,7 @@ fn ends_with_rows(rt: &impl Abort, sink: &MemSink) {
 }
 
 #[test]
-fn starved_worker(rt: HostRuntime) -> Result<(), DriveStop> {
+fn starved_worker(rt: HostRuntime) -> Result<(), Cause> {
     let job = job_of(rt.alloc(), &TWO_BIDS)?;
     let places = places_of_two(rt.alloc())?;
     let mut sink = MemSink::new(rt.alloc());

@@ -21,7 +21,9 @@ fn push_and_pop(
     let took = receive(post, got)?;
     let more = receive(post, got)?;
     assert!(rt; took && !more);
+    assert!(rt; post.is_empty(0, 1));
     assert!(rt; send(post, 1).is_ok());
+    assert!(rt; !post.is_empty(0, 1));
     Ok(())
 }
 

@@ -178,7 +178,9 @@ fn push_and_pop_in_turns<P: Post<Number>, Q: Post<Number>>(
     let took = receive(second, got)?;
     let more = receive(second, got)?;
     assert!(rt; took && !more);
+    assert!(rt; second.is_empty(0, 1));
     assert!(rt; send(first, 1).is_ok());
+    assert!(rt; !second.is_empty(0, 1));
     Ok(())
 }
 

@@ -5,8 +5,9 @@ use Rattle.std.specs.declared.result.Result.{Result}
 use Rattle.mp_names.specs.Logs.{empty_log}
 use Rattle.mp_names.specs.Outlines.{Outline}
 use Rattle.mp_worker_refinement.specs.State.{WorkerState}
+use Rattle.mp_threads_member.specs.Driving.{IsFinished}
 use Rattle.mp_threads_member.specs.Members.{MemberState}
-use Rattle.mp_threads.specs.Crews.{AreByNumber, AreFinished, HasDoneNothing, IsFinished}
+use Rattle.mp_threads.specs.Crews.{AreByNumber, AreFinished, HasDoneNothing}
 use Rattle.mp_threads.proofs.Lists.{all_at, all_head, as_many, numbers_same}
 
 pub record Begins (m : MemberState) : Type 0 where

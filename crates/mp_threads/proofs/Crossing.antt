@@ -16,7 +16,7 @@ use Rattle.mp_threads_member.below.mp_host.proofs.host.Host.TheSendSync as host
 use Rattle.mp_threads_member.below.mp_handoff.proofs.movers.Movers.TheSendSync as movers
 use Rattle.mp_output.proofs.unsent.Unsent.TheSendSync as unsent
 use Rattle.mp_output.proofs.rows.Rows.TheSendSync as rows
-use Rattle.mp_threads_member.below.mp_worker_parts.proofs.room.ChangeLists.TheSendSync as lists
+use Rattle.mp_threads_member.below.mp_worker_steps.proofs.lists.ChangeLists.TheSendSync as lists
 use Rattle.mp_seat.proofs.lock.SeatLock.TheSendSync as lock
 use Rattle.mp_seat.proofs.seat.Seat.TheSendSync as seat
 use Rattle.mp_stamps.proofs.counts.Counts.TheSendSync as counts

@@ -26,7 +26,7 @@ module _ {A : Type 0} (P : A → Type 0) where
   pub all_at : (xs : List A) (k : ℕ) (x : A) → All P xs → slice_get xs k ≡ Some x → P x
   all_at xs k x h e = subst P (get_or_from_slice_get xs k x x e) (h k x (slice_get_within xs k x e))
 
-shift : {A : Type 0} (f : A → ℕ) (xs : List A) (x : A) (rest : List ℕ) → map f (xs ++ x ∷ []) ++ rest ≡ map f xs ++ (f x ∷ rest)
+shift : {A C : Type 0} (f : A → C) (xs : List A) (x : A) (rest : List C) → map f (xs ++ x ∷ []) ++ rest ≡ map f xs ++ (f x ∷ rest)
 shift f [] x rest = refl
 shift f (y ∷ ys) x rest = ap (λ l. f y ∷ l) (shift f ys x rest)
 
@@ -39,6 +39,23 @@ passed_on f h now was x left rest y all put took same before =
     ∙ ap (λ n. map f was ++ (n ∷ map h rest)) same
     ∙ sym (ap (λ l. map f was ++ map h l) took)
     ∙ before
+
+-- and so does what is read of those that are done, with what is left of it
+pub read_on : {A C : Type 0} (f : A → C) (now was : List A) (x : A) (left rest : List C) (y : C) (all : List C)
+    → now ≡ was ++ x ∷ [] → left ≡ y ∷ rest → f x ≡ y → map f was ++ left ≡ all → map f now ++ rest ≡ all
+read_on f now was x left rest y all put took same before =
+    ap (λ l. map f l ++ rest) put ∙ shift f was x rest ∙ ap (λ z. map f was ++ (z ∷ rest)) same ∙ sym (ap (λ l. map f was ++ l) took) ∙ before
+
+-- once as many are done as there are, nothing is left
+pub read_all : {A C : Type 0} (f : A → C) (done : List A) (left all : List C) → map f done ++ left ≡ all → length all ≡ length done → map f done ≡ all
+read_all f [] [] all is many = is
+read_all f [] (y ∷ left) [] is many = absurd cc
+read_all f [] (y ∷ left) (z ∷ all) is many = absurd (omega (arith, many))
+read_all f (x ∷ done) left [] is many = absurd cc
+read_all f (x ∷ done) left (z ∷ all) is many =
+    let rest : map f done ++ left ≡ all = cc in
+    let head : f x ≡ z = cc in
+    ap (λ l. f x ∷ l) (read_all f done left all rest (omega (arith, many))) ∙ ap (λ y. y ∷ all) head
 
 -- and so does the room
 pub room_left : {A B : Type 0} (now was : List A) (x : A) (left rest : List B) (y : B) (room more : ℕ)

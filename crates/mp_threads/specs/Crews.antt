@@ -1,25 +1,30 @@
 -- The workers of a job, before they begin and once they are finished.
-use Rattle.std.specs.Prelude.{◌≡◌, ℕ, List, Some, length, slice_get}
-use Rattle.mp_names.specs.Logs.{empty_log}
+use Rattle.std.specs.Prelude.{◌≡◌, ℕ, List, Some, length, map, slice_get}
+use Rattle.mp_names.specs.declared.names.Name.{Name}
+use Rattle.mp_names.specs.Logs.{Log, empty_log}
 use Rattle.mp_names.specs.Outlines.{Outline}
-use Rattle.mp_machine.specs.Promises.{LogIsFull}
+use Rattle.mp_ruled.specs.Posts.{PostState}
+use Rattle.mp_seat.specs.Seats.{SeatState}
 use Rattle.mp_worker_refinement.specs.State.{WorkerState}
-use Rattle.mp_worker_refinement.specs.SystemState.{KnowsTheEnd}
+use Rattle.mp_threads_member.specs.Driving.{IsFinished}
 use Rattle.mp_threads_member.specs.Members.{MemberState}
 
 -- the worker has an empty log, and posted that
 abbrev pub HasDoneNothing : MemberState → Type 0
 HasDoneNothing m = (m.worker.log ≡ empty_log) × (m.worker.posted ≡ empty_log)
 
+-- the ends that the workers have, by their order
+abbrev pub posts_of : List MemberState → List (PostState (List Name))
+posts_of members = map (λ m. m.post) members
+
+-- their seats
+abbrev pub seats_of : List MemberState → List (SeatState Log)
+seats_of members = map (λ m. m.hub) members
+
 -- There are so many, each at its number
 pub record AreByNumber (workers : ℕ) (members : List MemberState) : Type 0 where
   pub all : length members ≡ workers
   pub numbers : (k : ℕ) (m : MemberState) → slice_get members k ≡ Some m → m.worker.number ≡ k
-
--- The worker knows that all is over, and its log is full
-pub record IsFinished (o : Outline) (s : WorkerState) : Type 0 where
-  pub knows : KnowsTheEnd o s
-  pub full : LogIsFull o s.number s.log
 
 -- All workers of the outline, each at its number and finished
 pub record AreFinished (o : Outline) (workers : List WorkerState) : Type 0 where

@@ -1,25 +1,38 @@
 //! What a thread gives back.
+ghost use Rattle.std.specs.Prelude.{◌≡◌};
+ghost use Rattle.mp_threads.specs.Places.{member_in};
+
 use mp_model::{Naming, Query};
 use mp_threads_member::Member;
-use mp_worker::Worker;
 use std::thread::Promise;
 
-/// What a thread gives back of its worker.
+/// What a thread gives back of its worker: the worker with its ends and its seat, and what came of it.
 #[derive(Drop)]
-pub(crate) enum Back<W, M> {
+pub(crate) enum Back<M> {
     /// It knows that all is over.
-    Finished(W),
+    Finished(M),
     /// No thread could be made for it, and it was not driven.
     Undriven(M),
-    /// It stopped, and told the others so.
-    Stopped,
+    /// It stopped, and told the others so, or had it from them.
+    Stopped(M),
+}
+
+impl<M> Back<M> {
+    /// The worker, whatever came of it.
+    pub(crate) fn into_member(self) -> M
+        ensures { result ≡ member_in self }
+    {
+        match self {
+            Back::Finished(member) | Back::Undriven(member) | Back::Stopped(member) => member,
+        }
+    }
 }
 
 /// The promise that the worker of this number comes back.
 #[derive(Clone, Copy)]
 pub(crate) struct Numbered(pub(crate) u32);
 
-impl<'a, Q: Query, J: Naming, R> Promise<Back<Worker<'a, Q, J>, Member<'a, Q, J, R>>> for Numbered {
+impl<'a, Q: Query, J: Naming, R> Promise<Back<Member<'a, Q, J, R>>> for Numbered {
     ghost use Rattle.mp_outline.specs.JobOutline.{outline_of};
     ghost use Rattle.mp_threads.specs.Places.{IsBack};
     ghost use Rattle.mp_model.specs.Tables.{table_of};

@@ -5,9 +5,9 @@ ghost use Rattle.mp_model.specs.Tables.{table_of};
 ghost use Rattle.mp_outline.specs.JobOutline.{outline_of};
 ghost use Rattle.mp_output.specs.Rows.{GivesRows};
 ghost use Rattle.mp_board.specs.Boards.{ShowsFrontiers};
-ghost use Rattle.mp_ruled.specs.Posts.{AreNewPosts, StandForNone};
-ghost use Rattle.mp_threads_hub.specs.Hubs.{AreNewHubs};
-ghost use Rattle.mp_threads.specs.Crews.{AreByNumber, HasDoneNothing};
+ghost use Rattle.mp_ruled.specs.Posts.{AreLinked, AreNewPosts, StandForNone};
+ghost use Rattle.mp_threads_hub.specs.Hubs.{AreNewHubs, AreOfOneLock};
+ghost use Rattle.mp_threads.specs.Crews.{AreByNumber, HasDoneNothing, posts_of, seats_of};
 
 use mp_board::{Board, OutlineOf};
 use mp_job::Job;
@@ -42,8 +42,8 @@ impl<'a, Q: Query, J: Naming, R> Model for Crew<'a, Q, J, R> {
 }
 
 impl<'a, Q: Query, J: Naming, R: Copy + Drop> Crew<'a, Q, J, R> {
-    /// Workers that have done nothing, with mailboxes that take `depth` messages each, and wait by `rt`. The query's last
-    /// stage gives rows alone. `AllocError`: no memory.
+    /// Workers that have done nothing. Between each two of them is a mailbox that takes `depth` messages, with its ends at
+    /// these two; their seats are at one board. They wait by `rt`. The query's last stage gives rows alone. `AllocError`: no memory.
     pub fn open(
         rt: R,
         alloc: Global,
@@ -54,6 +54,9 @@ impl<'a, Q: Query, J: Naming, R: Copy + Drop> Crew<'a, Q, J, R> {
         requires rows { GivesRows (table_of Q.facts J.job) }
         requires depth { 0 < depth }
         ensures start { IfOk result (λ crew. All HasDoneNothing crew) }
+        ensures depth { IfOk result (λ crew. AreNewPosts J.job.shape.workers depth (posts_of crew)) }
+        ensures linked { IfOk result (λ crew. AreLinked (posts_of crew)) }
+        ensures one_lock { IfOk result (λ crew. AreOfOneLock (seats_of crew)) }
     {
         let workers = job.shape().workers;
         let board = Board::open(alloc, job)?;
@@ -83,6 +86,8 @@ fn new_members<'a, Q: Query, J: Naming, R: Drop>(
     requires new_posts { (depth : ℕ) × AreNewPosts J.job.shape.workers depth posts.items }
     ensures numbers { IfOk result (λ members. AreByNumber J.job.shape.workers members.items) }
     ensures new { IfOk result (λ members. All HasDoneNothing members.items) }
+    ensures posts { IfOk result (λ members. posts_of members.items ≡ posts.items) }
+    ensures seats { IfOk result (λ members. seats_of members.items ≡ hubs.items) }
 {
     let workers = job.shape().workers;
     let mut members = Vec::with_capacity(alloc, workers as usize)?;

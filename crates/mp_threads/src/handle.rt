@@ -7,13 +7,12 @@ ghost use Rattle.mp_model.specs.Tables.{table_of};
 use crate::back::{Back, Numbered};
 use mp_model::{Naming, Query};
 use mp_threads_member::Member;
-use mp_worker::Worker;
 use std::marker::{Model, PhantomData};
 use std::thread::{PromisedHandle, Threads};
 
 /// A thread that a worker is on. Contracts see the worker's number.
 pub(crate) struct Handle<'a, Q: Query, J: Naming, R: Drop> {
-    inner: PromisedHandle<Back<Worker<'a, Q, J>, Member<'a, Q, J, R>>, Numbered>,
+    inner: PromisedHandle<Back<Member<'a, Q, J, R>>, Numbered>,
     // The thread borrows the job of this query.
     job: PhantomData<&'a Q>,
 }
@@ -36,7 +35,7 @@ impl<'a, Q: Query, J: Naming, R: Drop> Drop for Handle<'a, Q, J, R> {
 impl<'a, Q: Query, J: Naming, R: Drop> Handle<'a, Q, J, R> {
     /// The handle of a thread that promised this.
     pub(crate) fn new(
-        inner: PromisedHandle<Back<Worker<'a, Q, J>, Member<'a, Q, J, R>>, Numbered>,
+        inner: PromisedHandle<Back<Member<'a, Q, J, R>>, Numbered>,
     ) -> Handle<'a, Q, J, R>
         ensures { result ≡ inner.entry.promise.0 }
     {
@@ -47,7 +46,7 @@ impl<'a, Q: Query, J: Naming, R: Drop> Handle<'a, Q, J, R> {
     }
 
     /// Waits for the thread.
-    pub(crate) fn join<T: Threads>(self, rt: &T) -> Back<Worker<'a, Q, J>, Member<'a, Q, J, R>>
+    pub(crate) fn join<T: Threads>(self, rt: &T) -> Back<Member<'a, Q, J, R>>
         ensures { IsBack (outline_of (table_of Q.facts J.job) J.job) self.entry result }
     {
         let Handle { inner, job: _ } = self;

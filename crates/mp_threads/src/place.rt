@@ -1,8 +1,8 @@
 //! Where a worker is.
-ghost use Rattle.std.specs.Prelude.{◌≡◌, IfSome};
+ghost use Rattle.std.specs.Prelude.{◌≡◌, IfErr};
 ghost use Rattle.mp_model.specs.Tables.{table_of};
 ghost use Rattle.mp_outline.specs.JobOutline.{outline_of};
-ghost use Rattle.mp_threads.specs.Places.{IsBackAt, number_of};
+ghost use Rattle.mp_threads.specs.Places.{ComesToEnd, HasTold, number_of};
 
 use crate::back::Back;
 use crate::handle::Handle;
@@ -10,7 +10,7 @@ use mp_gate::Gate;
 use mp_model::{Naming, Query};
 use mp_outside::NoSink;
 use mp_threads_member::{Member, Round};
-use mp_worker::{Stop, Worker};
+use mp_worker::Stop;
 use std::sync::Wait;
 use std::thread::Threads;
 
@@ -21,59 +21,55 @@ pub(crate) enum Place<H, M> {
     Away(H),
     /// With the caller, who drives it.
     Here(M),
-    /// It stopped. This was its number.
-    Lost(u32),
 }
 
 /// Where a worker of this query is.
 pub(crate) type Placed<'a, Q, J, R> = Place<Handle<'a, Q, J, R>, Member<'a, Q, J, R>>;
 
-/// One round of the worker, if it is here; what it came to. `Err`: it stopped, and told the others so.
+/// One round of the worker, if it is here; what it came to. `Err`: it stopped, and the others are told so.
 pub(crate) fn turn_here<'a, Q: Query, J: Naming, R: Wait + Drop, T: Wait, G: Gate>(
     place: &mut Placed<'a, Q, J, R>,
     rt: &T,
     gate: &G,
 ) -> Result<Round, Stop>
-    ensures { number_of place.new ≡ number_of place.old }
+    ensures number { number_of place.new ≡ number_of place.old }
+    ensures told { IfErr result (λ stop. HasTold place.new stop) }
 {
     match place {
         Place::Away(_) => Ok(Round::Over),
         Place::Here(member) => member.turn(rt, gate, &mut NoSink),
-        Place::Lost(_) => Err(Stop::Memory),
     }
 }
 
-/// The worker, once it has come to its end: here, or on a thread that is waited for. `None`: it stopped.
+/// The worker, once it has come to its end: here, or on a thread that is waited for. `Err`: it stopped, and the others are
+/// told so.
 pub(crate) fn finish<'a, Q: Query, J: Naming, R: Wait + Drop, T: Threads + Wait, G: Gate>(
     place: Placed<'a, Q, J, R>,
     rt: &T,
     gate: &G,
-) -> Option<Worker<'a, Q, J>>
-    ensures { let o = outline_of (table_of Q.facts J.job) J.job in
-        IfSome result (λ worker. IsBackAt o (number_of place.entry) worker) }
+) -> Result<Member<'a, Q, J, R>, Member<'a, Q, J, R>>
+    ensures { ComesToEnd (outline_of (table_of Q.facts J.job) J.job) (number_of place.entry) result }
 {
     match place {
         Place::Here(member) => drive_alone(member, rt, gate),
         Place::Away(handle) => match handle.join(rt) {
-            Back::Finished(worker) => Some(worker),
+            Back::Finished(member) => Ok(member),
             Back::Undriven(member) => drive_alone(member, rt, gate),
-            Back::Stopped => None,
+            Back::Stopped(member) => Err(member),
         },
-        Place::Lost(_) => None,
     }
 }
 
-/// Drives the worker to its end; it writes nothing. `None`: it stopped, and told the others so.
+/// Drives the worker to its end; it writes nothing. `Err`: it stopped, and the others are told so.
 pub(crate) fn drive_alone<'a, Q: Query, J: Naming, R: Wait + Drop, T: Wait, G: Gate>(
-    member: Member<'a, Q, J, R>,
+    mut member: Member<'a, Q, J, R>,
     rt: &T,
     gate: &G,
-) -> Option<Worker<'a, Q, J>>
-    ensures { let o = outline_of (table_of Q.facts J.job) J.job in
-        IfSome result (λ worker. IsBackAt o member.entry.worker.number worker) }
+) -> Result<Member<'a, Q, J, R>, Member<'a, Q, J, R>>
+    ensures { ComesToEnd (outline_of (table_of Q.facts J.job) J.job) member.entry.worker.number result }
 {
     match member.drive(rt, gate, &mut NoSink) {
-        Ok(member) => Some(member.into_worker()),
-        Err(_) => None,
+        Ok(()) => Ok(member),
+        Err(_) => Err(member),
     }
 }

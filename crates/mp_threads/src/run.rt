@@ -1,17 +1,15 @@
 //! Workers on threads of a scope.
-ghost use Rattle.std.specs.Prelude.{◌≡◌, ◌≢◌, ◌+◌, ◌<◌, ◌≤◌, ◌++◌, ◌∷◌, [], All, Err, IfErr, IfOk, IfSome, IsTrue, Ok, OnErr, OnOk, length, map, true, vec_capacity};
+ghost use Rattle.std.specs.Prelude.{◌≡◌, ◌+◌, ◌<◌, ◌≤◌, ◌∷◌, [], All, Err, IfErr, IfOk, IsTrue, Ok, OnErr, OnOk, false, length, map, true, vec_capacity};
 ghost use Rattle.std.specs.Vec.Iter.{into_iter_items};
-ghost use Rattle.mp_outside.specs.Fault.{Rose};
-ghost use Rattle.mp_outside.specs.Sink.{OnlyAppends, grown};
-ghost use Rattle.mp_model.specs.Answers.{one_thread_answer};
 ghost use Rattle.mp_model.specs.Tables.{table_of};
 ghost use Rattle.mp_outline.specs.JobOutline.{outline_of};
 ghost use Rattle.mp_board.specs.declared.causes.Cause.TheVariants.{Write};
 ghost use Rattle.mp_worker.specs.declared.turn.Stop.TheVariants as own;
 ghost use Rattle.mp_threads_member.specs.declared.drive.Round.TheVariants.{Over};
-ghost use Rattle.mp_threads_member.specs.Driving.{GoesOn, HasBegun, StopsBy};
-ghost use Rattle.mp_threads.specs.Crews.{AreFinished, HasDoneNothing, IsFinished};
-ghost use Rattle.mp_threads.specs.Places.{number_of};
+ghost use Rattle.mp_threads_member.specs.Driving.{Drives, IsFinished, IsTold};
+ghost use Rattle.mp_threads.specs.Crews.{AreFinished, HasDoneNothing};
+ghost use Rattle.mp_threads.specs.Places.{OneHasTold, number_of, worker_in};
+ghost use Rattle.mp_answer_laws.specs.Runs.{RunLeaves};
 
 use crate::Crew;
 use crate::place::{Placed, finish, turn_here};
@@ -52,13 +50,8 @@ pub fn run_workers<
     requires start { All HasDoneNothing crew }
     ensures finished { let o = outline_of (table_of Q.facts J.job) J.job in
         IfOk result (λ workers. AreFinished o workers.items) }
-    ensures answer { let q = table_of Q.facts J.job in
-        OnOk result (S.written sink.new ≡ grown (S.written sink.old) (one_thread_answer q J.job.events)) }
-    ensures part { let q = table_of Q.facts J.job in
-        OnErr result (HasBegun q J.job.events (S.written sink.old) (S.written sink.new)) }
-    ensures failed { result ≡ Err Write → Rose (S.faults sink.old) (S.faults sink.new) }
-    ensures no_fault { result ≢ Err Write → S.faults sink.new ≡ S.faults sink.old }
-    ensures appends_only { OnlyAppends S.frame S.faults sink.old sink.new }
+    ensures leaves { let q = table_of Q.facts J.job in
+        RunLeaves q J.job S.written S.faults S.frame result sink.old sink.new }
 {
     // What is written through a captured `&mut` is known only where it comes back with the result.
     let (result, _sink) = thread::scope(
@@ -69,13 +62,8 @@ pub fn run_workers<
             ensures same_reference { result.1.ghost_name ≡ sink.entry.ghost_name }
             ensures finished { let o = outline_of (table_of Q.facts J.job) J.job in
                 IfOk result.0 (λ workers. AreFinished o workers.items) }
-            ensures answer { let q = table_of Q.facts J.job in
-                OnOk result.0 (S.written result.1.now ≡ grown (S.written sink.entry.now) (one_thread_answer q J.job.events)) }
-            ensures part { let q = table_of Q.facts J.job in
-                OnErr result.0 (HasBegun q J.job.events (S.written sink.entry.now) (S.written result.1.now)) }
-            ensures failed { result.0 ≡ Err Write → Rose (S.faults sink.entry.now) (S.faults result.1.now) }
-            ensures no_fault { result.0 ≢ Err Write → S.faults result.1.now ≡ S.faults sink.entry.now }
-            ensures appends_only { OnlyAppends S.frame S.faults sink.entry.now result.1.now }
+            ensures leaves { let q = table_of Q.facts J.job in
+                RunLeaves q J.job S.written S.faults S.frame result.0 sink.entry.now result.1.now }
         {
             let result = run_in(scope, rt, alloc, crew, gate, sink);
             (result, sink)
@@ -106,13 +94,8 @@ fn run_in<
     requires start { All HasDoneNothing crew }
     ensures finished { let o = outline_of (table_of Q.facts J.job) J.job in
         IfOk result (λ workers. AreFinished o workers.items) }
-    ensures answer { let q = table_of Q.facts J.job in
-        OnOk result (S.written sink.new ≡ grown (S.written sink.old) (one_thread_answer q J.job.events)) }
-    ensures part { let q = table_of Q.facts J.job in
-        OnErr result (HasBegun q J.job.events (S.written sink.old) (S.written sink.new)) }
-    ensures failed { result ≡ Err Write → Rose (S.faults sink.old) (S.faults sink.new) }
-    ensures no_fault { result ≢ Err Write → S.faults sink.new ≡ S.faults sink.old }
-    ensures appends_only { OnlyAppends S.frame S.faults sink.old sink.new }
+    ensures leaves { let q = table_of Q.facts J.job in
+        RunLeaves q J.job S.written S.faults S.frame result sink.old sink.new }
 {
     let Crew { members } = crew;
     let Ok(places) = Vec::with_capacity(alloc, members.len()) else {
@@ -142,8 +125,7 @@ fn finish_all<'a, Q: Query, J: Naming, R: Wait + Drop, T: Threads + Wait, G: Gat
     rt: &T,
     gate: &G,
 ) -> Result<Vec<Worker<'a, Q, J>>, Cause>
-    requires first { let o = outline_of (table_of Q.facts J.job) J.job in
-        IfOk driven (λ over. IsTrue over → IsFinished o first) }
+    requires first { driven ≡ Ok true → IsFinished (outline_of (table_of Q.facts J.job) J.job) first }
     requires done { done.items ≡ [] }
     requires room { length places.items < vec_capacity done }
     ensures over { OnOk result (driven ≡ Ok true) }
@@ -157,12 +139,27 @@ fn finish_all<'a, Q: Query, J: Naming, R: Wait + Drop, T: Threads + Wait, G: Gat
     let mut all = is_over(driven);
     done.push_reserved(first);
     for place in places {
-        match finish(place, rt, gate) {
+        match finished(finish(place, rt, gate)) {
             Some(worker) => done.push_reserved(worker),
             None => all = false,
         }
     }
     if all { Ok(done) } else { Err(cause_of(driven)) }
+}
+
+// The worker that came to its end, without its ends and its seat. `None`: it stopped.
+fn finished<'a, Q: Query, J: Naming, R: Drop>(
+    came: Result<Member<'a, Q, J, R>, Member<'a, Q, J, R>>,
+) -> Option<Worker<'a, Q, J>>
+    ensures { result ≡ worker_in came.entry }
+{
+    match came {
+        Ok(member) => Some(member.into_worker()),
+        Err(stopped) => {
+            drop(stopped);
+            None
+        }
+    }
 }
 
 // Whether those with the caller were driven to their end.
@@ -206,6 +203,7 @@ fn settle_all<
 ) -> Vec<Placed<'a, Q, J, R>>
     requires empty { places.items ≡ [] }
     requires room { length (into_iter_items members) ≤ vec_capacity places }
+    requires start { All HasDoneNothing (into_iter_items members) }
     ensures many { length result.items ≡ length (into_iter_items members.entry) }
     ensures numbers { map number_of result.items ≡ map (λ m. m.worker.number) (into_iter_items members.entry) }
 {
@@ -216,7 +214,8 @@ fn settle_all<
 }
 
 // Drives worker 0, and each other worker that is here, round after round until all of these are finished, and pauses after
-// a round in which none made a step. `false`: another worker that is here stopped. `Err`: worker 0 did.
+// a round in which none made a step. `false`: another worker that is here stopped. `Err`: worker 0 did. With either the
+// others are told so.
 fn drive_here<'a, Q: Query, J: Naming, R: Wait + Drop, T: Wait, G: Gate, S: Sink>(
     first: &mut Member<'a, Q, J, R>,
     places: &mut [Placed<'a, Q, J, R>],
@@ -226,12 +225,12 @@ fn drive_here<'a, Q: Query, J: Naming, R: Wait + Drop, T: Wait, G: Gate, S: Sink
 ) -> Result<bool, Stop>
     ensures many { length places.new ≡ length places.old }
     ensures numbers { map number_of places.new ≡ map number_of places.old }
-    ensures first { let o = outline_of (table_of Q.facts J.job) J.job in
-        IfOk result (λ over. IsTrue over → IsFinished o first.new.worker) }
-    ensures goes_on { let q = table_of Q.facts J.job in
-        OnOk result (GoesOn q J.job S.written S.faults S.frame first.old.worker first.new.worker sink.old sink.new) }
-    ensures stops { let q = table_of Q.facts J.job in
-        IfErr result (λ stop. StopsBy q J.job S.written S.faults S.frame stop first.old.worker first.new.worker sink.old sink.new) }
+    ensures finished { result ≡ Ok true
+        → IsFinished (outline_of (table_of Q.facts J.job) J.job) first.new.worker }
+    ensures drives { Drives (table_of Q.facts J.job) J.job S.written S.faults S.frame
+        result first.old first.new sink.old sink.new }
+    ensures told { IfErr result (λ stop. IsTold stop first.new.hub) }
+    ensures other { result ≡ Ok false → OneHasTold places.new }
 {
     let backoff = Backoff::new();
     for _ in rt.forever() {
@@ -248,7 +247,7 @@ fn drive_here<'a, Q: Query, J: Naming, R: Wait + Drop, T: Wait, G: Gate, S: Sink
     unreachable!()
 }
 
-// One round of each worker that is here; what they came to. `Err`: one stopped.
+// One round of each worker that is here; what they came to. `Err`: one stopped, and the others are told so.
 fn turn_all<'a, Q: Query, J: Naming, R: Wait + Drop, T: Wait, G: Gate>(
     places: &mut [Placed<'a, Q, J, R>],
     rt: &T,
@@ -256,6 +255,7 @@ fn turn_all<'a, Q: Query, J: Naming, R: Wait + Drop, T: Wait, G: Gate>(
 ) -> Result<Round, Stop>
     ensures many { length places.new ≡ length places.old }
     ensures numbers { map number_of places.new ≡ map number_of places.old }
+    ensures told { OnErr result (OneHasTold places.new) }
 {
     let mut all = Round::Over;
     for i in 0..places.len() {

@@ -1,8 +1,9 @@
 //! How a worker begins on a thread.
-ghost use Rattle.std.specs.Prelude.{◌≡◌};
+ghost use Rattle.std.specs.Prelude.{◌≡◌, ◌↔◌, IsTrue};
 ghost use Rattle.mp_model.specs.Tables.{table_of};
 ghost use Rattle.mp_outline.specs.JobOutline.{outline_of};
-ghost use Rattle.mp_threads.specs.Places.{IsBack, number_of};
+ghost use Rattle.mp_threads.specs.Crews.{HasDoneNothing};
+ghost use Rattle.mp_threads.specs.Places.{IsBack, IsUndriven, number_of};
 
 use crate::back::{Back, Numbered};
 use crate::handle::Handle;
@@ -10,7 +11,6 @@ use crate::place::{Place, Placed, drive_alone};
 use mp_gate::Gate;
 use mp_model::{Naming, Query};
 use mp_threads_member::Member;
-use mp_worker::Worker;
 use std::alloc::Global;
 use std::sync::atomic::{AtomicBool, Ordering};
 use std::sync::{Arc, Wait};
@@ -34,6 +34,7 @@ pub(crate) fn settle<
     gate: &'s G,
     member: Member<'a, Q, J, R>,
 ) -> Placed<'a, Q, J, R>
+    requires start { HasDoneNothing member }
     ensures { number_of result ≡ member.entry.worker.number }
 {
     let number = member.number();
@@ -45,51 +46,38 @@ pub(crate) fn settle<
     };
     let started = scope.spawn_with(
         Numbered(number),
-        move || -> Back<Worker<Q, J>, Member<Q, J, R>>
-            requires { member.worker.number ≡ number }
+        move || -> Back<Member<Q, J, R>>
+            requires { (member.worker.number ≡ number) × HasDoneNothing member }
             ensures { IsBack (outline_of (table_of Q.facts J.job) J.job) number result }
-        { drive_unless(rt, theirs, gate, number, member) },
+        { drive_unless(rt, theirs.load(Ordering::SeqCst), gate, number, member) },
     );
     match started {
         Ok(inner) => Place::Away(Handle::new(inner)),
         Err(refused) => {
             flag.store(true, Ordering::SeqCst);
-            left(number, (refused.value)())
+            Place::Here((refused.value)().into_member())
         }
     }
 }
 
-// Where the worker of this number is that no thread could be made for.
-fn left<'a, Q: Query, J: Naming, R: Drop>(
-    number: u32,
-    back: Back<Worker<'a, Q, J>, Member<'a, Q, J, R>>,
-) -> Placed<'a, Q, J, R>
-    requires { IsBack (outline_of (table_of Q.facts J.job) J.job) number back }
-    ensures { number_of result ≡ number }
-{
-    match back {
-        Back::Undriven(member) => Place::Here(member),
-        _ => Place::Lost(number),
-    }
-}
-
-// Drives the worker of this number, unless the flag says that no thread could be made for it.
+// Drives the worker of this number, unless no thread could be made for it.
 fn drive_unless<'a, Q: Query, J: Naming, R: Wait + Drop, T: Wait, G: Gate>(
     rt: &T,
-    refused: Arc<AtomicBool, Global>,
+    refused: bool,
     gate: &G,
     number: u32,
     member: Member<'a, Q, J, R>,
-) -> Back<Worker<'a, Q, J>, Member<'a, Q, J, R>>
-    requires { member.worker.number ≡ number }
-    ensures { IsBack (outline_of (table_of Q.facts J.job) J.job) number result }
+) -> Back<Member<'a, Q, J, R>>
+    requires { (member.worker.number ≡ number) × HasDoneNothing member }
+    ensures back { IsBack (outline_of (table_of Q.facts J.job) J.job) number result }
+    ensures undriven { IsTrue refused ↔ IsUndriven result }
 {
     let _ = number;
-    if refused.load(Ordering::SeqCst) {
+    if refused {
         return Back::Undriven(member);
     }
     match drive_alone(member, rt, gate) {
-        Some(worker) => Back::Finished(worker),
-        None => Back::Stopped,
+        Ok(member) => Back::Finished(member),
+        Err(member) => Back::Stopped(member),
     }
 }

@@ -1,16 +1,13 @@
 //! A whole run by threads, with what each worker has done.
-ghost use Rattle.std.specs.Prelude.{◌≡◌, ◌≢◌, ◌<◌, ℕ, Err, IfOk, OnErr, OnOk, Some, length, slice_get};
-ghost use Rattle.mp_outside.specs.Fault.{Rose};
-ghost use Rattle.mp_outside.specs.Sink.{OnlyAppends, grown};
-ghost use Rattle.mp_model.specs.Answers.{one_thread_answer};
+ghost use Rattle.std.specs.Prelude.{◌≡◌, ◌<◌, ℕ, IfOk, Some, length, slice_get};
 ghost use Rattle.mp_model.specs.Tables.{table_of};
 ghost use Rattle.mp_outline.specs.JobOutline.{outline_of};
 ghost use Rattle.mp_output.specs.Rows.{GivesRows};
 ghost use Rattle.mp_tally.specs.declared.tally.Tally.{Tally as Told};
-ghost use Rattle.mp_board.specs.declared.causes.Cause.TheVariants.{Write};
-ghost use Rattle.mp_threads_member.specs.Driving.{HasBegun};
 ghost use Rattle.mp_tally.specs.Tallies.{IsTallyOf};
-ghost use Rattle.mp_threads.specs.Crews.{AreFinished, IsFinished};
+ghost use Rattle.mp_threads_member.specs.Driving.{IsFinished};
+ghost use Rattle.mp_threads.specs.Crews.{AreFinished};
+ghost use Rattle.mp_answer_laws.specs.Runs.{RunLeaves};
 
 use crate::{Crew, run_workers};
 use mp_board::Cause;
@@ -47,13 +44,8 @@ pub fn run_with_tallies<
     ensures all { IfOk result (λ tallies. length tallies.items ≡ J.job.shape.workers) }
     ensures tallies { IfOk result (λ tallies. (w : ℕ) (t : Told) → slice_get tallies.items w ≡ Some t
         → IsTallyOf (table_of Q.facts J.job) J.job w t) }
-    ensures answer { let q = table_of Q.facts J.job in
-        OnOk result (S.written sink.new ≡ grown (S.written sink.old) (one_thread_answer q J.job.events)) }
-    ensures part { let q = table_of Q.facts J.job in
-        OnErr result (HasBegun q J.job.events (S.written sink.old) (S.written sink.new)) }
-    ensures failed { result ≡ Err Write → Rose (S.faults sink.old) (S.faults sink.new) }
-    ensures no_fault { result ≢ Err Write → S.faults sink.new ≡ S.faults sink.old }
-    ensures appends_only { OnlyAppends S.frame S.faults sink.old sink.new }
+    ensures leaves { let q = table_of Q.facts J.job in
+        RunLeaves q J.job S.written S.faults S.frame result sink.old sink.new }
 {
     let Ok(crew) = Crew::<Q, J, &T>::open(rt, alloc, job, depth) else {
         return Err(Cause::Memory);

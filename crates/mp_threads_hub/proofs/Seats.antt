@@ -5,7 +5,7 @@ use Rattle.std.proofs.lemmas.List.{length-append}
 use Rattle.std.proofs.lemmas.Option.{get_or_from_slice_get}
 use Rattle.mp_names.specs.Logs.{Log}
 use Rattle.mp_seat.specs.Seats.{AreNew, IsIdle, LockIdentity, SeatState}
-use Rattle.mp_threads_hub.specs.Hubs.{AreNewHubs}
+use Rattle.mp_threads_hub.specs.Hubs.{AreNewHubs, AreOfOneLock}
 
 module _ {A : Type 0} (P : A → Type 0) where
   pub all_first : (all : List A) (x : A) (xs : List A) → all ≡ x ∷ xs → All P all → P x
@@ -40,6 +40,10 @@ module _ (lock : LockIdentity) (rows : List Log) (version : ℕ) (seats : List (
       let at = at_place seats k l in
       let is = new k at.0 at.1 in
       subst (IsIdle lock) (sym (get_or_from_slice_get seats k at.0 d at.1)) (ap (λ (s : SeatState Log). s.lock) is, ap (λ (s : SeatState Log). s.taken) is)
+
+  -- and of one lock
+  pub of_one_lock : AreOfOneLock seats
+  of_one_lock = (lock, λ k d l. (new_are_idle k d l).0)
 
   -- and ways to a new board, where the lock has a seat for each row
   pub are_new_hubs : lock.seats ≡ length rows → AreNewHubs rows version seats

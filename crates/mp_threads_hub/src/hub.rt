@@ -2,7 +2,7 @@
 ghost use Rattle.std.specs.Prelude.{◌≡◌};
 ghost use Rattle.std.specs.Arc.{arc_value};
 ghost use Rattle.mp_seat.specs.Seats.{IsIdle};
-ghost use Rattle.mp_threads_hub.specs.Hubs.{HasLooked};
+ghost use Rattle.mp_threads_hub.specs.Hubs.{HasLooked, SeesStop};
 
 use crate::shared::Shared;
 use mp_board::{Answer, Cause, Hub, HubStop, Outlined};
@@ -41,10 +41,11 @@ impl<O: Outlined> SeatHub<O> {
         SeatHub { lock, seat }
     }
 
-    /// Tells why the worker stopped, for the others to stop too. The first cause is kept. It waits while another holds
-    /// the board, posts no log, and takes no memory.
+    /// Tells why the worker stopped, for the others to stop too. The first cause is kept: this one then stands on the
+    /// board, or one that another told before. It waits while another holds the board, posts no log, and takes no memory.
     pub fn stop<R: Wait>(&mut self, rt: &R, cause: Cause)
-        ensures { HasLooked self.old self.new }
+        ensures looked { HasLooked self.old self.new }
+        ensures told { SeesStop self.new }
     {
         let mut shared = self.lock.take(rt, &mut self.seat);
         shared.board.stop(cause);
@@ -64,7 +65,7 @@ impl<O: Outlined> SeatHub<O> {
 /// It is busy where another seat holds the board. The log's changes then stay with the worker.
 impl<O: Outlined> Hub<O> for SeatHub<O> {
     ghost use Rattle.mp_seat.specs.Seats.{HasOthers};
-    ghost use Rattle.mp_threads_hub.specs.Hubs.{HasLooked, HasPosted, IsSeatOf, ShowsBoard, own_row};
+    ghost use Rattle.mp_threads_hub.specs.Hubs.{HasLooked, HasPosted, IsSeatOf, SeesCause, SeesNoStop, ShowsBoard, own_row};
 
     ghost serves = { λ h w. IsSeatOf O.outline h w };
 
@@ -78,9 +79,9 @@ impl<O: Outlined> Hub<O> for SeatHub<O> {
 
     ghost shows = { λ h seen. ShowsBoard O.outline h seen };
 
-    ghost goes_on = { λ _. Unit {0} };
+    ghost goes_on = { SeesNoStop };
 
-    ghost was_stopped = { λ _ cause. Unit {0} };
+    ghost was_stopped = { λ h cause. SeesCause cause h };
 
     ghost was_busy = { HasOthers };
 

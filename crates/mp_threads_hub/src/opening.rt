@@ -2,7 +2,7 @@
 ghost use Rattle.std.specs.Prelude.{◌≡◌, ◌<◌, All, IfOk, length};
 ghost use Rattle.std.specs.Arc.{arc_value};
 ghost use Rattle.mp_seat.specs.Seats.{IsIdle};
-ghost use Rattle.mp_threads_hub.specs.Hubs.{AreNewHubs};
+ghost use Rattle.mp_threads_hub.specs.Hubs.{AreNewHubs, AreOfOneLock, shared_version};
 
 use crate::hub::SeatHub;
 use crate::shared::Shared;
@@ -20,7 +20,8 @@ pub fn open_hubs<O: Outlined>(
     requires some { 0 < workers }
     requires logs { length board.logs ≡ workers }
     ensures many { IfOk result (λ hubs. length hubs.items ≡ workers) }
-    ensures new { IfOk result (λ hubs. AreNewHubs board.logs board.version hubs.items) }
+    ensures new { IfOk result (λ hubs. AreNewHubs board.logs (shared_version board) hubs.items) }
+    ensures one_lock { IfOk result (λ hubs. AreOfOneLock hubs.items) }
 {
     let shared = Shared::new(alloc, board)?;
     let (lock, seats) = SeatLock::open(alloc, shared, workers)?;

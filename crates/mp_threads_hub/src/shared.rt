@@ -36,11 +36,14 @@ impl<O: Outlined> Model for Shared<O> {
 }
 
 impl<O: Outlined> Rows for Shared<O> {
+    ghost use Rattle.mp_threads_hub.specs.Hubs.{shared_version};
+
     type Row = PostedRow;
 
     ghost rows = { λ b. b.logs };
 
-    ghost version = { λ b. b.version };
+    // It rises where a worker stops too, since a seat keeps nothing else of what all see.
+    ghost version = { shared_version };
 }
 
 impl<O: Outlined> Shared<O> {

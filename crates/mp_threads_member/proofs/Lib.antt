@@ -1,3 +1,4 @@
 pub mod Driven
 pub mod Stays
 pub mod Written
+pub mod Tried

@@ -14,7 +14,7 @@ use Rattle.mp_outside.proofs.SinkLemmas.{grown-grown}
 use Rattle.mp_model.specs.Facts.{JobFacts, QueryFacts}
 use Rattle.mp_outline.specs.JobOutline.{outline_of}
 use Rattle.mp_output.specs.Holding.{answer_at}
-use Rattle.mp_answer_laws.specs.Lines.{lines_of_time, written_lines}
+use Rattle.mp_answer_laws.specs.Lines.{HasBegun, HasWritten, lines_of_time, written_lines}
 use Rattle.mp_answer_laws.proofs.Written.{parts_of_lines_begin, writing_adds_lines, written_lines_begin}
 use Rattle.mp_worker_refinement.specs.State.{CanMake, WorkerState, as_machine}
 use Rattle.mp_worker.specs.declared.turn.Stop.{Stop}
@@ -24,7 +24,6 @@ use Rattle.mp_worker.specs.declared.turn.Turn.TheVariants as turn
 use Rattle.mp_worker.specs.Turns.{Answers}
 use Rattle.mp_worker.specs.Writing.{WritesInTurn, WritesNoMore, WritesPart}
 use Rattle.mp_worker.proofs.Told.{no_lines_else, one_time}
-use Rattle.mp_threads_member.specs.Driving.{HasBegun, HasWritten}
 
 is_write : (kind : Kind) → (kind ≡ Write) ⊎ (kind ≢ Write)
 is_write Write = inl refl

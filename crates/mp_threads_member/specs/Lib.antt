@@ -1,3 +1,4 @@
 -- What the contracts of this crate cite.
 pub mod Members
+pub mod Rounds
 pub mod Driving

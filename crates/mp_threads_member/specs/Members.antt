@@ -14,7 +14,7 @@ use Rattle.mp_worker.specs.declared.turn.Stop.{Stop}
 use Rattle.mp_worker.specs.declared.turn.Turn.{Turn}
 use Rattle.mp_worker.specs.Exchanging.{Exchanges}
 use Rattle.mp_worker.specs.Turns.{Answers}
-use Rattle.mp_threads_hub.specs.Hubs.{HasLooked, HasPosted, IsSeatOf, ShowsBoard, own_row}
+use Rattle.mp_threads_hub.specs.Hubs.{HasLooked, HasPosted, IsSeatOf, SeesCause, SeesNoStop, ShowsBoard, own_row}
 
 pub record MemberState : Type 0 where
   pub worker : WorkerState
@@ -49,4 +49,4 @@ MailFollows o old new = PostFollows (λ p. length p.senders) (λ _. 0) (λ p w. 
 -- what an exchange came to at the board, by way of the seat
 abbrev pub ExchangesBySeat : Outline → MemberState → MemberState → Result Turn Stop → Type 0
 ExchangesBySeat o old new result =
-    Exchanges (λ h w log k. HasPosted h log k) HasLooked (ShowsBoard o) (λ _. Unit {0}) (λ _ cause. Unit {0}) HasOthers old.worker new.worker old.hub new.hub result
+    Exchanges (λ h w log k. HasPosted h log k) HasLooked (ShowsBoard o) SeesNoStop (λ h cause. SeesCause cause h) HasOthers old.worker new.worker old.hub new.hub result

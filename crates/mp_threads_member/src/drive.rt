@@ -1,15 +1,16 @@
 //! How a thread drives its worker.
-ghost use Rattle.std.specs.Prelude.{◌≡◌, ◌≢◌, ℕ, Err, IfErr, IfOk, List, OnErr, OnOk, Option};
-ghost use Rattle.mp_outside.specs.Fault.{Rose};
-ghost use Rattle.mp_outside.specs.Sink.{OnlyAppends, grown};
-ghost use Rattle.mp_machine.specs.Promises.{LogIsFull};
+ghost use Rattle.std.specs.Prelude.{◌≡◌, ℕ, IfErr, List, Ok, OnOk, Option, false, true};
+ghost use Rattle.mp_outside.specs.Sink.{grown};
 ghost use Rattle.mp_model.specs.Answers.{one_thread_answer};
 ghost use Rattle.mp_model.specs.Tables.{table_of};
 ghost use Rattle.mp_outline.specs.JobOutline.{outline_of};
-ghost use Rattle.mp_worker_refinement.specs.SystemState.{KnowsTheEnd};
-ghost use Rattle.mp_worker.specs.declared.turn.Stop.TheVariants.{Write};
-ghost use Rattle.mp_threads_member.specs.declared.drive.Round.TheVariants.{Over};
-ghost use Rattle.mp_threads_member.specs.Driving.{GoesOn, HasBegun, HasWritten, StopsBy};
+ghost use Rattle.mp_board.specs.declared.causes.Cause.{Cause};
+ghost use Rattle.mp_worker.specs.declared.turn.Stop.TheVariants.{Other};
+ghost use Rattle.mp_threads_hub.specs.Hubs.{SeesCause};
+ghost use Rattle.mp_threads_member.specs.declared.drive.Round.TheVariants.{Idle, Made, Over};
+ghost use Rattle.mp_answer_laws.specs.Lines.{HasWritten};
+ghost use Rattle.mp_threads_member.specs.Driving.{Drives, IsFinished, IsTold};
+ghost use Rattle.mp_threads_member.specs.Rounds.{HasComeFurther, HasReceivedNone, HasTriedAll, WasHindered};
 
 use crate::Member;
 use crossbeam_utils::Backoff;
@@ -40,37 +41,28 @@ impl<'a, Q: Query, J: Naming, R: Wait + Drop> Member<'a, Q, J, R> {
     /// Drives the worker round after round until it knows that all is over: its log is then full, and worker 0 has
     /// written the one-thread answer. After a round in which no step was made it pauses for a while. Where a step answers
     /// `Write` or `Memory` it tells the others why, and ends; that waits while another holds the board, and takes no
-    /// memory. `Other`: another worker stopped before. `Write`: only where the sink's count of faults rose in this call or
-    /// stands at its last value, 2^64 - 1. With each a beginning of the answer is written.
+    /// memory. `Other`: another worker stopped before, by the cause that the seat sees. `Write`: only where the sink's count
+    /// of faults rose in this call or stands at its last value, 2^64 - 1. With each a beginning of the answer is written.
     pub fn drive<T: Wait, G: Gate, S: Sink>(
-        mut self,
+        &mut self,
         rt: &T,
         gate: &G,
         sink: &mut S,
-    ) -> Result<Member<'a, Q, J, R>, Stop>
-        ensures number { IfOk result (λ m. m.worker.number ≡ self.entry.worker.number) }
-        ensures finished { let o = outline_of (table_of Q.facts J.job) J.job in
-            IfOk result (λ m. KnowsTheEnd o m.worker) }
-        ensures full { let o = outline_of (table_of Q.facts J.job) J.job in
-            IfOk result (λ m. LogIsFull o m.worker.number m.worker.log) }
-
+    ) -> Result<(), Stop>
+        ensures finished { OnOk result
+            (IsFinished (outline_of (table_of Q.facts J.job) J.job) self.new.worker) }
         ensures answer { let q = table_of Q.facts J.job in
-            self.entry.worker.number ≡ 0
-            → (before : Option (List ℕ)) → HasWritten q J.job.events before self.entry.worker.log (S.written sink.old)
+            self.old.worker.number ≡ 0
+            → (before : Option (List ℕ)) → HasWritten q J.job.events before self.old.worker.log (S.written sink.old)
             → OnOk result (S.written sink.new ≡ grown before (one_thread_answer q J.job.events)) }
-        ensures part { let q = table_of Q.facts J.job in
-            self.entry.worker.number ≡ 0
-            → (before : Option (List ℕ)) → HasWritten q J.job.events before self.entry.worker.log (S.written sink.old)
-            → OnErr result (HasBegun q J.job.events before (S.written sink.new)) }
-        ensures others_write_nothing { (self.entry.worker.number ≢ 0) → S.written sink.new ≡ S.written sink.old }
-        ensures failed { result ≡ Err Write → Rose (S.faults sink.old) (S.faults sink.new) }
-        ensures no_fault { result ≢ Err Write → S.faults sink.new ≡ S.faults sink.old }
-        ensures appends_only { OnlyAppends S.frame S.faults sink.old sink.new }
+        ensures drives { Drives (table_of Q.facts J.job) J.job S.written S.faults S.frame
+            result self.old self.new sink.old sink.new }
+        ensures told { IfErr result (λ stop. IsTold stop self.new.hub) }
     {
         let backoff = Backoff::new();
         for _ in rt.forever() {
             match self.turn(rt, gate, sink) {
-                Ok(Round::Over) => return Ok(self),
+                Ok(Round::Over) => return Ok(()),
                 Ok(Round::Made) => backoff.reset(),
                 Ok(Round::Idle) => backoff.snooze(),
                 Err(stop) => return Err(stop),
@@ -81,24 +73,23 @@ impl<'a, Q: Query, J: Naming, R: Wait + Drop> Member<'a, Q, J, R> {
 
     /// One round: tries each kind of step in their order, each again as long as its steps are made, up to 64 times, but an
     /// exchange once. Before it writes it receives a second time. `Over`: the worker then knows that all is over, and its log
-    /// is full. Where a step answers `Write` or `Memory` it tells the others why; that waits while another holds the board.
-    /// `Other`: another worker stopped before.
+    /// is full. `Made`: it has come further. `Idle`: it is as it was, and each kind of step was tried in vain. Where a step
+    /// answers `Write` or `Memory` it tells the others why; that waits while another holds the board. `Other`: another worker
+    /// stopped before, by the cause that the seat sees.
     pub fn turn<T: Wait, G: Gate, S: Sink>(
         &mut self,
         rt: &T,
         gate: &G,
         sink: &mut S,
     ) -> Result<Round, Stop>
-        ensures finished { let o = outline_of (table_of Q.facts J.job) J.job in
-            IfOk result (λ round. round ≡ Over → KnowsTheEnd o self.new.worker) }
-        ensures full { let o = outline_of (table_of Q.facts J.job) J.job in
-            IfOk result (λ round. round ≡ Over → LogIsFull o self.new.worker.number self.new.worker.log) }
-        ensures goes_on { let q = table_of Q.facts J.job in
-            OnOk result (GoesOn q J.job S.written S.faults S.frame
-            self.old.worker self.new.worker sink.old sink.new) }
-        ensures stops { let q = table_of Q.facts J.job in
-            IfErr result (λ stop. StopsBy q J.job S.written S.faults S.frame stop
-            self.old.worker self.new.worker sink.old sink.new) }
+        ensures finished { result ≡ Ok Over
+            → IsFinished (outline_of (table_of Q.facts J.job) J.job) self.new.worker }
+        ensures drives { Drives (table_of Q.facts J.job) J.job S.written S.faults S.frame
+            result self.old self.new sink.old sink.new }
+        ensures told { IfErr result (λ stop. IsTold stop self.new.hub) }
+        ensures made { result ≡ Ok Made → HasComeFurther self.old self.new }
+        ensures idle { result ≡ Ok Idle
+            → HasTriedAll (outline_of (table_of Q.facts J.job) J.job) self.old self.new }
     {
         match self.try_all(gate, sink) {
             Ok(made) => Ok(self.outcome(made)),
@@ -111,12 +102,11 @@ impl<'a, Q: Query, J: Naming, R: Wait + Drop> Member<'a, Q, J, R> {
 
     // Tries each kind of step in their order: whether a step was made.
     fn try_all<G: Gate, S: Sink>(&mut self, gate: &G, sink: &mut S) -> Result<bool, Stop>
-        ensures goes_on { let q = table_of Q.facts J.job in
-            OnOk result (GoesOn q J.job S.written S.faults S.frame
-            self.old.worker self.new.worker sink.old sink.new) }
-        ensures stops { let q = table_of Q.facts J.job in
-            IfErr result (λ stop. StopsBy q J.job S.written S.faults S.frame stop
-            self.old.worker self.new.worker sink.old sink.new) }
+        ensures drives { Drives (table_of Q.facts J.job) J.job S.written S.faults S.frame
+            result self.old self.new sink.old sink.new }
+        ensures made { result ≡ Ok true → HasComeFurther self.old self.new }
+        ensures idle { result ≡ Ok false
+            → HasTriedAll (outline_of (table_of Q.facts J.job) J.job) self.old self.new }
     {
         let shape = self.worker.shape();
         let mut made = false;
@@ -137,12 +127,11 @@ impl<'a, Q: Query, J: Naming, R: Wait + Drop> Member<'a, Q, J, R> {
         gate: &G,
         sink: &mut S,
     ) -> Result<bool, Stop>
-        ensures goes_on { let q = table_of Q.facts J.job in
-            OnOk result (GoesOn q J.job S.written S.faults S.frame
-            self.old.worker self.new.worker sink.old sink.new) }
-        ensures stops { let q = table_of Q.facts J.job in
-            IfErr result (λ stop. StopsBy q J.job S.written S.faults S.frame stop
-            self.old.worker self.new.worker sink.old sink.new) }
+        ensures drives { Drives (table_of Q.facts J.job) J.job S.written S.faults S.frame
+            result self.old self.new sink.old sink.new }
+        ensures made { result ≡ Ok true → HasComeFurther self.old self.new }
+        ensures idle { result ≡ Ok false
+            → WasHindered (outline_of (table_of Q.facts J.job) J.job) kind self.old self.new }
     {
         let made = self.repeat(kind, gate, sink)?;
         if kind != Kind::SendRow {
@@ -156,12 +145,11 @@ impl<'a, Q: Query, J: Naming, R: Wait + Drop> Member<'a, Q, J, R> {
 
     // Receives from each worker: whether a step was made.
     fn receive_from_all<G: Gate, S: Sink>(&mut self, gate: &G, sink: &mut S) -> Result<bool, Stop>
-        ensures goes_on { let q = table_of Q.facts J.job in
-            OnOk result (GoesOn q J.job S.written S.faults S.frame
-            self.old.worker self.new.worker sink.old sink.new) }
-        ensures stops { let q = table_of Q.facts J.job in
-            IfErr result (λ stop. StopsBy q J.job S.written S.faults S.frame stop
-            self.old.worker self.new.worker sink.old sink.new) }
+        ensures drives { Drives (table_of Q.facts J.job) J.job S.written S.faults S.frame
+            result self.old self.new sink.old sink.new }
+        ensures made { result ≡ Ok true → HasComeFurther self.old self.new }
+        ensures idle { result ≡ Ok false
+            → HasReceivedNone (outline_of (table_of Q.facts J.job) J.job) self.old self.new }
     {
         let mut made = false;
         for from in 0..self.worker.shape().workers {
@@ -176,12 +164,11 @@ impl<'a, Q: Query, J: Naming, R: Wait + Drop> Member<'a, Q, J, R> {
     // Makes steps of a kind, until one isn't made, an exchange was, or there were as many as a round has of a kind: whether
     // a step was made.
     fn repeat<G: Gate, S: Sink>(&mut self, kind: Kind, gate: &G, sink: &mut S) -> Result<bool, Stop>
-        ensures goes_on { let q = table_of Q.facts J.job in
-            OnOk result (GoesOn q J.job S.written S.faults S.frame
-            self.old.worker self.new.worker sink.old sink.new) }
-        ensures stops { let q = table_of Q.facts J.job in
-            IfErr result (λ stop. StopsBy q J.job S.written S.faults S.frame stop
-            self.old.worker self.new.worker sink.old sink.new) }
+        ensures drives { Drives (table_of Q.facts J.job) J.job S.written S.faults S.frame
+            result self.old self.new sink.old sink.new }
+        ensures made { result ≡ Ok true → HasComeFurther self.old self.new }
+        ensures idle { result ≡ Ok false
+            → WasHindered (outline_of (table_of Q.facts J.job) J.job) kind self.old self.new }
     {
         for number in 0..STEPS_OF_A_KIND {
             match self.step(kind, gate, sink) {
@@ -196,10 +183,10 @@ impl<'a, Q: Query, J: Naming, R: Wait + Drop> Member<'a, Q, J, R> {
 
     // What a round came to in which a step was made or wasn't.
     fn outcome(&self, made: bool) -> Round
-        ensures finished { let o = outline_of (table_of Q.facts J.job) J.job in
-            result ≡ Over → KnowsTheEnd o self.now.worker }
-        ensures full { let o = outline_of (table_of Q.facts J.job) J.job in
-            result ≡ Over → LogIsFull o self.now.worker.number self.now.worker.log }
+        ensures finished { result ≡ Over
+            → IsFinished (outline_of (table_of Q.facts J.job) J.job) self.now.worker }
+        ensures made { result ≡ Made → made ≡ true }
+        ensures idle { result ≡ Idle → made ≡ false }
     {
         self.worker.log_is_known();
         if self.worker.is_finished() {
@@ -213,7 +200,9 @@ impl<'a, Q: Query, J: Naming, R: Wait + Drop> Member<'a, Q, J, R> {
 
     // Tells the others why the worker stops, unless another has told it.
     fn give_up<T: Wait>(&mut self, rt: &T, stop: Stop)
-        ensures { self.new.worker ≡ self.old.worker }
+        requires saw { (cause : Cause) → stop ≡ Other cause → SeesCause cause self.old.hub }
+        ensures same { self.new.worker ≡ self.old.worker }
+        ensures told { IsTold stop self.new.hub }
     {
         match stop {
             Stop::Write => self.hub.stop(rt, Cause::Write),

@@ -1,12 +1,13 @@
 //! One step of a worker on its own thread.
-ghost use Rattle.std.specs.Prelude.{◌≡◌, ◌≢◌, IfErr, Ok, OnOk};
+ghost use Rattle.std.specs.Prelude.{◌≡◌, ◌≢◌, Ok};
 ghost use Rattle.mp_names.specs.declared.kinds.Kind.TheVariants.{Exchange, Write};
 ghost use Rattle.mp_machine.specs.Steps.{KindFits};
 ghost use Rattle.mp_outline.specs.JobOutline.{outline_of};
 ghost use Rattle.mp_worker.specs.declared.turn.Turn.TheVariants.{NotNow};
 ghost use Rattle.mp_worker.specs.Writing.{WritesInTurn};
 ghost use Rattle.mp_threads_member.specs.Members.{AnswersByMail, ExchangesBySeat, MailFollows};
-ghost use Rattle.mp_threads_member.specs.Driving.{GoesOn, StopsBy};
+ghost use Rattle.mp_threads_member.specs.Driving.{Drives};
+ghost use Rattle.mp_threads_member.specs.Rounds.{HasComeFurther, OnMade, OnNotMade, WasHindered};
 ghost use Rattle.mp_model.specs.Tables.{table_of};
 
 use crate::Member;
@@ -20,7 +21,7 @@ use std::sync::Wait;
 impl<'a, Q: Query, J: Naming, R: Wait + Drop> Member<'a, Q, J, R> {
     /// Passes the gate, and then makes one step of the worker, as `Worker::step` does with these ends, this seat and
     /// this sink: one step of the machine, of this worker. The answers are those of `Worker::step`. `Busy`: another
-    /// thread may hold the board.
+    /// thread may hold the board. `Other`: exactly where the seat sees that cause.
     pub fn step<G: Gate, S: Sink>(
         &mut self,
         kind: Kind,
@@ -41,12 +42,13 @@ impl<'a, Q: Query, J: Naming, R: Wait + Drop> Member<'a, Q, J, R> {
         ensures writes { kind ≡ Write
             → WritesInTurn (table_of Q.facts J.job) J.job S.written S.faults self.old.worker sink.old sink.new result }
         ensures others_write_nothing { (kind ≢ Write) → sink.new ≡ sink.old }
-        ensures goes_on { let q = table_of Q.facts J.job in
-            OnOk result (GoesOn q J.job S.written S.faults S.frame
-            self.old.worker self.new.worker sink.old sink.new) }
-        ensures stops { let q = table_of Q.facts J.job in
-            IfErr result (λ stop. StopsBy q J.job S.written S.faults S.frame stop
-            self.old.worker self.new.worker sink.old sink.new) }
+        ensures drives { Drives (table_of Q.facts J.job) J.job S.written S.faults S.frame
+            result self.old self.new sink.old sink.new }
+
+        // What it came to.
+        ensures made { OnMade result (HasComeFurther self.old self.new) }
+        ensures hindered { OnNotMade result
+            (WasHindered (outline_of (table_of Q.facts J.job) J.job) kind self.old self.new) }
     {
         // What the worker's log is before the step.
         self.worker.log_is_known();

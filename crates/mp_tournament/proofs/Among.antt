@@ -2,8 +2,7 @@
 use Rattle.std.proofs.Common.{◌≡◌, ◌++◌, ◌∷◌, [], ℕ, List, Option, None, Some, Contains, refl, sym, ◌∙◌, ap, subst, ⊎_elim}
 use Rattle.mp_postdated.specs.Wakes.{ComesNoLater}
 use Rattle.mp_job.proofs.Members.{Contains-cases, Contains-here, Contains-later, nothing_in_nil}
-use Rattle.mp_host_laws.specs.Hosted.{earlier_of}
-use Rattle.mp_tournament.specs.Firsts.{IsFirstAmong, first_among}
+use Rattle.mp_tournament.specs.Firsts.{IsFirstAmong, earlier_of, first_among}
 use Rattle.mp_tournament.proofs.Earlier.{comes_first, earlier-cases, earlier-none, earlier_assoc, earlier_comm, neither_later}
 
 abbrev pub Wakes : Type 0

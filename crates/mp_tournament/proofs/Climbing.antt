@@ -1,8 +1,7 @@
 -- An entry that is made the earlier of the two below it upsets none but the one above it.
 use Rattle.std.proofs.Common.{◌≡◌, ◌≢◌, ℕ, ◌+◌, ◌*◌, ◌/◌, ◌<◌, Option, None, length, set, sym, ◌∙◌, ap, subst, ⊎_elim, arith, get_or-set_same, get_or-set_other, length-set}
 use Rattle.std.proofs.lemmas.Bool.{cases_eq}
-use Rattle.mp_host_laws.specs.Hosted.{earlier_of}
-use Rattle.mp_tournament.specs.Firsts.{IsTournamentBut, IsWonAt, entry_at}
+use Rattle.mp_tournament.specs.Firsts.{IsTournamentBut, IsWonAt, earlier_of, entry_at}
 use Rattle.mp_tournament.proofs.Among.{Wakes}
 
 -- a write to another entry than these three leaves them as they are

@@ -3,7 +3,7 @@ use Rattle.std.proofs.Common.{◌≡◌, ◌<◌, ◌≤◌, ◌⊎◌, ◌==◌
 use Rattle.std.proofs.lemmas.Bool.{cond_both}
 use Rattle.std.proofs.lemmas.Bool.Decides.{nat_tests}
 use Rattle.mp_postdated.specs.Wakes.{ComesNoLater}
-use Rattle.mp_host_laws.specs.Hosted.{earlier_of}
+use Rattle.mp_tournament.specs.Firsts.{earlier_of}
 
 pub earlier-none : (a : Option (ℕ × ℕ)) → earlier_of a None ≡ a
 earlier-none None = refl

@@ -2,5 +2,4 @@ pub mod Earlier
 pub mod Among
 pub mod Climbing
 pub mod Roots
-pub mod OfStates
 pub mod Same

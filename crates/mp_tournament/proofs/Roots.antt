@@ -1,8 +1,7 @@
 -- The first entry of a tournament's tree is the first of its wakes.
 use Rattle.std.proofs.Common.{◌≡◌, ℕ, zero, suc, ◌+◌, ◌-◌, ◌*◌, ◌<◌, [], ◌∷◌, None, drop, get_or, length, take, sym, ◌∙◌, ap, arith, length-drop, drop-cons}
 use Rattle.std.proofs.lemmas.List.{get_or-drop, take_all, take_more}
-use Rattle.mp_host_laws.specs.Hosted.{earlier_of}
-use Rattle.mp_tournament.specs.Firsts.{IsTournament, IsWonAt, entry_at, first_among}
+use Rattle.mp_tournament.specs.Firsts.{IsTournament, IsWonAt, earlier_of, entry_at, first_among}
 use Rattle.mp_tournament.proofs.Earlier.{earlier-none, earlier_assoc, earlier_comm}
 use Rattle.mp_tournament.proofs.Among.{Wakes, first_push}
 

@@ -1,7 +1,12 @@
 -- Which of many wakes, each a time and a key or none, comes first.
-use Rattle.std.specs.Prelude.{◌≡◌, ◌≢◌, ◌<◌, ◌^◌, ◌*◌, ◌+◌, ℕ, List, [], ◌∷◌, Option, None, Some, Contains, get_or, length}
-use Rattle.mp_host_laws.specs.Hosted.{earlier_of}
+use Rattle.std.specs.Prelude.{◌≡◌, ◌≢◌, ◌<◌, ◌^◌, ◌*◌, ◌+◌, ◌==◌, ◌&&◌, ◌||◌, ℕ, cond, nat_lt, List, [], ◌∷◌, Option, None, Some, Contains, get_or, length}
 use Rattle.mp_postdated.specs.Wakes.{ComesNoLater}
+
+-- of two groups, each a time and a key, the first by time and then by key
+abbrev pub earlier_of : Option (ℕ × ℕ) → Option (ℕ × ℕ) → Option (ℕ × ℕ)
+earlier_of None g = g
+earlier_of (Some f) None = Some f
+earlier_of (Some f) (Some g) = cond (nat_lt g.0 f.0 || g.0 == f.0 && nat_lt g.1 f.1) (Some g) (Some f)
 
 -- the first of these wakes by time and then by key
 abbrev pub first_among : List (Option (ℕ × ℕ)) → Option (ℕ × ℕ)

@@ -1,7 +1,6 @@
 //! A tournament among wakes: the first of them is one look, and a change goes up from its place to the top.
 ghost use Rattle.std.specs.Prelude.{◌≡◌, ◌<◌, ◌^◌, IfOk, drop, length, replicate, slice_set};
-ghost use Rattle.mp_host_laws.specs.Hosted.{earlier_of};
-ghost use Rattle.mp_tournament.specs.Firsts.{IsTournamentBut, first_among};
+ghost use Rattle.mp_tournament.specs.Firsts.{IsTournamentBut, earlier_of, first_among};
 
 use mp_model::Time;
 use std::alloc::{AllocError, Global};

@@ -18,5 +18,5 @@ module _ {H : Type 0} (after : H → ℕ → Log → H → Type 0) (kept : H →
   Exchanges (Ok (turn.Seen version)) = Sees s version now × IsPosted after goes_on s old new × shows new now.seen
   Exchanges (Ok turn.NotNow) = (now ≡ s) × (s.posted ≡ s.log) × IsPosted after goes_on s old new × ShowsNothingNew shows s new
   Exchanges (Ok turn.Busy) = (now ≡ s) × was_busy old × kept old new
-  Exchanges (Err (stop.Other cause)) = (now ≡ s) × was_stopped old cause × kept old new
+  Exchanges (Err (stop.Other cause)) = (now ≡ s) × was_stopped new cause × kept old new
   Exchanges _ = ⊥

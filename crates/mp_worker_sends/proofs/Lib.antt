@@ -1,2 +1,4 @@
-pub mod Kept
 pub mod Bundled
+mod Extracting
+pub mod Kept
+mod LeavingPackets

@@ -4,13 +4,14 @@ ghost use Rattle.mp_names.specs.declared.kinds.Kind.TheVariants.{Extract};
 ghost use Rattle.mp_names.specs.declared.names.Name.{Name};
 ghost use Rattle.mp_outline.specs.JobOutline.{outline_of};
 ghost use Rattle.mp_host_laws.specs.Hosted.{Hosted};
-ghost use Rattle.mp_worker_parts.specs.Leaving.{AreChangesOfLeaving, IsDueNow};
+ghost use Rattle.mp_worker_sends.specs.Leaving.{AreChangesOfLeaving, IsDueNow};
 ghost use Rattle.mp_worker_refinement.specs.Served.{IsAtPost, PostFollows};
 ghost use Rattle.mp_worker_refinement.specs.State.{CanMake};
 ghost use Rattle.mp_worker_refinement.specs.Steps.{StepsByMail};
 ghost use Rattle.mp_worker_sends.specs.Rooms.{HasRoomToExtract};
 ghost use Rattle.mp_model.specs.Tables.{table_of};
 
+use crate::leaving::changes_of_leaving;
 use crate::push::send;
 use mp_handoff::count_of_keys;
 use mp_host_laws::Held;
@@ -19,7 +20,6 @@ use mp_model::{Naming, Query};
 use mp_msg::{Body, BoxedState, Msg, Names};
 use mp_names::{Move, Name};
 use mp_rows::{Change, NewNames};
-use mp_worker_parts::changes_of_leaving;
 use mp_worker_steps::Parts;
 use std::alloc::AllocError;
 

@@ -5,14 +5,14 @@ ghost use Rattle.mp_worker_refinement.specs.Served.{IsAtPost, PostFollows};
 ghost use Rattle.mp_worker_refinement.specs.Steps.{StepsByMail};
 ghost use Rattle.mp_model.specs.Tables.{table_of};
 
+use crate::cursor::place_after;
 use crate::push::send;
 use mp_mailbox::Post;
 use mp_model::{Naming, Query};
 use mp_msg::{Msg, Names};
 use mp_names::{ControlCursor, Loc, Name};
 use mp_rows::NewNames;
-use mp_worker_parts::{one_less, one_more, place_after};
-use mp_worker_steps::Parts;
+use mp_worker_steps::{Parts, one_less, one_more};
 use std::alloc::AllocError;
 
 /// Worker 0 sends the first control record that isn't sent, by index and then by receiver, itself among them: its name,

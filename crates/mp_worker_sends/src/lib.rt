@@ -5,6 +5,8 @@
 
 mod bins;
 mod controls;
+mod cursor;
+mod leaving;
 mod push;
 mod records;
 mod rows;

@@ -16,7 +16,7 @@ use Rattle.mp_worker_invariant.specs.Parts.{ArePartsOf, Parts}
 use Rattle.mp_worker_refinement.specs.State.{CanMake, Makes, WorkerState}
 use Rattle.mp_worker_refinement.specs.Steps.{MakesAlone, MakesByMail, Tells}
 use Rattle.mp_output.specs.Unwritten.{Unwritten}
-use Rattle.mp_worker_parts.specs.declared.room.ChangeLists.{ChangeLists}
+use Rattle.mp_worker_steps.specs.declared.lists.ChangeLists.{ChangeLists}
 use Rattle.mp_worker_steps.specs.Contents.{Contents, with_taken}
 use Rattle.mp_worker_steps.specs.Kept.{IsKept}
 

@@ -1,5 +1,5 @@
 -- Parts in which room is made: they hold what they held. And calls that are never refused, as there is room.
-use Rattle.std.proofs.Common.{◌≡◌, ◌≤◌, ◌++◌, ℕ, List, Result, Ok, Err, arith, drop, length, map, take, refl, sym, ap, ◌∙◌, subst}
+use Rattle.std.proofs.Common.{◌≡◌, ◌≤◌, ◌++◌, ℕ, ◌+◌, ◌<◌, ◌^◌, List, Result, Ok, Err, arith, drop, length, map, take, refl, sym, ap, ◌∙◌, subst}
 use Rattle.std.specs.Result.{IsOk}
 use Rattle.std.proofs.lemmas.Bool.{false≢true}
 use Rattle.mp_names.specs.Limits.{most_in_bundle}
@@ -14,13 +14,15 @@ use Rattle.mp_rows.specs.WorkerLog.{WorkerLog}
 use Rattle.mp_route.specs.Routed.{Routed}
 use Rattle.mp_host_laws.specs.Hosted.{Hosted}
 use Rattle.mp_host_laws.specs.HostOf.{IsHostOf}
+use Rattle.mp_host_laws.proofs.WakeTimes.{few_post_times}
 use Rattle.mp_handoff.specs.MoversState.{MoversState}
 use Rattle.mp_handoff.specs.MoversOf.{IsMoversOf}
 use Rattle.mp_worker_invariant.specs.Parts.{AreMoversAt, AreTaken, IsHostAt, Parts}
 use Rattle.mp_worker_invariant.proofs.Items.{same_each, same_length, written_back}
 use Rattle.mp_worker_invariant.proofs.Others.{other_hosts, other_movers, other_notes}
-use Rattle.mp_worker_parts.specs.Onward.{content}
-use Rattle.mp_worker_parts.proofs.Applied.{all_written, routers_roomy}
+use Rattle.mp_worker_steps.specs.Onward.{content}
+use Rattle.mp_worker_steps.proofs.Applied.{all_written, routers_roomy}
+use Rattle.mp_worker_steps.specs.Contents.{number_of_post_times}
 use Rattle.mp_worker_steps.specs.Kept.{IsKept}
 use Rattle.mp_worker_steps.specs.Rooms.{SameHosts, SameMovers, roomless, without_room}
 use Rattle.mp_worker_steps.proofs.Keeping.{kept_as, kept_by}
@@ -63,6 +65,10 @@ same_taken job w log old new layout noted are = record {
 }
 
 module _ {Cell : Type 0} {q : QueryFacts Cell} {job its : JobFacts} {p : Parts Cell} (kept : IsKept q job its p) where
+  -- records post at few times
+  pub times_fit : number_of_post_times q job + most_in_bundle < 2 ^ 64
+  times_fit = let few = few_post_times q kept.hands_on.later kept.hands_on.nothing job kept.legal in omega (arith, few)
+
   -- room is made in the hosts, which are lent as a slice
   pub hosts_roomy : (lent roomy : List (Hosted Cell)) (n : ℕ) → lent ≡ p.hosts → length lent ≡ n → SameHosts lent roomy → IsKept q job its (record p { hosts = take n (roomy ++ drop (length roomy) p.hosts) })
   hosts_roomy lent roomy n is count same =

@@ -32,13 +32,13 @@ use Rattle.mp_output.specs.Unwritten.{Unwritten}
 use Rattle.mp_worker_invariant.specs.Kept.{AreOwedAndNew, with_host, with_movers, with_notes}
 use Rattle.mp_worker_invariant.specs.Parts.{Parts}
 use Rattle.mp_worker_invariant.proofs.Standing.{host_at, movers_at, steps}
-use Rattle.mp_worker_parts.specs.declared.room.ChangeLists.{ChangeLists}
-use Rattle.mp_worker_parts.proofs.Coming.{packet_changes, packet_held}
-use Rattle.mp_worker_parts.proofs.Controls.{control_changes, control_held, control_within, may_note, not_noted, notes_are}
-use Rattle.mp_worker_parts.proofs.Received.{control_taken, only_new, only_owed}
-use Rattle.mp_worker_parts.specs.Applying.{IsApplying}
-use Rattle.mp_worker_parts.proofs.Applied.{changes_length}
-use Rattle.mp_worker_steps.specs.Contents.{Contents, number_of_times}
+use Rattle.mp_worker_steps.specs.declared.lists.ChangeLists.{ChangeLists}
+use Rattle.mp_worker_steps.proofs.Coming.{packet_changes, packet_held}
+use Rattle.mp_worker_steps.proofs.Controls.{control_changes, control_held, control_within, may_note, not_noted, notes_are}
+use Rattle.mp_worker_steps.proofs.Received.{control_taken, only_new, only_owed}
+use Rattle.mp_worker_steps.specs.Applied.{IsApplying}
+use Rattle.mp_worker_steps.proofs.Applied.{changes_length}
+use Rattle.mp_worker_steps.specs.Contents.{Contents, number_of_post_times}
 use Rattle.mp_worker_steps.specs.Kept.{IsKept}
 use Rattle.mp_worker_steps.specs.Rooms.{HasRoomToTake}
 use Rattle.mp_worker_steps.proofs.Keeping.{contents, kept_as}
@@ -62,7 +62,7 @@ pub record ControlComes {Cell : Type 0} (q : QueryFacts Cell) (job its : JobFact
 pub record PacketComes {Cell : Type 0} (q : QueryFacts Cell) (job its : JobFacts) (p : Parts Cell) (j b t : ℕ) (s : BinContent Cell) (h : Hosted Cell) : Type 0 where
   pub state : IsPacketOf q job h.stage b t s
   pub room : 1 ≤ h.room_for_bins
-  pub few : (ns : List (ℕ × ℕ)) → AreNumbersOf (not_waiting h s) ns → length ns ≤ number_of_times q job
+  pub few : (ns : List (ℕ × ℕ)) → AreNumbersOf (not_waiting h s) ns → length ns ≤ number_of_post_times q job
   pub counted : (ns : List (ℕ × ℕ)) → StandsInOrder q job h → AreNumbersOf (not_waiting h s) ns
       → AreChanges (outline_of q job) p.number p.log (with_took p.log (Packet j b t)) (packet_taken_at j t ns)
   pub taken : (new : Hosted Cell) → IsPutIn (brought b t s) h new → ((l : Log) → TakesPacket q job l b t s h new) → IsKept q job its (with_host p (with_took p.log (Packet j b t)) j new)

@@ -5,14 +5,14 @@ use Rattle.mp_names.specs.Logs.{empty_log}
 use Rattle.mp_stamps.specs.declared.seen.Seen.{Seen}
 use Rattle.mp_bins.specs.Notes.{Notes}
 use Rattle.mp_model.specs.Facts.{JobFacts, QueryFacts}
-use Rattle.mp_job.specs.Times.{times_of}
+use Rattle.mp_job.specs.Times.{post_times_of}
 use Rattle.mp_route.specs.Routed.{Routed}
 use Rattle.mp_host_laws.specs.Hosted.{Hosted}
 use Rattle.mp_handoff.specs.MoversState.{MoversState}
 use Rattle.mp_output.specs.Unwritten.{Unwritten}
 use Rattle.mp_worker_invariant.specs.Kept.{with_all_took}
 use Rattle.mp_worker_refinement.specs.State.{WorkerState}
-use Rattle.mp_worker_parts.specs.declared.room.ChangeLists.{ChangeLists}
+use Rattle.mp_worker_steps.specs.declared.lists.ChangeLists.{ChangeLists}
 
 -- the worker; for how many more names and changes its log has room; the control records that it noted; by stage its routers, hosts and movers; the answer rows that it has to send, and those that it has to write; and its lists for what a step changes
 pub record Contents (Cell : Type 0) : Type 0 where
@@ -39,6 +39,6 @@ new_worker w seen = record { number = w; log = empty_log; posted = empty_log; se
 abbrev pub with_taken : List Name → WorkerState → WorkerState
 with_taken xs s = record s { log = with_all_took s.log xs }
 
--- how many times of records, of their posts and of control records the job has, so that a packet has wakes of no more
-abbrev pub number_of_times : {Cell : Type 0} → QueryFacts Cell → JobFacts → ℕ
-number_of_times q job = length (times_of q job.events job.controls)
+-- how many times the records of the job post, so that a packet has wakes of no more
+abbrev pub number_of_post_times : {Cell : Type 0} → QueryFacts Cell → JobFacts → ℕ
+number_of_post_times q job = length (post_times_of q job.events)

@@ -25,4 +25,4 @@ module _ {H : Type 0} (after : H → ℕ → Log → H → Type 0) (kept : H →
   PostsLog (Ok (came.Seen version)) = Sees s version now × IsPosted after goes_on s old new × shows new now.seen
   PostsLog (Ok came.NothingNew) = (now ≡ s) × (s.posted ≡ s.log) × IsPosted after goes_on s old new × ShowsNothingNew shows s new
   PostsLog (Ok came.Busy) = (now ≡ s) × was_busy old × kept old new
-  PostsLog (Err (stop.Other cause)) = (now ≡ s) × was_stopped old cause × kept old new
+  PostsLog (Err (stop.Other cause)) = (now ≡ s) × was_stopped new cause × kept old new

@@ -15,7 +15,7 @@ use Rattle.mp_handoff.specs.MoversState.{MoversState}
 use Rattle.mp_output.specs.Rows.{GivesRows}
 use Rattle.mp_output.specs.Unwritten.{Unwritten}
 use Rattle.mp_worker_invariant.specs.Parts.{ArePartsOf, Parts}
-use Rattle.mp_worker_parts.specs.Applying.{HandsOn}
+use Rattle.mp_worker_steps.specs.Applied.{HandsOn}
 
 -- the parts of a worker
 abbrev pub parts_with : {Cell : Type 0} → WorkerLog → Log → Seen → Notes → ControlCursor → List Routed → List (Hosted Cell) → List MoversState → Unwritten → Unwritten → Parts Cell

@@ -1,7 +1,10 @@
 -- What the contracts of this crate cite.
+pub mod Applied
 pub mod Applying
 pub mod Contents
 pub mod Exchanging
+pub mod Ingesting
 pub mod Kept
+pub mod Onward
 pub mod Rooms
 pub mod Writing

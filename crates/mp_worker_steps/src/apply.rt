@@ -13,13 +13,15 @@ ghost use Rattle.mp_outline.specs.JobOutline.{layout_of, outline_of};
 ghost use Rattle.mp_host_laws.specs.HostOf.{HostMatchesLogAndSeen, OwnersAreCurrent};
 ghost use Rattle.mp_host.specs.Ready.{IsReadyHere};
 ghost use Rattle.mp_worker_invariant.specs.Parts.{Parts as PartsFacts};
-ghost use Rattle.mp_worker_parts.specs.Applying.{IsApplying};
-ghost use Rattle.mp_worker_parts.specs.Onward.{GoOnward};
+ghost use Rattle.mp_worker_steps.specs.Applied.{IsApplying};
+ghost use Rattle.mp_worker_steps.specs.Onward.{GoOnward};
 ghost use Rattle.mp_worker_refinement.specs.State.{CanMake};
 ghost use Rattle.mp_worker_refinement.specs.Steps.{StepsAlone};
 ghost use Rattle.mp_worker_steps.specs.Applying.{HasRoomToApply, IsEnoughFor, SomeGroupIsReady};
 ghost use Rattle.mp_worker_steps.specs.Kept.{IsKept};
 
+use crate::changes::{one_less, one_more, push_more};
+use crate::onward::{count_onward, hold_records, hold_rows, location_after, make_room_onward};
 use crate::parts::Parts;
 use mp_bins::Owners;
 use mp_host::{Applied, Host};
@@ -28,10 +30,6 @@ use mp_msg::Names;
 use mp_names::{Loc, Name};
 use mp_rows::{Change, LogList};
 use mp_stamps::Seen;
-use mp_worker_parts::{
-    count_onward, hold_records, hold_rows, location_after, make_room_onward, one_less, one_more,
-    push_more,
-};
 use std::alloc::{AllocError, Global};
 
 impl<'a, Q: Query, J: Naming> Parts<'a, Q, J> {

@@ -3,18 +3,18 @@ ghost use Rattle.std.specs.Prelude.{◌≡◌, IfNone, IfOk, IfSome, OnOk};
 ghost use Rattle.mp_names.specs.declared.kinds.Kind.TheVariants.{Ingest};
 ghost use Rattle.mp_names.specs.declared.names.Name.{Name};
 ghost use Rattle.mp_outline.specs.JobOutline.{outline_of};
-ghost use Rattle.mp_worker_parts.specs.Ingesting.{IsNextRecord};
+ghost use Rattle.mp_worker_steps.specs.Ingesting.{IsNextRecord};
 ghost use Rattle.mp_worker_refinement.specs.State.{CanMake};
 ghost use Rattle.mp_worker_refinement.specs.Steps.{MakesAlone, StepsAlone};
 ghost use Rattle.mp_worker_steps.specs.Rooms.{HasRoomToIngest};
 ghost use Rattle.mp_model.specs.Tables.{table_of};
 
+use crate::changes::{one_less, one_more};
 use crate::parts::Parts;
 use mp_model::{Naming, Query, Rec};
 use mp_msg::Names;
 use mp_names::{Loc, Name};
 use mp_rows::LogList;
-use mp_worker_parts::{one_less, one_more};
 use std::alloc::AllocError;
 
 impl<'a, Q: Query, J: Naming> Parts<'a, Q, J> {

@@ -4,9 +4,12 @@
 #![tactic(auto)]
 
 mod apply;
+mod changes;
 mod exchange;
 mod ingest;
 mod known;
+mod lists;
+mod onward;
 mod parts;
 mod receive;
 mod room;
@@ -15,5 +18,7 @@ mod start;
 mod take;
 mod write;
 
+pub use changes::{many_less, many_more, one_less, one_more};
 pub use exchange::Exchanged;
+pub use lists::ChangeLists;
 pub use parts::Parts;

@@ -2,6 +2,7 @@
 ghost use Rattle.std.specs.Prelude.{◌≡◌, ◌<◌};
 ghost use Rattle.mp_model.specs.Tables.{table_of};
 
+use crate::lists::ChangeLists;
 use mp_bins::Owners;
 use mp_handoff::Movers;
 use mp_host::Host;
@@ -12,7 +13,6 @@ use mp_output::{Rows, Unsent};
 use mp_route::Router;
 use mp_rows::{Log, OutlineOf};
 use mp_stamps::Seen;
-use mp_worker_parts::ChangeLists;
 use std::alloc::Global;
 use std::marker::Model;
 use std::snapshot::Snapshot;

@@ -15,7 +15,8 @@ use std::alloc::AllocError;
 impl<'a, Q: Query, J: Naming> Parts<'a, Q, J> {
     /// The message that waits longest in the mailbox from a worker is taken: a control record is noted, records go to the
     /// host of their stage, and so does the state of a bin that moves; an answer row goes to those to be written. Its names, or
-    /// `None` exactly where the mailbox was empty. `AllocError`: no memory, and nothing changes.
+    /// `None` exactly where the mailbox was empty. Room is made only where the post doesn't say that it is empty, so most
+    /// looks take no memory. `AllocError`: no memory for what a message may bring, and nothing changes.
     pub fn receive<P: Post<Msg<Q, J>>>(
         &mut self,
         from: u32,
@@ -30,6 +31,9 @@ impl<'a, Q: Query, J: Naming> Parts<'a, Q, J> {
             PostFollows P.workers P.depth P.serves P.denotes P.waits o self.old.worker.number self.old.worker.log self.new.worker.log post.old post.new }
     {
         let number = self.number();
+        if post.is_empty(from, number) {
+            return Ok(None);
+        }
         self.make_room_to_take()?;
         let Some(message) = post.pop(from, number) else {
             return Ok(None);

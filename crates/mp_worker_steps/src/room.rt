@@ -20,7 +20,7 @@ impl<'a, Q: Query, J: Naming> Parts<'a, Q, J> {
         ensures same { self.new.worker ≡ self.old.worker }
         ensures room { OnOk result (HasRoomToTake (table_of Q.facts J.job) J.job self.new) }
     {
-        let times = self.job.times().len();
+        let times = self.job.count_of_post_times();
         self.lists.make_room(times)?;
         make_room_to_take(times, &mut self.log, &mut self.rows, &mut self.owners)?;
         make_room_in_hosts(&mut self.hosts)?;
@@ -36,7 +36,7 @@ fn make_room_to_take<Q: Query, J: Naming>(
     rows: &mut Rows<Q, J>,
     owners: &mut Owners,
 ) -> Result<(), AllocError>
-    requires { times + 64 < 2 ^ 64 }
+    requires few { times + 64 < 2 ^ 64 }
     ensures same_log { (log.new.worker ≡ log.old.worker) × (log.new.log ≡ log.old.log) }
     ensures posted { log.new.posted ≡ log.old.posted }
     ensures same_rows { rows.new.rows ≡ rows.old.rows }

@@ -5,12 +5,12 @@ ghost use Rattle.mp_outline.specs.JobOutline.{outline_of};
 ghost use Rattle.mp_worker_refinement.specs.Steps.{StepsAlone};
 ghost use Rattle.mp_model.specs.Tables.{table_of};
 
+use crate::changes::one_less;
 use crate::parts::Parts;
 use mp_model::{Naming, Query};
 use mp_msg::Names;
 use mp_names::{Loc, Name};
 use mp_rows::LogList;
-use mp_worker_parts::one_less;
 use std::alloc::AllocError;
 
 impl<'a, Q: Query, J: Naming> Parts<'a, Q, J> {

@@ -9,6 +9,7 @@ ghost use Rattle.mp_worker_steps.specs.Contents.{new_worker};
 ghost use Rattle.mp_model.specs.Tables.{table_of};
 
 use crate::Parts;
+use crate::lists::ChangeLists;
 use mp_bins::Owners;
 use mp_handoff::Movers;
 use mp_host::Host;
@@ -19,7 +20,6 @@ use mp_output::{Rows, Unsent};
 use mp_route::Router;
 use mp_rows::Log;
 use mp_stamps::Seen;
-use mp_worker_parts::ChangeLists;
 use std::alloc::{AllocError, Global};
 use std::snapshot::Snapshot;
 

@@ -12,13 +12,13 @@ ghost use Rattle.mp_worker_steps.specs.Contents.{with_taken};
 ghost use Rattle.mp_worker_steps.specs.Rooms.{HasRoomToTake};
 ghost use Rattle.mp_model.specs.Tables.{table_of};
 
+use crate::changes::{many_less, many_more, one_less};
 use crate::parts::Parts;
 use mp_handoff::ControlChanges;
 use mp_model::{Fields, Naming, Query, Time};
 use mp_msg::{BinState, Body, Bundle, Msg};
 use mp_names::{Control, Loc, Name, Tag};
 use mp_rows::{Change, LogList, Pointstamp};
-use mp_worker_parts::{many_less, many_more, one_less};
 use std::alloc::AllocError;
 
 impl<'a, Q: Query, J: Naming> Parts<'a, Q, J> {

@@ -28,7 +28,7 @@ loop-worker-preserved g c =
     let are : AreContributions o l.worker empty_log items = subst (λ (xs : List Change). AreContributions o l.worker empty_log xs) (sym is) c.in_ok-opening_entries.ensures in
     record {
       opened = opened_next o l.worker l.counts c.add_all.new.counts items few are l.invariant.opened c.add_all.ensures.counted c.add_all.ensures.dropped c.add_all.ensures.same c.add_all.ensures.room;
-      same = record { stages = c.add_all.ensures.same.stages ∙ l.invariant.same.stages; times = c.add_all.ensures.same.times ∙ l.invariant.same.times };
+      same = record { stages = c.add_all.ensures.same.stages ∙ l.invariant.same.stages; times = c.add_all.ensures.same.times ∙ l.invariant.same.times; low = c.add_all.ensures.same.low ∙ l.invariant.same.low };
     }
 
 pub returns-clause-opened : goal.returns-clause-opened

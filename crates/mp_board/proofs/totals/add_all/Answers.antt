@@ -19,7 +19,7 @@ loop-change-preserved c =
     record {
       counted = λ loc t h. more_counted c.args.changes.now l.change-index _ loc t (count_in old loc t) (count_in l.counts loc t) (count_in c.add_one.new.counts loc t) c.loop-change-test.true (c.add_one.ensures.counted loc t (counted_on old l.counts loc t l.invariant.same h)) (l.invariant.counted loc t h);
       dropped = λ loc t h. c.add_one.ensures.dropped loc t (λ k. h (counted_along old l.counts loc t l.invariant.same k)) ∙ l.invariant.dropped loc t h;
-      same = record { stages = c.add_one.ensures.same.stages ∙ l.invariant.same.stages; times = c.add_one.ensures.same.times ∙ l.invariant.same.times };
+      same = record { stages = c.add_one.ensures.same.stages ∙ l.invariant.same.stages; times = c.add_one.ensures.same.times ∙ l.invariant.same.times; low = c.add_one.ensures.same.low ∙ l.invariant.same.low };
       still = elim c.if-add_one.branch [
         | then-add_one w ↦ λ e. absurd (false≢true (sym e ∙ w.moved-is ∙ w.if-add_one.true))
         | else-add_one w ↦ λ e at f h. c.add_one.ensures.still w.if-add_one.false at f (l.invariant.still (sym w.moved-is ∙ e) at f h)

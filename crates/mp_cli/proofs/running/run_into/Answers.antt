@@ -7,3 +7,15 @@ returns-in-Ok-clause-tallies g c = record { all = c.in-Ok.ensures.all; each = c.
 pub returns-in-Ok-replay_with_tallies-clause-tallies : goal.returns-in-Ok-replay_with_tallies-clause-tallies
 returns-in-Ok-replay_with_tallies-clause-tallies g c =
     record { all = c.in-Ok-replay_with_tallies.ensures.all; each = c.in-Ok-replay_with_tallies.ensures.tallies }
+
+pub returns-in-Ok-clause-answer : goal.returns-in-Ok-clause-answer
+returns-in-Ok-clause-answer g c = c.in-Ok.ensures.leaves.whole
+
+pub returns-in-Ok-clause-appends_only : goal.returns-in-Ok-clause-appends_only
+returns-in-Ok-clause-appends_only g c = c.in-Ok.ensures.leaves.appends
+
+pub returns-in-Err-clause-part : goal.returns-in-Err-clause-part
+returns-in-Err-clause-part g c = c.in-Err.ensures.leaves.part
+
+pub returns-in-Err-clause-appends_only : goal.returns-in-Err-clause-appends_only
+returns-in-Err-clause-appends_only g c = c.in-Err.ensures.leaves.appends

@@ -1,25 +1,25 @@
 -- A run begins with nothing written, so what stands in the sink at its end is what the schedule wrote.
-use Rattle.std.proofs.Common.{sym, ap, ◌∙◌}
-use Rattle.mp_outside.specs.Sink.{grown}
-use Rattle.mp_outside.proofs.SinkLemmas.{grown-nothing}
-use Rattle.mp_output.proofs.Writing.{on_err}
+use Rattle.std.proofs.Common.{refl}
+use Rattle.std.proofs.lemmas.Result.{err_from_is_err_and}
 use Rattle.mp_outline.specs.JobOutline.{outline_of}
+use Rattle.mp_answer_laws.proofs.Runs.{nothing_begun}
+use Rattle.mp_drive.proofs.Ended.{seed_leaves}
 use Rattle.mp_drive.proofs.Followed.{ends_after}
 use Rattle.mp_drive.proofs.run.replay.Goals as goal
 use Rattle.mp_model.specs.Tables.{table_of}
 
-pub returns-in_err-plain-clause-part : goal.returns-in_err-plain-clause-part
-returns-in_err-plain-clause-part g c = on_err c.from_residual.result (0, sym (grown-nothing (g.S.Sink.written c.args.sink.now)))
+pub returns-in_err-plain-clause-leaves : goal.returns-in_err-plain-clause-leaves
+returns-in_err-plain-clause-leaves g c =
+    let job = g.J.Naming.job in
+    let p = err_from_is_err_and c.from_residual.result c.from_residual.ensures.1 in
+    let s = g.S.Sink in
+    rw (p.1, p.2) (nothing_begun (table_of g.Q.Query.facts job) job s.written s.faults s.frame c.args.sink.now c.args.sink.now refl)
 
-pub returns-clause-answer : goal.returns-clause-answer
-returns-clause-answer g c =
-    let before = g.S.Sink.written c.args.sink.now in
-    c.drive_seed.ensures.answer before (sym (grown-nothing before) ∙ ap (grown before) (sym c.in_ok-plain.ensures.nothing_written))
-
-pub returns-clause-part : goal.returns-clause-part
-returns-clause-part g c =
-    let before = g.S.Sink.written c.args.sink.now in
-    c.drive_seed.ensures.part before (sym (grown-nothing before) ∙ ap (grown before) (sym c.in_ok-plain.ensures.nothing_written))
+pub returns-clause-leaves : goal.returns-clause-leaves
+returns-clause-leaves g c =
+    let job = g.J.Naming.job in
+    let s = g.S.Sink in
+    seed_leaves (table_of g.Q.Query.facts job) job s.written s.faults s.frame c.in_ok-plain.plain.state c.args.sink.now c.drive_seed.new.sink c.drive_seed.result c.in_ok-plain.ensures.nothing_written c.drive_seed.ensures.answer c.drive_seed.ensures.part c.drive_seed.ensures.failed c.drive_seed.ensures.no_fault c.drive_seed.ensures.appends_only
 
 pub returns-clause-made : goal.returns-clause-made
 returns-clause-made g c =

@@ -1,35 +1,50 @@
 -- A run begins with nothing written, so what stands in the sink at its end is what the schedule wrote.
-use Rattle.std.proofs.Common.{Ok, sym, ap, ◌∙◌, length}
-use Rattle.std.proofs.Math.Seq.{take-length}
-use Rattle.mp_outside.specs.Sink.{grown}
-use Rattle.mp_outside.proofs.SinkLemmas.{grown-nothing}
-use Rattle.mp_model.specs.Answers.{one_thread_answer}
+use Rattle.std.proofs.Common.{Ok, Err, refl}
+use Rattle.std.proofs.lemmas.Result.{err_from_is_err_and}
 use Rattle.mp_model.specs.Tables.{table_of}
-use Rattle.mp_output.proofs.Writing.{on_err}
 use Rattle.mp_outline.specs.JobOutline.{outline_of}
+use Rattle.mp_answer_laws.proofs.Runs.{handed_on, nothing_begun, told, untold}
+use Rattle.mp_drive.proofs.Ended.{seed_leaves}
 use Rattle.mp_drive.proofs.Followed.{ends_after}
 use Rattle.mp_drive.proofs.run.replay_with_tallies.Goals as goal
 
-pub returns-in_err-plain-clause-part : goal.returns-in_err-plain-clause-part
-returns-in_err-plain-clause-part g c = on_err c.from_residual.result (0, sym (grown-nothing (g.S.Sink.written c.args.sink.now)))
+pub returns-in_err-plain-clause-leaves : goal.returns-in_err-plain-clause-leaves
+returns-in_err-plain-clause-leaves g c =
+    let job = g.J.Naming.job in
+    let p = err_from_is_err_and c.from_residual.result c.from_residual.ensures.1 in
+    let s = g.S.Sink in
+    rw (p.1, p.2) (nothing_begun (table_of g.Q.Query.facts job) job s.written s.faults s.frame c.args.sink.now c.args.sink.now refl)
 
-pub returns-in_err-steps-clause-part : goal.returns-in_err-steps-clause-part
-returns-in_err-steps-clause-part g c =
-    let before = g.S.Sink.written c.args.sink.now in
-    on_err c.from_residual-in_err-steps.result
-    (c.in_err-steps.ensures.part before (sym (grown-nothing before) ∙ ap (grown before) (sym c.in_ok-plain.ensures.nothing_written)))
+pub returns-in_err-steps-clause-leaves : goal.returns-in_err-steps-clause-leaves
+returns-in_err-steps-clause-leaves g c =
+    let job = g.J.Naming.job in
+    let q = table_of g.Q.Query.facts job in
+    let s = g.S.Sink in
+    let e = c.in_err-steps.ensures in
+    let p = err_from_is_err_and c.from_residual-in_err-steps.result c.from_residual-in_err-steps.ensures.1 in
+    rw (p.1, p.2)
+    (handed_on q job s.written s.faults s.frame c.in_err-steps.field-0.0 c.args.sink.now c.drive_seed.new.sink
+    (seed_leaves q job s.written s.faults s.frame c.in_ok-plain.plain.state c.args.sink.now c.drive_seed.new.sink (Err c.in_err-steps.field-0.0) c.in_ok-plain.ensures.nothing_written e.answer e.part e.failed e.no_fault e.appends_only))
 
-pub returns-in_err-tallies-clause-part : goal.returns-in_err-tallies-clause-part
-returns-in_err-tallies-clause-part g c =
-    let before = g.S.Sink.written c.args.sink.now in
-    let answer = one_thread_answer (table_of g.Q.Query.facts g.J.Naming.job) g.J.Naming.job.events in
-    let whole = c.in_ok-steps.ensures.answer before (sym (grown-nothing before) ∙ ap (grown before) (sym c.in_ok-plain.ensures.nothing_written)) in
-    on_err c.from_residual-in_err-tallies.result (length answer, whole ∙ ap (grown before) (sym (take-length answer)))
+pub returns-in_err-tallies-clause-leaves : goal.returns-in_err-tallies-clause-leaves
+returns-in_err-tallies-clause-leaves g c =
+    let job = g.J.Naming.job in
+    let q = table_of g.Q.Query.facts job in
+    let s = g.S.Sink in
+    let e = c.in_ok-steps.ensures in
+    let p = err_from_is_err_and c.from_residual-in_err-tallies.result c.from_residual-in_err-tallies.ensures.1 in
+    rw (p.1, p.2)
+    (untold q job s.written s.faults s.frame c.in_ok-steps.steps c.args.sink.now c.drive_seed.new.sink
+    (seed_leaves q job s.written s.faults s.frame c.in_ok-plain.plain.state c.args.sink.now c.drive_seed.new.sink (Ok c.in_ok-steps.steps) c.in_ok-plain.ensures.nothing_written e.answer e.part e.failed e.no_fault e.appends_only))
 
-pub returns-clause-answer : goal.returns-clause-answer
-returns-clause-answer g c =
-    let before = g.S.Sink.written c.args.sink.now in
-    c.in_ok-steps.ensures.answer before (sym (grown-nothing before) ∙ ap (grown before) (sym c.in_ok-plain.ensures.nothing_written))
+pub returns-clause-leaves : goal.returns-clause-leaves
+returns-clause-leaves g c =
+    let job = g.J.Naming.job in
+    let q = table_of g.Q.Query.facts job in
+    let s = g.S.Sink in
+    let e = c.in_ok-steps.ensures in
+    told q job s.written s.faults s.frame c.in_ok-steps.steps _ c.args.sink.now c.drive_seed.new.sink
+    (seed_leaves q job s.written s.faults s.frame c.in_ok-plain.plain.state c.args.sink.now c.drive_seed.new.sink (Ok c.in_ok-steps.steps) c.in_ok-plain.ensures.nothing_written e.answer e.part e.failed e.no_fault e.appends_only)
 
 pub returns-clause-tallies : goal.returns-clause-tallies
 returns-clause-tallies g c = λ w t same. c.in_ok-tallies.ensures.at_the_end w t c.in_ok-steps.ensures.finished same

@@ -1,4 +1,4 @@
-use Rattle.std.proofs.Common.{◌≡◌, ◌∙◌, sym}
+use Rattle.std.proofs.Common.{◌∙◌, sym}
 use Rattle.mp_host.proofs.Kept.{one_first, other_first}
 use Rattle.mp_host.proofs.host.first_held.Goals as goal
 use Rattle.mp_host.proofs.host.first_held.Goals.{then-owner-worker+in_ok-push, else-owner-worker}

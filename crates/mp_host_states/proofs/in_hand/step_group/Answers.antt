@@ -2,6 +2,7 @@ use Rattle.std.proofs.Common.{◌≡◌, ◌∙◌, ap, get_or, subst, sym, true
 use Rattle.std.proofs.Math.Seq.{map-set_same}
 use Rattle.std.proofs.lemmas.List.Elements.{All-get_or}
 use Rattle.mp_postdated.specs.Wakes.{Has}
+use Rattle.mp_host_laws.specs.Hosted.{first_wake_of}
 use Rattle.mp_host_states.specs.Spans.{AreSpans}
 use Rattle.mp_host_states.specs.States.{States}
 use Rattle.mp_host_states.proofs.FirstWakes.{others_changed}
@@ -52,7 +53,7 @@ invariant_of-states-2 g c =
     let at = place_is _ held c.place_of-at.result (rw (← c.states.view_is) at c.place_of-at.ensures) one in
     let bins = map-set_same (λ s. s.bin) held c.place_of-at.result (record one { state = c.step_state.new.state }) one same in
     let others = others_changed held c.place_of-at.result (record one { state = c.step_state.new.state }) one same in
-    let firsts = c.renew.ensures i.bins held inv.wakes (λ b ne. rw c.deref.ensures.value (others b ne)) in
+    let firsts = c.renew.ensures i.bins held inv.wakes (λ b ne. rw c.deref.ensures.value (ap first_wake_of (others b ne))) in
     let inside = inside_at i.bins held inv.inside c.place_of-at.result one at.inside c.index_mut-one.ensures.value in
     record {
       count = inv.count;

@@ -7,7 +7,7 @@ use Rattle.mp_worker_refinement.specs.State.{WorkerState}
 use Rattle.mp_threads_member.specs.Members.{MemberState}
 use Rattle.mp_ruled.proofs.Places.{drop_first}
 use Rattle.mp_threads.specs.Crews.{HasDoneNothing}
-use Rattle.mp_threads.proofs.Lists.{all_more, in_replicate}
+use Rattle.mp_threads.proofs.Lists.{all_more, in_replicate, read_all, read_on}
 use Rattle.mp_threads.proofs.Tallied.{one_more_at}
 use Rattle.mp_threads.proofs.crew.new_members.Goals as goal
 
@@ -60,4 +60,16 @@ loop-number-preserved g c =
       new = all_more HasDoneNothing _ members member pushed.items i.new (ap (λ (s : WorkerState). s.log) is ∙ made.log, ap (λ (s : WorkerState). s.posted) is ∙ made.posted);
       hubs = sym hubs.1;
       posts = sym posts.1;
+      seats_are = read_on (λ (m : MemberState). m.hub) _ members member c.loop-number.hubs.items _ c.in-Some.hub _ pushed.items c.in-Some.ensures.items c.new-in-loop-number.ensures.hub i.seats_are;
+      posts_are = read_on (λ (m : MemberState). m.post) _ members member c.loop-number.posts.items _ c.in-Some-pop_front.post _ pushed.items c.in-Some-pop_front.ensures.items c.new-in-loop-number.ensures.post i.posts_are;
     }
+
+pub returns-clause-posts : goal.returns-clause-posts
+returns-clause-posts g c =
+    let i = c.loop-number.invariant in
+    read_all (λ (m : MemberState). m.post) _ c.loop-number.posts.items c.args.posts.items i.posts_are (omega (arith, i.many, ap (λ s. s.workers) c.shape-workers.ensures.shape, ap (λ (job : JobFacts). job.shape.workers) c.requires.job, c.requires.posts.0))
+
+pub returns-clause-seats : goal.returns-clause-seats
+returns-clause-seats g c =
+    let i = c.loop-number.invariant in
+    read_all (λ (m : MemberState). m.hub) _ c.loop-number.hubs.items c.args.hubs.items i.seats_are (omega (arith, i.many, ap (λ s. s.workers) c.shape-workers.ensures.shape, ap (λ (job : JobFacts). job.shape.workers) c.requires.job, c.requires.hubs.0))

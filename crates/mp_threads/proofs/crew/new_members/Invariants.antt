@@ -1,7 +1,8 @@
-use Rattle.std.proofs.Common.{◌≡◌, ◌≤◌, ℕ, All, Some, length, drop, vec_capacity}
+use Rattle.std.proofs.Common.{◌≡◌, ◌≤◌, ◌++◌, ℕ, All, Some, length, drop, vec_capacity}
 use Rattle.std.specs.Prelude.{slice_get}
 use Rattle.mp_threads_member.specs.Members.{MemberState}
 use Rattle.mp_threads.specs.Crews.{HasDoneNothing}
+use Rattle.mp_threads.specs.Crews.{posts_of, seats_of}
 use Rattle.mp_threads.proofs.crew.new_members.Given as goal
 
 abbrev pub invariant-loop-number : goal.invariant-loop-number
@@ -12,4 +13,6 @@ invariant-loop-number g l = record {
   new : All HasDoneNothing l.members.items;
   hubs : l.hubs.items ≡ drop l.number l.fn.hubs.items;
   posts : l.posts.items ≡ drop l.number l.fn.posts.items;
+  seats_are : seats_of l.members.items ++ l.hubs.items ≡ l.fn.hubs.items;
+  posts_are : posts_of l.members.items ++ l.posts.items ≡ l.fn.posts.items;
 }

@@ -7,7 +7,7 @@ use Rattle.mp_model.specs.Tables.{table_of}
 
 abbrev pub invariant-loop : goal.invariant-loop
 invariant-loop g l = record {
-  on : GoesOn (table_of g.Q.Query.facts g.J.Naming.job) g.J.Naming.job g.S.Sink.written g.S.Sink.faults g.S.Sink.frame l.fn.first.worker l.first.worker l.fn.sink l.sink;
+  on : GoesOn (table_of g.Q.Query.facts g.J.Naming.job) g.J.Naming.job g.S.Sink.written g.S.Sink.faults g.S.Sink.frame l.fn.first l.first l.fn.sink l.sink;
   numbers : map number_of l.places ≡ map number_of l.fn.places;
   many : length l.places ≡ length l.fn.places;
 }

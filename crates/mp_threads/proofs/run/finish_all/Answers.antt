@@ -3,9 +3,9 @@ use Rattle.std.specs.Vec.Iter.{into_iter_items}
 use Rattle.std.proofs.lemmas.List.{append-nil, nil_from_length}
 use Rattle.mp_outline.specs.JobOutline.{outline_of}
 use Rattle.mp_worker_refinement.specs.State.{WorkerState}
-use Rattle.mp_threads.specs.Crews.{IsFinished}
+use Rattle.mp_threads_member.specs.Driving.{IsFinished}
 use Rattle.mp_threads.specs.Places.{number_of}
-use Rattle.mp_threads.proofs.Ended.{where_true}
+use Rattle.mp_threads.proofs.Ended.{worker_is_back}
 use Rattle.mp_threads.proofs.Lists.{all_more, passed_on, room_left}
 use Rattle.mp_threads.proofs.run.finish_all.Goals as goal
 use Rattle.mp_model.specs.Tables.{table_of}
@@ -22,21 +22,21 @@ loop-place-init g c =
       over = c.is_over-all.ensures;
       numbers = λ all. ap (λ l. map of_worker l ++ map number_of (into_iter_items c.into_iter-place-iterator.result)) done ∙ ap (λ l. c.args.first.number ∷ map number_of l) places;
       room = let a = ap length done in let b = ap length places in let e = pushed.capacity in omega arith;
-      finished = λ all. all_more (IsFinished o) _ _ _ pushed.items (λ k d l. let e = ap length c.requires.done in absurd (omega arith)) (where_true c.args.driven (c.is_over-all.ensures all) c.requires.first);
+      finished = λ all. all_more (IsFinished o) _ _ _ pushed.items (λ k d l. let e = ap length c.requires.done in absurd (omega arith)) (c.requires.first (c.is_over-all.ensures all));
     }
 
-pub loop-place-preserved-in-Some-finish : goal.loop-place-preserved-in-Some-finish
-loop-place-preserved-in-Some-finish g c =
+pub loop-place-preserved-in-Some-finished : goal.loop-place-preserved-in-Some-finished
+loop-place-preserved-in-Some-finished g c =
     let o = outline_of (table_of g.Q.Query.facts g.J.Naming.job) g.J.Naming.job in
     let i = c.loop-place.invariant in
     let s = c.in-Some.ensures.steps.0 in
-    let items = c.push_reserved-in-Some-finish.ensures.items in
-    let back = c.in-Some-finish.ensures in
+    let items = c.push_reserved-in-Some-finished.ensures.items in
+    let back = worker_is_back o _ _ _ c.finish.ensures c.in-Some-finished.ensures in
     record {
       next = search rules;
       over = i.over;
       numbers = λ all. passed_on (λ s. s.number) number_of _ _ _ _ _ _ _ items s back.0 (i.numbers all);
-      room = room_left _ _ _ _ _ _ _ _ items s (let e = c.push_reserved-in-Some-finish.ensures.capacity in omega arith) i.room;
+      room = room_left _ _ _ _ _ _ _ _ items s (let e = c.push_reserved-in-Some-finished.ensures.capacity in omega arith) i.room;
       finished = λ all. all_more (IsFinished o) _ _ _ items (i.finished all) back.1;
     }
 

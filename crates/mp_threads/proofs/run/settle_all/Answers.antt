@@ -1,8 +1,9 @@
 use Rattle.std.proofs.Common.{◌∙◌, ◌++◌, ap, arith, length, map, rules, sym}
 use Rattle.std.specs.Vec.Iter.{into_iter_items}
 use Rattle.std.proofs.lemmas.List.{append-nil, length-map, nil_from_length}
+use Rattle.mp_threads.specs.Crews.{HasDoneNothing}
 use Rattle.mp_threads.specs.Places.{number_of}
-use Rattle.mp_threads.proofs.Lists.{passed_on, room_left}
+use Rattle.mp_threads.proofs.Lists.{all_head, all_tail, passed_on, room_left}
 use Rattle.mp_threads.proofs.run.settle_all.Goals as goal
 
 pub loop-member-preserved : goal.loop-member-preserved
@@ -13,8 +14,12 @@ loop-member-preserved g c =
     record {
       next = search rules;
       numbers = passed_on number_of (λ m. m.worker.number) _ _ _ _ _ _ _ items s c.settle.ensures i.numbers;
+      start = all_tail HasDoneNothing _ _ _ s i.start;
       room = room_left _ _ _ _ _ _ _ _ items s (let e = c.push_reserved.ensures.capacity in omega arith) i.room;
     }
+
+pub settle-requires-clause-start : goal.settle-requires-clause-start
+settle-requires-clause-start g c κs within = all_head HasDoneNothing _ _ _ c.in-Some.ensures.steps.0 c.loop-member.invariant.start
 
 pub returns-clause-numbers : goal.returns-clause-numbers
 returns-clause-numbers g c =

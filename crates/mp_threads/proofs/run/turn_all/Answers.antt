@@ -1,11 +1,13 @@
-use Rattle.std.proofs.Common.{◌∙◌, length-set}
+use Rattle.std.proofs.Common.{◌∙◌, arith, length-set}
 use Rattle.std.proofs.Math.Seq.{map-set_same}
+use Rattle.mp_ruled.proofs.Places.{set_here}
 use Rattle.mp_threads.specs.Places.{number_of}
+use Rattle.mp_threads.proofs.Ended.{on_err}
 use Rattle.mp_threads.proofs.run.turn_all.Goals as goal
 
 pub returns-in_err-one-clause-numbers : goal.returns-in_err-one-clause-numbers
 returns-in_err-one-clause-numbers g c =
-    map-set_same number_of c.loop-i.places c.loop-i.i c.turn_here.new.place c.index-places-i.result c.turn_here.ensures
+    map-set_same number_of c.loop-i.places c.loop-i.i c.turn_here.new.place c.index-places-i.result c.turn_here.ensures.number
     ∙ c.loop-i.invariant.numbers
 
 pub loop-i-preserved : goal.loop-i-preserved
@@ -14,6 +16,12 @@ loop-i-preserved g c =
     let places = c.loop-i.places in
     let now = c.turn_here.new.place in
     record {
-      numbers = map-set_same number_of places c.loop-i.i now c.index-places-i.result c.turn_here.ensures ∙ i.numbers;
+      numbers = map-set_same number_of places c.loop-i.i now c.index-places-i.result c.turn_here.ensures.number ∙ i.numbers;
       many = length-set places c.loop-i.i now ∙ i.many;
     }
+
+pub returns-in_err-one-clause-told : goal.returns-in_err-one-clause-told
+returns-in_err-one-clause-told g c =
+    let i = c.loop-i.i in
+    let now = c.turn_here.new.place in
+    on_err c.from_residual.result (i, now, c.in_err-one.field-0.0, set_here c.loop-i.places i now (omega (arith, c.loop-i-test.true, c.loop-i.invariant.many)), c.in_err-one.ensures.told)

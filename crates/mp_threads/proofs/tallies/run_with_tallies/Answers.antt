@@ -1,23 +1,17 @@
-use Rattle.std.proofs.Common.{◌∙◌, ap, length, subst, sym}
-use Rattle.std.proofs.Math.Seq.{take-length}
-use Rattle.mp_outside.specs.Sink.{grown}
-use Rattle.mp_outside.proofs.SinkLemmas.{grown-nothing}
-use Rattle.mp_model.specs.Answers.{one_thread_answer}
+use Rattle.std.proofs.Common.{refl, subst, sym}
 use Rattle.mp_model.specs.Tables.{table_of}
 use Rattle.mp_outline.specs.JobOutline.{outline_of}
 use Rattle.mp_threads.specs.Crews.{AreFinished}
+use Rattle.mp_answer_laws.proofs.Runs.{nothing_begun, untold}
 use Rattle.mp_threads.proofs.tallies.run_with_tallies.Goals as goal
 
-pub returns-in_default-clause-part : goal.returns-in_default-clause-part
-returns-in_default-clause-part g c = (0, sym (grown-nothing (g.S.Sink.written c.args.sink.now)))
+pub returns-in_default-clause-leaves : goal.returns-in_default-clause-leaves
+returns-in_default-clause-leaves g c = nothing_begun (table_of g.Q.Query.facts g.J.Naming.job) g.J.Naming.job g.S.Sink.written g.S.Sink.faults g.S.Sink.frame _ _ refl
 
 pub tallies_of-requires-clause-finished : goal.tallies_of-requires-clause-finished
 tallies_of-requires-clause-finished g c κs within =
     let o = outline_of (table_of g.Q.Query.facts g.J.Naming.job) g.J.Naming.job in
     subst (AreFinished o) (sym c.as_slice.ensures.value) c.in_ok-workers.ensures.finished
 
-pub returns-clause-part : goal.returns-clause-part
-returns-clause-part g c =
-    let before = g.S.Sink.written c.args.sink.now in
-    let answer = one_thread_answer (table_of g.Q.Query.facts g.J.Naming.job) g.J.Naming.job.events in
-    (length answer, c.in_ok-workers.ensures.answer ∙ ap (grown before) (sym (take-length answer)))
+pub returns-clause-leaves : goal.returns-clause-leaves
+returns-clause-leaves g c = untold (table_of g.Q.Query.facts g.J.Naming.job) g.J.Naming.job g.S.Sink.written g.S.Sink.faults g.S.Sink.frame _ _ _ c.in_ok-workers.ensures.leaves

@@ -8,9 +8,9 @@ use Rattle.mp_worker_invariant.proofs.Items.{again_there, put_at}
 use Rattle.mp_worker_invariant.proofs.Others.{other_movers}
 use Rattle.mp_worker_invariant.proofs.Standing.{host_at, movers_at}
 use Rattle.mp_outline.proofs.Whole.{nothing_opens}
-use Rattle.mp_worker_parts.specs.Leaving.{AreChangesOfLeaving}
-use Rattle.mp_worker_parts.proofs.Applied.{same_host_there}
-use Rattle.mp_worker_parts.proofs.Extracting.{changes_of_packet, with_room}
+use Rattle.mp_worker_sends.specs.Leaving.{AreChangesOfLeaving}
+use Rattle.mp_worker_steps.proofs.Applied.{same_host_there}
+use Rattle.mp_worker_sends.proofs.Extracting.{changes_of_packet, with_room}
 use Rattle.mp_worker_steps.proofs.Keeping.{kept_as}
 use Rattle.mp_worker_sends.proofs.bins.make_room_to_extract.Goals as goal
 use Rattle.mp_model.specs.Tables.{table_of}

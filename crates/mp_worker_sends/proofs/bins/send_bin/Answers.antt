@@ -16,9 +16,9 @@ use Rattle.mp_msg.specs.States.{BinContent, IsStateBefore}
 use Rattle.mp_outline.specs.JobOutline.{outline_of}
 use Rattle.mp_worker_invariant.specs.Parts.{Parts}
 use Rattle.mp_worker_invariant.proofs.Standing.{host_at, movers_at}
-use Rattle.mp_worker_parts.specs.Leaving.{IsDueNow, IsLeaving}
-use Rattle.mp_worker_parts.proofs.Extracting.{can_extract, host_back, leaving, one_packet, packet_kept, packet_stays_legal, packet_still_kept, some_leaves}
-use Rattle.mp_worker_parts.proofs.LeavingPackets.{bin_back, state_back, taken_of_bin}
+use Rattle.mp_worker_sends.specs.Leaving.{IsDueNow, IsLeaving}
+use Rattle.mp_worker_sends.proofs.Extracting.{can_extract, host_back, leaving, one_packet, packet_kept, packet_stays_legal, packet_still_kept, some_leaves}
+use Rattle.mp_worker_sends.proofs.LeavingPackets.{bin_back, state_back, taken_of_bin}
 use Rattle.mp_worker_refinement.proofs.Pushed.{single_may}
 use Rattle.mp_worker_steps.specs.Kept.{IsKept}
 use Rattle.mp_worker_steps.proofs.Keeping.{can_do, kept_by, makes_all}

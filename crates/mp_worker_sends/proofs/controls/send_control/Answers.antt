@@ -7,7 +7,7 @@ use Rattle.mp_names.specs.Controls.{control_of, no_control}
 use Rattle.mp_names.specs.Names.{is_ctrl}
 use Rattle.mp_model.specs.Facts.{JobFacts, QueryFacts}
 use Rattle.mp_worker_invariant.specs.Parts.{Parts, place_after}
-use Rattle.mp_worker_parts.proofs.Controls.{can_send_control, control_counted, control_kept, one_control}
+use Rattle.mp_worker_steps.proofs.Controls.{can_send_control, control_counted, control_kept, one_control}
 use Rattle.mp_worker_refinement.proofs.Alone.{post_same}
 use Rattle.mp_worker_refinement.proofs.Pushed.{held_may}
 use Rattle.mp_worker_steps.specs.Kept.{IsKept}

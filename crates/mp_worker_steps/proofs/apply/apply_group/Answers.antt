@@ -1,4 +1,4 @@
-use Rattle.mp_worker_parts.proofs.Applied.{applying}
+use Rattle.mp_worker_steps.proofs.Applied.{applying}
 use Rattle.mp_worker_steps.proofs.apply.apply_group.Goals as goal
 
 pub unreachable-requires : goal.unreachable-requires

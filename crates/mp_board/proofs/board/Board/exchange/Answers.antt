@@ -9,6 +9,7 @@ use Rattle.mp_stamps.specs.Seen.{seen_at}
 use Rattle.mp_rows.specs.WorkerLog.{IsUnposted, WorkerLog}
 use Rattle.mp_board.specs.Boards.{Posted}
 use Rattle.mp_board.specs.Soundness.{BoardIsSound}
+use Rattle.mp_board.proofs.GivenBack.{quiet_where_passed, sound_where_moved}
 use Rattle.mp_board.proofs.Posting.{log_posted, posted_here, room_for_changes, told, version_by_log, version_fits, version_is}
 use Rattle.mp_board.proofs.Recounted.{frontier_of_equal}
 use Rattle.mp_board.proofs.board.Board.exchange.Goals as goal
@@ -60,8 +61,27 @@ invariant_of-self g c =
     let is : map (λ l. l.value.log) (set s.logs.items w c.of.result) ≡ set logs w before.log = map-set (λ l. l.value.log) s.logs.items w c.of.result ∙ ap (λ (l : WorkerLog). set logs w l.log) (c.of.ensures ∙ c.post.ensures) in
     let version : c.follow.new.self.version ≡ cond (log_size before.log == log_size before.posted) s.seen.version (suc s.seen.version) = version_is _ _ _ _ _ _ c.follow.ensures.version c.next_version-version.ensures c.version.ensures c.is_posted.ensures in
     let legal = c.requires.legal in
+    let sound : BoardIsSound o (map (λ l. l.value.log) (set s.logs.items w c.of.result)) c.add_all-moved.new.counts c.follow.new.self =
     subst (λ (ls : List Log). BoardIsSound o ls c.add_all-moved.new.counts c.follow.new.self) (sym is)
-    (log_posted o logs s.counts s.seen w before.posted before.log c.changes.result.now c.self.invariant c.requires.worker here un legal c.add_all-moved.new.counts c.add_all-moved.ensures.counted c.add_all-moved.ensures.dropped c.add_all-moved.ensures.same c.add_all-moved.ensures.room c.follow.new.self version c.follow.ensures.stages c.follow.ensures.frontiers)
+    (log_posted o logs s.counts s.seen w before.posted before.log c.changes.result.now c.self.invariant c.requires.worker here un legal c.add_all-moved.new.counts c.add_all-moved.ensures.counted c.add_all-moved.ensures.dropped c.add_all-moved.ensures.same c.add_all-moved.ensures.room c.follow.new.self version c.follow.ensures.stages c.follow.ensures.frontiers) in
+    sound_where_moved o _ _ _ sound c.give_back_passed.new.counts c.add_all-moved.result c.give_back_passed.ensures.moved c.give_back_passed.ensures.still
+
+pub give_back_passed-requires-clause-quiet : goal.give_back_passed-requires-clause-quiet
+give_back_passed-requires-clause-quiet g c =
+    let o = g.O.Outlined.outline in
+    let s = c.self.inside in
+    let w = c.args.worker in
+    let before = c.args.log.now in
+    let logs : List Log = map (λ l. l.value.log) s.logs.items in
+    let here : log_at logs w ≡ before.posted = ap (λ (b : Posted). log_at b.logs w) c.self.view_is ∙ c.requires.posted in
+    let un : IsUnposted o w before.posted before.log c.changes.result.now = subst (λ (n : ℕ). IsUnposted o n before.posted before.log c.changes.result.now) c.requires.own c.changes.ensures in
+    let is : map (λ l. l.value.log) (set s.logs.items w c.of.result) ≡ set logs w before.log = map-set (λ l. l.value.log) s.logs.items w c.of.result ∙ ap (λ (l : WorkerLog). set logs w l.log) (c.of.ensures ∙ c.post.ensures) in
+    let version : c.follow.new.self.version ≡ cond (log_size before.log == log_size before.posted) s.seen.version (suc s.seen.version) = version_is _ _ _ _ _ _ c.follow.ensures.version c.next_version-version.ensures c.version.ensures c.is_posted.ensures in
+    let legal = c.requires.legal in
+    let sound : BoardIsSound o (map (λ l. l.value.log) (set s.logs.items w c.of.result)) c.add_all-moved.new.counts c.follow.new.self =
+    subst (λ (ls : List Log). BoardIsSound o ls c.add_all-moved.new.counts c.follow.new.self) (sym is)
+    (log_posted o logs s.counts s.seen w before.posted before.log c.changes.result.now c.self.invariant c.requires.worker here un legal c.add_all-moved.new.counts c.add_all-moved.ensures.counted c.add_all-moved.ensures.dropped c.add_all-moved.ensures.same c.add_all-moved.ensures.room c.follow.new.self version c.follow.ensures.stages c.follow.ensures.frontiers) in
+    quiet_where_passed o _ _ _ sound
 
 pub returns-clause-posted : goal.returns-clause-posted
 returns-clause-posted g c =

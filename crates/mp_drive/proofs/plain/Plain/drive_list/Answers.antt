@@ -9,7 +9,7 @@ use Rattle.mp_outside.proofs.SinkLemmas.{rose_later}
 use Rattle.mp_outline.specs.JobOutline.{outline_of}
 use Rattle.mp_outline.proofs.Soundness.{outline_is_sound}
 use Rattle.mp_worker.specs.declared.turn.Turn.TheVariants.{Busy}
-use Rattle.mp_drive.specs.declared.stop.DriveStop.TheVariants.{Memory, Write}
+use Rattle.mp_board.specs.declared.causes.Cause.TheVariants.{Memory, Write}
 use Rattle.mp_drive.specs.Driven.{AreReached, Driven}
 use Rattle.mp_drive.specs.Refused.{KeepsSteps}
 use Rattle.mp_drive.proofs.Appended.{appends_further}

@@ -6,7 +6,7 @@ use Rattle.mp_outside.proofs.SinkLemmas.{rose_later}
 use Rattle.mp_job.specs.Legal.{JobIsLegal}
 use Rattle.mp_outline.specs.JobOutline.{outline_of}
 use Rattle.mp_outline.proofs.Soundness.{outline_is_sound}
-use Rattle.mp_drive.specs.declared.stop.DriveStop.TheVariants.{Write}
+use Rattle.mp_board.specs.declared.causes.Cause.TheVariants.{Write}
 use Rattle.mp_draws.specs.Draws.{draw_of, next_state, state_after}
 use Rattle.mp_drive.specs.Driven.{AllKnowTheEnd, AreReached, Driven}
 use Rattle.mp_drive.specs.Refused.{KeepsSchedule, RefusesDraw}

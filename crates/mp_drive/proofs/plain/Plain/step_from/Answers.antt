@@ -12,7 +12,7 @@ use Rattle.mp_outline.specs.JobOutline.{outline_of}
 use Rattle.mp_outline.proofs.Soundness.{outline_is_sound}
 use Rattle.mp_machine.specs.Places.{places}
 use Rattle.mp_machine.specs.Runs.{Turn, is_made, made_count}
-use Rattle.mp_drive.specs.declared.stop.DriveStop.TheVariants.{Write}
+use Rattle.mp_board.specs.declared.causes.Cause.TheVariants.{Write}
 use Rattle.mp_drive.specs.Driven.{AreReached, Driven, LeadsOn, turn_in}
 use Rattle.mp_drive.specs.Refused.{RefusesDraw}
 use Rattle.mp_drive.proofs.Appended.{appends_further, appends_none}

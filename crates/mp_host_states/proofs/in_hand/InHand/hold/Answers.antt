@@ -1,5 +1,6 @@
-use Rattle.std.proofs.Common.{◌≡◌, ◌∙◌, length, arith}
+use Rattle.std.proofs.Common.{◌≡◌, ◌∙◌, ap, length, arith}
 use Rattle.std.proofs.lemmas.List.{length-map}
+use Rattle.mp_host_laws.specs.Hosted.{first_wake_of}
 use Rattle.mp_host_states.specs.Spans.{bins_of}
 use Rattle.mp_host_states.proofs.FirstWakes.{others_with}
 use Rattle.mp_host_states.proofs.Found.{inside_with}
@@ -22,7 +23,7 @@ invariant_of-self g c =
     let items = c.push_reserved.ensures.items in
     let count : length held ≡ c.len.result = omega arith in
     let spans = c.widen.ensures.spans (bins_of held) (length-map held (λ s. s.bin) ∙ count) inv.places in
-    let firsts = c.renew.ensures i.bins held inv.wakes (λ b ne. rw (c.deref.ensures.value, items) (others_with held c.args.one b ne)) in
+    let firsts = c.renew.ensures i.bins held inv.wakes (λ b ne. rw (c.deref.ensures.value, items) (ap first_wake_of (others_with held c.args.one b ne))) in
     record {
       count = inv.count;
       inside = rw items (inside_with i.bins held inv.inside c.args.one (rw (← c.self.view_is) at c.requires.bin));

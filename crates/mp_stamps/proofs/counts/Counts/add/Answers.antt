@@ -1,19 +1,23 @@
-use Rattle.std.proofs.Common.{◌≡◌, ◌<◌, ◌∙◌, ap, arith, get_or, length, rules, subst, sym, Contains, w64, SFits}
+use Rattle.std.proofs.Common.{◌≡◌, ◌<◌, ◌≤◌, ◌/◌, ◌∙◌, ℕ, List, ap, arith, get_or, length, rules, set, subst, sym, Contains, w64, SFits}
 use Rattle.std.proofs.lemmas.Bool.{false≢true}
-use Rattle.std.proofs.lemmas.List.{get_or_default, length-set}
+use Rattle.std.proofs.lemmas.List.{get_or_default, get_or-set_same}
 use Rattle.std.proofs.lemmas.List.Elements.{All-get_or}
 use Rattle.std.proofs.lemmas.Int.{to_z-of_z}
 use Rattle.mp_names.specs.declared.locations.Frontier.TheVariants.{At, Done}
-use Rattle.mp_stamps.specs.Counts.{CountTable, count_in, count_of}
+use Rattle.mp_names.specs.Frontiers.{IsFrontierOf}
+use Rattle.mp_stamps.specs.Counts.{CountTable, IsRowFor, IsTable, count_in, count_of, low_of, start_of, table_of_rows}
 use Rattle.mp_stamps.specs.Flow.{AreFirstTimes, IsFirstTime}
 use Rattle.mp_stamps.specs.Places.{place_of}
+use Rattle.mp_stamps.specs.Rows.{RowState}
 use Rattle.mp_stamps.proofs.LeastTimes.{first_time_once, firsts_still, firsts_then, frontier_still, here, still_table, with_row}
-use Rattle.mp_stamps.proofs.Tables.{Searched, added_fits, added_here, added_others, found_time, has_not_contained, is_counted, missed_time, searched_in}
+use Rattle.mp_stamps.proofs.Tabled.{other_row, own_counts, own_low, place_in}
+use Rattle.mp_stamps.proofs.Tables.{Searched, added_fits, added_here, added_others, found_time, has_not_contained, is_counted, long_row, missed_time, rises, row_set, searched_in}
+use Rattle.mp_stamps.proofs.Times.{start_after, start_upto}
 use Rattle.mp_stamps.proofs.counts.Counts.add.Goals as goal
 
 pub returns-in_default-clause-counted : goal.returns-in_default-clause-counted
 returns-in_default-clause-counted c =
-    let inside : CountTable = record { stages = c.self.inside.stages; times = c.self.inside.times.items; rows = c.self.inside.rows.items } in
+    let inside : CountTable = table_of_rows c.self.inside.stages c.self.inside.times.items c.self.inside.rows.items in
     let t = c.args.time in
     let there : Searched inside t c.self.invariant.0 c.index_of.result = searched_in c.deref.result.now inside.times t c.index_of.result c.deref.ensures.value c.index_of.ensures in
     let none = missed_time inside t c.self.invariant.0 c.index_of.result c.in_default.field-0 there c.in_default.is in
@@ -21,106 +25,215 @@ returns-in_default-clause-counted c =
 
 pub add-requires-clause-index : goal.add-requires-clause-index
 add-requires-clause-index c =
-    let inside : CountTable = record { stages = c.self.inside.stages; times = c.self.inside.times.items; rows = c.self.inside.rows.items } in
+    let rows : List RowState = c.self.inside.rows.items in
+    let inside : CountTable = table_of_rows c.self.inside.stages c.self.inside.times.items rows in
     let t = c.args.time in
+    let p = c.place_of-place.result in
     let there : Searched inside t c.self.invariant.0 c.index_of.result = searched_in c.deref.result.now inside.times t c.index_of.result c.deref.ensures.value c.index_of.ensures in
-    let place : c.place_of-place.result < length inside.rows = search rules in
-    let found = found_time inside t c.self.invariant.0 c.index_of.result c.in-Ok.index there c.in-Ok.is in
     let row = c.index_mut.result.now in
-    let same : length row ≡ length inside.times = ap length c.index_mut.ensures.value ∙ All-get_or (λ r. length r ≡ length inside.times) inside.rows c.place_of-place.result row place c.self.invariant.0.each_time in
-    omega (arith, found.0, same)
+    let within : p < length rows = search rules in
+    let own = own_counts inside.stages inside.times rows p row within c.index_mut.ensures.value in
+    let found = found_time inside t c.self.invariant.0 c.index_of.result c.in-Ok.index there c.in-Ok.is in
+    let long = All-get_or (IsRowFor (length inside.times)) inside.rows p row.counts (place_in inside.stages inside.times rows p within) c.self.invariant.0.each_time in
+    omega (arith, found.0, long_row (length inside.times) row.counts (subst (IsRowFor (length inside.times)) (sym own) long))
+
+pub returns-then-index-given-clause-counted : goal.returns-then-index-given-clause-counted
+returns-then-index-given-clause-counted c =
+    let rows : List RowState = c.self.inside.rows.items in
+    let inside : CountTable = table_of_rows c.self.inside.stages c.self.inside.times.items rows in
+    let t = c.args.time in
+    let p = c.place_of-place.result in
+    let within : p < length rows = search rules in
+    let there : Searched inside t c.self.invariant.0 c.index_of.result = searched_in c.deref.result.now inside.times t c.index_of.result c.deref.ensures.value c.index_of.ensures in
+    let found = found_time inside t c.self.invariant.0 c.index_of.result c.in-Ok.index there c.in-Ok.is in
+    let before : c.in-Ok.index / 1024 < c.index.result.now.given = search rules in
+    let low : low_of inside c.args.loc ≡ start_of inside.times c.index.result.now.given = ap (λ (n : ℕ). get_or inside.low n 0) (sym c.place_of-place.ensures) ∙ own_low inside.stages inside.times rows p c.index.result.now within c.index.ensures in
+    let start = start_after inside.times c.in-Ok.index c.index.result.now.given (rises inside.times c.self.invariant.0.rising) found.0 before in
+    λ counted.
+    let kept : low_of inside c.args.loc ≤ t = subst (λ (table : CountTable). low_of table c.args.loc ≤ t) (sym c.self.view_is) counted.2 in
+    absurd (omega (arith, low, start, found.1, kept))
 
 pub add-requires-clause-fits : goal.add-requires-clause-fits
 add-requires-clause-fits c =
-    let inside : CountTable = record { stages = c.self.inside.stages; times = c.self.inside.times.items; rows = c.self.inside.rows.items } in
+    let rows : List RowState = c.self.inside.rows.items in
+    let inside : CountTable = table_of_rows c.self.inside.stages c.self.inside.times.items rows in
     let t = c.args.time in
+    let p = c.place_of-place.result in
+    let within : p < length rows = search rules in
     let there : Searched inside t c.self.invariant.0 c.index_of.result = searched_in c.deref.result.now inside.times t c.index_of.result c.deref.ensures.value c.index_of.ensures in
-    let place : c.place_of-place.result < length inside.rows = search rules in
+    let row = c.index_mut.result.now in
+    let place = place_in inside.stages inside.times rows p within in
+    let own = own_counts inside.stages inside.times rows p row within c.index_mut.ensures.value in
+    let found = found_time inside t c.self.invariant.0 c.index_of.result c.in-Ok.index there c.in-Ok.is in
+    let past : c.index.result.now.given ≤ c.in-Ok.index / 1024 = search rules in
+    let low : low_of inside c.args.loc ≡ start_of inside.times c.index.result.now.given = ap (λ (n : ℕ). get_or inside.low n 0) (sym c.place_of-place.ensures) ∙ own_low inside.stages inside.times rows p c.index.result.now within c.index.ensures in
+    let start = start_upto inside.times c.in-Ok.index c.index.result.now.given (rises inside.times c.self.invariant.0.rising) found.0 past in
+    let kept : low_of inside c.args.loc ≤ t = omega (arith, low, start, found.1) in
     let by : SFits w64 c.args.by = search rules in
-    added_fits inside c.args.self.now t c.self.invariant.0 c.self.view_is c.args.loc c.place_of-place.result c.place_of-place.ensures place c.index_of.result c.in-Ok.index there c.in-Ok.is c.index_mut.result.now c.index_mut.ensures.value _ c.args.by (to_z-of_z w64 c.args.by by) c.requires
+    added_fits inside c.args.self.now t c.self.invariant.0 c.self.view_is c.args.loc p c.place_of-place.ensures place c.index_of.result c.in-Ok.index there c.in-Ok.is row.counts own _ c.args.by (to_z-of_z w64 c.args.by by) kept c.requires
+
+pub first_in-after-requires-clause-long : goal.first_in-after-requires-clause-long
+first_in-after-requires-clause-long c =
+    let rows : List RowState = c.self.inside.rows.items in
+    let inside : CountTable = table_of_rows c.self.inside.stages c.self.inside.times.items rows in
+    let t = c.args.time in
+    let p = c.place_of-place.result in
+    let within : p < length rows = search rules in
+    let there : Searched inside t c.self.invariant.0 c.index_of.result = searched_in c.deref.result.now inside.times t c.index_of.result c.deref.ensures.value c.index_of.ensures in
+    let row = c.index_mut.result.now in
+    let place = place_in inside.stages inside.times rows p within in
+    let own = own_counts inside.stages inside.times rows p row within c.index_mut.ensures.value in
+    let then : table_of_rows inside.stages inside.times (set rows p c.add.new.self) ≡ record inside { rows = set inside.rows p c.add.new.self.counts } = other_row inside.stages inside.times rows p row within c.index_mut.ensures.value c.add.new.self c.add.ensures.given in
+    let each : IsRowFor (length inside.times) row.counts = subst (IsRowFor (length inside.times)) (sym own) (All-get_or (IsRowFor (length inside.times)) inside.rows p row.counts place c.self.invariant.0.each_time) in
+    let found = found_time inside t c.self.invariant.0 c.index_of.result c.in-Ok.index there c.in-Ok.is in
+    let new = c.add.new.self.counts in
+    let long : IsRowFor (length inside.times) new = subst (IsRowFor (length inside.times)) (sym c.add.ensures.counts) (row_set (length inside.times) row.counts c.in-Ok.index _ found.0 each) in
+    let read : c.index-2.result.now ≡ c.add.new.self = c.index-2.ensures ∙ get_or-set_same rows p c.add.new.self c.index-2.result.now within in
+    let enough = long_row (length inside.times) new long in
+    omega (arith, enough, ap (λ (r : RowState). length r.counts) read, ap (λ (ts : List ℕ). length ts) c.deref-2.ensures.value)
 
 pub returns-clause-counted : goal.returns-clause-counted
 returns-clause-counted c =
-    let inside : CountTable = record { stages = c.self.inside.stages; times = c.self.inside.times.items; rows = c.self.inside.rows.items } in
+    let rows : List RowState = c.self.inside.rows.items in
+    let inside : CountTable = table_of_rows c.self.inside.stages c.self.inside.times.items rows in
     let t = c.args.time in
+    let p = c.place_of-place.result in
+    let within : p < length rows = search rules in
     let there : Searched inside t c.self.invariant.0 c.index_of.result = searched_in c.deref.result.now inside.times t c.index_of.result c.deref.ensures.value c.index_of.ensures in
-    let place : c.place_of-place.result < length inside.rows = search rules in
+    let row = c.index_mut.result.now in
+    let place = place_in inside.stages inside.times rows p within in
+    let own = own_counts inside.stages inside.times rows p row within c.index_mut.ensures.value in
     let by : SFits w64 c.args.by = search rules in
-    λ _. added_here inside c.args.self.now t c.self.invariant.0 c.self.view_is c.args.loc c.place_of-place.result c.place_of-place.ensures place c.index_of.result c.in-Ok.index there c.in-Ok.is c.index_mut.result.now c.index_mut.ensures.value _ c.args.by (to_z-of_z w64 c.args.by by) c.add.new.self c.add.ensures
+    let then : table_of_rows inside.stages inside.times (set rows p c.add.new.self) ≡ record inside { rows = set inside.rows p c.add.new.self.counts } = other_row inside.stages inside.times rows p row within c.index_mut.ensures.value c.add.new.self c.add.ensures.given in
+    λ _. ap (λ (table : CountTable). count_in table c.args.loc t) then ∙ added_here inside c.args.self.now t c.self.invariant.0 c.self.view_is c.args.loc p c.place_of-place.ensures place c.index_of.result c.in-Ok.index there c.in-Ok.is row.counts own _ c.args.by (to_z-of_z w64 c.args.by by) c.add.new.self.counts c.add.ensures.counts
 
 pub returns-clause-others : goal.returns-clause-others
 returns-clause-others c =
-    let inside : CountTable = record { stages = c.self.inside.stages; times = c.self.inside.times.items; rows = c.self.inside.rows.items } in
+    let rows : List RowState = c.self.inside.rows.items in
+    let inside : CountTable = table_of_rows c.self.inside.stages c.self.inside.times.items rows in
     let t = c.args.time in
+    let p = c.place_of-place.result in
+    let within : p < length rows = search rules in
     let there : Searched inside t c.self.invariant.0 c.index_of.result = searched_in c.deref.result.now inside.times t c.index_of.result c.deref.ensures.value c.index_of.ensures in
-    let place : c.place_of-place.result < length inside.rows = search rules in
+    let row = c.index_mut.result.now in
+    let place = place_in inside.stages inside.times rows p within in
+    let own = own_counts inside.stages inside.times rows p row within c.index_mut.ensures.value in
     let by : SFits w64 c.args.by = search rules in
-    added_others inside c.args.self.now t c.self.invariant.0 c.self.view_is c.args.loc c.place_of-place.result c.place_of-place.ensures place c.index_of.result c.in-Ok.index there c.in-Ok.is c.index_mut.result.now c.index_mut.ensures.value _ c.args.by (to_z-of_z w64 c.args.by by) c.add.new.self c.add.ensures
+    let then : table_of_rows inside.stages inside.times (set rows p c.add.new.self) ≡ record inside { rows = set inside.rows p c.add.new.self.counts } = other_row inside.stages inside.times rows p row within c.index_mut.ensures.value c.add.new.self c.add.ensures.given in
+    λ at u n. ap (λ (table : CountTable). count_in table at u) then ∙ added_others inside c.args.self.now t c.self.invariant.0 c.self.view_is c.args.loc p c.place_of-place.ensures place c.index_of.result c.in-Ok.index there c.in-Ok.is row.counts own _ c.args.by (to_z-of_z w64 c.args.by by) c.add.new.self.counts c.add.ensures.counts at u n
 
 pub returns-clause-dropped : goal.returns-clause-dropped
 returns-clause-dropped c =
-    let inside : CountTable = record { stages = c.self.inside.stages; times = c.self.inside.times.items; rows = c.self.inside.rows.items } in
+    let rows : List RowState = c.self.inside.rows.items in
+    let inside : CountTable = table_of_rows c.self.inside.stages c.self.inside.times.items rows in
     let t = c.args.time in
+    let p = c.place_of-place.result in
+    let within : p < length rows = search rules in
     let there : Searched inside t c.self.invariant.0 c.index_of.result = searched_in c.deref.result.now inside.times t c.index_of.result c.deref.ensures.value c.index_of.ensures in
-    let place : c.place_of-place.result < length inside.rows = search rules in
+    let row = c.index_mut.result.now in
+    let place = place_in inside.stages inside.times rows p within in
+    let own = own_counts inside.stages inside.times rows p row within c.index_mut.ensures.value in
+    let found = found_time inside t c.self.invariant.0 c.index_of.result c.in-Ok.index there c.in-Ok.is in
+    let past : c.index.result.now.given ≤ c.in-Ok.index / 1024 = search rules in
+    let low : low_of inside c.args.loc ≡ start_of inside.times c.index.result.now.given = ap (λ (n : ℕ). get_or inside.low n 0) (sym c.place_of-place.ensures) ∙ own_low inside.stages inside.times rows p c.index.result.now within c.index.ensures in
+    let start = start_upto inside.times c.in-Ok.index c.index.result.now.given (rises inside.times c.self.invariant.0.rising) found.0 past in
+    let kept : low_of inside c.args.loc ≤ t = omega (arith, low, start, found.1) in
     let by : SFits w64 c.args.by = search rules in
-    λ not. absurd (not (is_counted inside c.args.self.now t c.self.invariant.0 c.self.view_is c.args.loc c.place_of-place.result c.place_of-place.ensures place c.index_of.result c.in-Ok.index there c.in-Ok.is c.index_mut.result.now c.index_mut.ensures.value _ c.args.by (to_z-of_z w64 c.args.by by)))
+    λ not. absurd (not (is_counted inside c.args.self.now t c.self.invariant.0 c.self.view_is c.args.loc p c.place_of-place.ensures place c.index_of.result c.in-Ok.index there c.in-Ok.is row.counts own _ c.args.by (to_z-of_z w64 c.args.by by) kept))
+
+pub returns-clause-same : goal.returns-clause-same
+returns-clause-same c =
+    let rows : List RowState = c.self.inside.rows.items in
+    let inside : CountTable = table_of_rows c.self.inside.stages c.self.inside.times.items rows in
+    let t = c.args.time in
+    let p = c.place_of-place.result in
+    let within : p < length rows = search rules in
+    let there : Searched inside t c.self.invariant.0 c.index_of.result = searched_in c.deref.result.now inside.times t c.index_of.result c.deref.ensures.value c.index_of.ensures in
+    let row = c.index_mut.result.now in
+    let place = place_in inside.stages inside.times rows p within in
+    let own = own_counts inside.stages inside.times rows p row within c.index_mut.ensures.value in
+    let then : table_of_rows inside.stages inside.times (set rows p c.add.new.self) ≡ record inside { rows = set inside.rows p c.add.new.self.counts } = other_row inside.stages inside.times rows p row within c.index_mut.ensures.value c.add.new.self c.add.ensures.given in
+    record {
+      stages = ap (λ (table : CountTable). table.stages) c.self.view_is;
+      times = ap (λ (table : CountTable). table.times) c.self.view_is;
+      low = ap (λ (table : CountTable). table.low) then ∙ ap (λ (table : CountTable). table.low) c.self.view_is;
+    }
 
 pub invariant_of-self : goal.invariant_of-self
 invariant_of-self c =
-    let inside : CountTable = record { stages = c.self.inside.stages; times = c.self.inside.times.items; rows = c.self.inside.rows.items } in
-    let firsts = c.self.inside.firsts in
+    let rows : List RowState = c.self.inside.rows.items in
+    let inside : CountTable = table_of_rows c.self.inside.stages c.self.inside.times.items rows in
+    let t = c.args.time in
     let p = c.place_of-place.result in
-    let row = c.add.new.self in
+    let within : p < length rows = search rules in
+    let there : Searched inside t c.self.invariant.0 c.index_of.result = searched_in c.deref.result.now inside.times t c.index_of.result c.deref.ensures.value c.index_of.ensures in
+    let row = c.index_mut.result.now in
+    let place = place_in inside.stages inside.times rows p within in
+    let own = own_counts inside.stages inside.times rows p row within c.index_mut.ensures.value in
+    let then : table_of_rows inside.stages inside.times (set rows p c.add.new.self) ≡ record inside { rows = set inside.rows p c.add.new.self.counts } = other_row inside.stages inside.times rows p row within c.index_mut.ensures.value c.add.new.self c.add.ensures.given in
+    let each : IsRowFor (length inside.times) row.counts = subst (IsRowFor (length inside.times)) (sym own) (All-get_or (IsRowFor (length inside.times)) inside.rows p row.counts place c.self.invariant.0.each_time) in
+    let found = found_time inside t c.self.invariant.0 c.index_of.result c.in-Ok.index there c.in-Ok.is in
+    let new = c.add.new.self.counts in
+    let long : IsRowFor (length inside.times) new = subst (IsRowFor (length inside.times)) (sym c.add.ensures.counts) (row_set (length inside.times) row.counts c.in-Ok.index _ found.0 each) in
+    let firsts = c.self.inside.firsts in
     let first = c.first_in-after.result in
-    let place : p < length inside.rows = search rules in
-    let old = c.index_mut.result.now in
-    let long : length row ≡ length inside.times =
-    ap length c.add.ensures ∙ length-set old c.in-Ok.index _ ∙ ap length c.index_mut.ensures.value ∙ All-get_or (λ r. length r ≡ length inside.times) inside.rows p old place c.self.invariant.0.each_time
-    in
-    let within : p < length firsts = search rules in
-    let is : IsFirstTime (count_of inside.times row) first = search rules in
-    (still_table inside p row c.self.invariant.0 long, firsts_then inside p row c.self.invariant.0 long firsts first place is c.self.invariant.1 within)
+    let is : IsFirstTime (count_of inside.times new) first = search rules in
+    let inner : p < length firsts = search rules in (
+      subst IsTable (sym then) (still_table inside p new c.self.invariant.0 long),
+      subst (λ (table : CountTable). AreFirstTimes table (set firsts p first)) (sym then) (firsts_then inside p new c.self.invariant.0 long firsts first place is c.self.invariant.1 inner),
+    )
 
 pub returns-clause-still : goal.returns-clause-still
 returns-clause-still c =
-    let inside : CountTable = record { stages = c.self.inside.stages; times = c.self.inside.times.items; rows = c.self.inside.rows.items } in
-    let now = c.args.self.now in
-    let firsts = c.self.inside.firsts in
+    let rows : List RowState = c.self.inside.rows.items in
+    let inside : CountTable = table_of_rows c.self.inside.stages c.self.inside.times.items rows in
+    let t = c.args.time in
     let p = c.place_of-place.result in
-    let row = c.add.new.self in
+    let within : p < length rows = search rules in
+    let there : Searched inside t c.self.invariant.0 c.index_of.result = searched_in c.deref.result.now inside.times t c.index_of.result c.deref.ensures.value c.index_of.ensures in
+    let row = c.index_mut.result.now in
+    let place = place_in inside.stages inside.times rows p within in
+    let own = own_counts inside.stages inside.times rows p row within c.index_mut.ensures.value in
+    let then : table_of_rows inside.stages inside.times (set rows p c.add.new.self) ≡ record inside { rows = set inside.rows p c.add.new.self.counts } = other_row inside.stages inside.times rows p row within c.index_mut.ensures.value c.add.new.self c.add.ensures.given in
+    let each : IsRowFor (length inside.times) row.counts = subst (IsRowFor (length inside.times)) (sym own) (All-get_or (IsRowFor (length inside.times)) inside.rows p row.counts place c.self.invariant.0.each_time) in
+    let found = found_time inside t c.self.invariant.0 c.index_of.result c.in-Ok.index there c.in-Ok.is in
+    let new = c.add.new.self.counts in
+    let long : IsRowFor (length inside.times) new = subst (IsRowFor (length inside.times)) (sym c.add.ensures.counts) (row_set (length inside.times) row.counts c.in-Ok.index _ found.0 each) in
+    let firsts = c.self.inside.firsts in
     let first = c.first_in-after.result in
-    let place : p < length inside.rows = search rules in
-    let old = c.index_mut.result.now in
-    let long : length row ≡ length inside.times =
-    ap length c.add.ensures ∙ length-set old c.in-Ok.index _ ∙ ap length c.index_mut.ensures.value ∙ All-get_or (λ r. length r ≡ length inside.times) inside.rows p old place c.self.invariant.0.each_time
-    in
-    let is : IsFirstTime (count_of inside.times row) first = search rules in
-    let within : p < length firsts = search rules in
+    let is : IsFirstTime (count_of inside.times new) first = search rules in
+    let inner : p < length firsts = search rules in
+    let now = c.args.self.now in
     let was : AreFirstTimes now firsts = subst (λ (t : CountTable). AreFirstTimes t firsts) c.self.view_is c.self.invariant.1 in
     λ still at f h.
-    let same : first ≡ get_or firsts p Done = c.has_moved.ensures.0 still ∙ get_or_default firsts p (At 0) Done within in
-    let is_now = firsts_still inside p row c.self.invariant.0 long firsts first place is c.self.invariant.1 same in
-    frontier_still (count_in now) (count_in (with_row inside p row c.self.invariant.0 long)) (λ a. get_or firsts (place_of a) Done) was is_now at f h
+    let same : first ≡ get_or firsts p Done = c.has_moved.ensures.0 still ∙ get_or_default firsts p (At 0) Done inner in
+    let is_now = firsts_still inside p new c.self.invariant.0 long firsts first place is c.self.invariant.1 same in
+    subst (λ (table : CountTable). IsFrontierOf (count_in table) at f) (sym then) (frontier_still (count_in now) (count_in (with_row inside p new c.self.invariant.0 long)) (λ a. get_or firsts (place_of a) Done) was is_now at f h)
 
 pub returns-clause-moved : goal.returns-clause-moved
 returns-clause-moved c =
-    let inside : CountTable = record { stages = c.self.inside.stages; times = c.self.inside.times.items; rows = c.self.inside.rows.items } in
-    let loc = c.args.loc in
-    let firsts = c.self.inside.firsts in
+    let rows : List RowState = c.self.inside.rows.items in
+    let inside : CountTable = table_of_rows c.self.inside.stages c.self.inside.times.items rows in
+    let t = c.args.time in
     let p = c.place_of-place.result in
-    let row = c.add.new.self in
+    let within : p < length rows = search rules in
+    let there : Searched inside t c.self.invariant.0 c.index_of.result = searched_in c.deref.result.now inside.times t c.index_of.result c.deref.ensures.value c.index_of.ensures in
+    let row = c.index_mut.result.now in
+    let place = place_in inside.stages inside.times rows p within in
+    let own = own_counts inside.stages inside.times rows p row within c.index_mut.ensures.value in
+    let then : table_of_rows inside.stages inside.times (set rows p c.add.new.self) ≡ record inside { rows = set inside.rows p c.add.new.self.counts } = other_row inside.stages inside.times rows p row within c.index_mut.ensures.value c.add.new.self c.add.ensures.given in
+    let each : IsRowFor (length inside.times) row.counts = subst (IsRowFor (length inside.times)) (sym own) (All-get_or (IsRowFor (length inside.times)) inside.rows p row.counts place c.self.invariant.0.each_time) in
+    let found = found_time inside t c.self.invariant.0 c.index_of.result c.in-Ok.index there c.in-Ok.is in
+    let new = c.add.new.self.counts in
+    let long : IsRowFor (length inside.times) new = subst (IsRowFor (length inside.times)) (sym c.add.ensures.counts) (row_set (length inside.times) row.counts c.in-Ok.index _ found.0 each) in
+    let firsts = c.self.inside.firsts in
     let first = c.first_in-after.result in
-    let place : p < length inside.rows = search rules in
-    let old = c.index_mut.result.now in
-    let long : length row ≡ length inside.times =
-    ap length c.add.ensures ∙ length-set old c.in-Ok.index _ ∙ ap length c.index_mut.ensures.value ∙ All-get_or (λ r. length r ≡ length inside.times) inside.rows p old place c.self.invariant.0.each_time
-    in
-    let is : IsFirstTime (count_of inside.times row) first = search rules in
-    let within : p < length firsts = search rules in
+    let is : IsFirstTime (count_of inside.times new) first = search rules in
+    let inner : p < length firsts = search rules in
+    let loc = c.args.loc in
     let was : AreFirstTimes c.args.self.now firsts = subst (λ (t : CountTable). AreFirstTimes t firsts) c.self.view_is c.self.invariant.1 in
-    let is_now = here inside p row c.self.invariant.0 long firsts first place is c.self.invariant.1 loc (sym c.place_of-place.ensures) in
+    let is_now = subst (λ (table : CountTable). IsFirstTime (count_in table loc) first) (sym then) (here inside p new c.self.invariant.0 long firsts first place is c.self.invariant.1 loc (sym c.place_of-place.ensures)) in
     λ moved f h k.
     let before : f ≡ get_or firsts p Done = first_time_once _ _ _ h (was loc) ∙ ap (λ i. get_or firsts i Done) (sym c.place_of-place.ensures) in
     let after : f ≡ first = first_time_once _ _ _ k is_now in
-    false≢true (sym (c.has_moved.ensures.1 (sym after ∙ before ∙ sym (get_or_default firsts p (At 0) Done within))) ∙ moved)
+    false≢true (sym (c.has_moved.ensures.1 (sym after ∙ before ∙ sym (get_or_default firsts p (At 0) Done inner))) ∙ moved)

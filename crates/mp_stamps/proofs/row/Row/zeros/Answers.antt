@@ -1,17 +1,21 @@
-use Rattle.std.proofs.Common.{◌≡◌, ◌∙◌, ◌<◌, ◌+◌, ◌*◌, ◌/◌, List, ℕ, ℤ, ap, arith, pos, replicate, rules, subst, sym}
-use Rattle.mp_stamps.specs.Rows.{AreNumbered, IsRow}
-use Rattle.mp_stamps.proofs.Firsts.{zero_row}
-use Rattle.mp_stamps.proofs.Numbers.{zeros_numbered}
+use Rattle.std.proofs.Common.{◌≡◌, ◌∙◌, ◌+◌, ◌*◌, ◌/◌, ◌≤◌, ◌^◌, ap, sym, subst, true, length, pos, replicate, ℕ, List, ℤ, rules, arith}
+use Rattle.std.proofs.lemmas.List.{length-replicate}
+use Rattle.mp_stamps.specs.Rows.{IsRow, PieceState, joined}
+use Rattle.mp_stamps.proofs.Joined.{fresh_row, joined_fresh}
 use Rattle.mp_stamps.proofs.row.Row.zeros.Goals as goal
+
+pub returns : goal.returns
+returns c =
+    let n = c.args.times / 1024 + 1 in
+    let made : c.in_ok-pieces.pieces.items ≡ replicate n (record { kept = true; counts = replicate 1024 (pos 0) }) = c.in_ok-pieces.ensures in
+    ap (λ (ps : List PieceState). record { given = 0; counts = joined ps }) made ∙ ap (λ (xs : List ℤ). record { given = 0; counts = xs }) (joined_fresh n)
 
 pub invariant_of-result : goal.invariant_of-result
 invariant_of-result c =
-    let n = c.args.times in
-    let m = n / 256 + 1 in
-    let end : c.loop.counter ≡ n = search rules in
-    let counts : c.loop.counts.items ≡ replicate n (pos 0) = c.loop.invariant ∙ ap (λ (k : ℕ). replicate k (pos 0)) end in
-    let numbers : c.in_ok-none_open.field-0.items ≡ replicate m 0 = c.in_ok-none_open.ensures in
-    let small : n < 256 * m = omega arith in (
-      subst (λ (xs : List ℤ). IsRow xs 0 n) (sym counts) (zero_row n),
-      subst (λ (xs : List ℤ). AreNumbered xs c.in_ok-none_open.field-0.items) (sym counts) (subst (λ (ns : List ℕ). AreNumbered (replicate n (pos 0)) ns) (sym numbers) (zeros_numbered n m small)),
-    )
+    let n = c.args.times / 1024 + 1 in
+    let ps : List PieceState = c.in_ok-pieces.pieces.items in
+    let made : ps ≡ replicate n (record { kept = true; counts = replicate 1024 (pos 0) }) = c.in_ok-pieces.ensures in
+    let long : length ps ≡ n = ap (λ (qs : List PieceState). length qs) made ∙ length-replicate n _ in
+    let first : c.len-first.result ≡ n = search (long, rules) in
+    let few : 1024 * n ≤ 2 ^ 63 = omega (arith, c.requires) in
+    subst (λ (qs : List PieceState). IsRow qs 0 0 c.len-first.result) (sym made) (subst (λ (k : ℕ). IsRow (replicate n (record { kept = true; counts = replicate 1024 (pos 0) })) 0 0 k) (sym first) (fresh_row n few))

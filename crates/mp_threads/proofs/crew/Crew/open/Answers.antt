@@ -1,11 +1,15 @@
-use Rattle.std.proofs.Common.{List, ℕ, ap, length, ◌∙◌, subst, sym}
+use Rattle.std.proofs.Common.{List, Option, ℕ, ap, length, ◌≡◌, ◌∙◌, subst, sym}
 use Rattle.std.proofs.lemmas.List.{length-replicate}
+use Rattle.mp_names.specs.declared.names.Name.{Name}
 use Rattle.mp_names.specs.Logs.{Log, empty_log}
 use Rattle.mp_board.specs.Boards.{ShowsFrontiers}
 use Rattle.mp_model.specs.Facts.{JobFacts}
 use Rattle.mp_model.specs.Tables.{table_of}
 use Rattle.mp_outline.specs.JobOutline.{outline_of}
-use Rattle.mp_ruled.specs.Posts.{AreNewPosts}
+use Rattle.mp_board.specs.declared.causes.Cause.{Cause}
+use Rattle.mp_ruled.specs.Posts.{AreLinked, AreNewPosts, PostState}
+use Rattle.mp_seat.specs.Seats.{SeatState}
+use Rattle.mp_threads_hub.specs.Hubs.{AreOfOneLock, after_stop, shared_version}
 use Rattle.mp_threads.proofs.crew.Crew.open.Goals as goal
 
 pub open_hubs-requires-clause-logs : goal.open_hubs-requires-clause-logs
@@ -21,9 +25,23 @@ new_members-requires-clause-opening g c κs within =
 pub new_members-requires-clause-hubs : goal.new_members-requires-clause-hubs
 new_members-requires-clause-hubs g c κs within =
     let count = ap (λ s. s.workers) c.shape-workers.ensures.shape ∙ ap (λ (job : JobFacts). job.shape.workers) c.requires.job in
-    (c.in_ok-hubs.ensures.many ∙ count, rw (c.in_ok-board.ensures.logs, sym c.seen-seen.ensures.version) at c.in_ok-hubs.ensures.new)
+    let was = c.in_ok-board.ensures in
+    let version : shared_version c.in_ok-board.board ≡ c.seen-seen.result.version = ap (λ (cause : Option Cause). after_stop cause c.in_ok-board.board.version) was.cause ∙ sym c.seen-seen.ensures.version in
+    (c.in_ok-hubs.ensures.many ∙ count, rw (was.logs, version) at c.in_ok-hubs.ensures.new)
 
 pub new_members-requires-clause-new_posts : goal.new_members-requires-clause-new_posts
 new_members-requires-clause-new_posts g c κs within =
     let count = ap (λ s. s.workers) c.shape-workers.ensures.shape ∙ ap (λ (job : JobFacts). job.shape.workers) c.requires.job in
     (c.args.depth, subst (λ (n : ℕ). AreNewPosts n c.args.depth c.in_ok-posts.posts.items) count c.in_ok-posts.ensures.new)
+
+pub returns-clause-depth : goal.returns-clause-depth
+returns-clause-depth g c =
+    let count = ap (λ s. s.workers) c.shape-workers.ensures.shape ∙ ap (λ (job : JobFacts). job.shape.workers) c.requires.job in
+    subst (λ (posts : List (PostState (List Name))). AreNewPosts g.J.Naming.job.shape.workers c.args.depth posts) (sym c.in_ok-members.ensures.posts)
+    (subst (λ (n : ℕ). AreNewPosts n c.args.depth c.in_ok-posts.posts.items) count c.in_ok-posts.ensures.new)
+
+pub returns-clause-linked : goal.returns-clause-linked
+returns-clause-linked g c = subst (λ (posts : List (PostState (List Name))). AreLinked posts) (sym c.in_ok-members.ensures.posts) c.in_ok-posts.ensures.linked
+
+pub returns-clause-one_lock : goal.returns-clause-one_lock
+returns-clause-one_lock g c = subst (λ (hubs : List (SeatState Log)). AreOfOneLock hubs) (sym c.in_ok-members.ensures.seats) c.in_ok-hubs.ensures.one_lock

@@ -5,7 +5,7 @@ use Rattle.mp_msg.specs.Contents.{IsRecordOf}
 use Rattle.mp_route.specs.Routed.{Routed}
 use Rattle.mp_outline.specs.JobOutline.{name_of_record}
 use Rattle.mp_worker_invariant.proofs.Standing.{router_at}
-use Rattle.mp_worker_parts.proofs.Ingested.{can_ingest, ingested_counts, record_ingested, some_router}
+use Rattle.mp_worker_steps.proofs.Ingested.{can_ingest, ingested_counts, record_ingested, some_router}
 use Rattle.mp_worker_steps.proofs.Keeping.{kept_as, makes}
 use Rattle.mp_worker_steps.proofs.Rooms.{not_refused}
 use Rattle.mp_worker_steps.proofs.parts.Parts.ingest_record.Goals as goal

@@ -1,6 +1,6 @@
 use Rattle.std.proofs.Common.{◌∙◌, ap, arith, map}
-use Rattle.mp_worker_parts.specs.Onward.{content}
-use Rattle.mp_worker_parts.proofs.Applied.{all_written}
+use Rattle.mp_worker_steps.specs.Onward.{content}
+use Rattle.mp_worker_steps.proofs.Applied.{all_written}
 use Rattle.mp_worker_invariant.proofs.Items.{same_length}
 use Rattle.mp_worker_steps.proofs.Rooms.{onward_roomy}
 use Rattle.mp_worker_steps.proofs.parts.Parts.make_room_to_apply.Goals as goal

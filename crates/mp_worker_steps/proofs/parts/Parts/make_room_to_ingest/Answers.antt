@@ -1,7 +1,7 @@
 use Rattle.std.proofs.Common.{◌∙◌, arith}
 use Rattle.mp_worker_invariant.proofs.Others.{other_router}
 use Rattle.mp_worker_invariant.proofs.Standing.{router_at}
-use Rattle.mp_worker_parts.proofs.Ingested.{some_router}
+use Rattle.mp_worker_steps.proofs.Ingested.{some_router}
 use Rattle.mp_worker_steps.proofs.Keeping.{kept_as}
 use Rattle.mp_worker_steps.proofs.parts.Parts.make_room_to_ingest.Goals as goal
 

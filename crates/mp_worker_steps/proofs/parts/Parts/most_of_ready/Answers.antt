@@ -4,7 +4,7 @@ use Rattle.mp_names.specs.declared.kinds.Kind.TheVariants.{Apply}
 use Rattle.mp_host_laws.specs.Hosted.{Hosted}
 use Rattle.mp_host.specs.Ready.{IsReadyHere}
 use Rattle.mp_worker_invariant.proofs.Standing.{host_at, informed, knows}
-use Rattle.mp_worker_parts.proofs.Applied.{enough_here, none_to_apply, same_host_there}
+use Rattle.mp_worker_steps.proofs.Applied.{enough_here, none_to_apply, same_host_there}
 use Rattle.mp_worker_steps.proofs.Keeping.{can_do, on_none}
 use Rattle.mp_worker_steps.proofs.parts.Parts.most_of_ready.Goals as goal
 use Rattle.mp_model.specs.Tables.{table_of}

@@ -1,5 +1,5 @@
 use Rattle.mp_names.specs.declared.kinds.Kind.TheVariants.{Ingest}
-use Rattle.mp_worker_parts.proofs.Ingested.{has_record, next_record, none_to_ingest}
+use Rattle.mp_worker_steps.proofs.Ingested.{has_record, next_record, none_to_ingest}
 use Rattle.mp_worker_steps.proofs.Keeping.{can_do}
 use Rattle.mp_worker_steps.proofs.parts.Parts.next_record.Goals as goal
 use Rattle.mp_model.specs.Tables.{table_of}

@@ -4,7 +4,7 @@ use Rattle.mp_names.specs.declared.kinds.Kind.TheVariants.{Settle}
 use Rattle.mp_handoff.specs.MoversState.{MoversState}
 use Rattle.mp_worker_invariant.proofs.Items.{again_there}
 use Rattle.mp_worker_invariant.proofs.Standing.{movers_at}
-use Rattle.mp_worker_parts.proofs.Settling.{can_settle, none_to_settle, settled_counted, settled_kept}
+use Rattle.mp_worker_steps.proofs.Settling.{can_settle, none_to_settle, settled_counted, settled_kept}
 use Rattle.mp_worker_steps.specs.Contents.{worker_of}
 use Rattle.mp_worker_steps.proofs.Keeping.{can_do, kept_as, makes}
 use Rattle.mp_worker_steps.proofs.parts.Parts.settle.Goals as goal

@@ -1,7 +1,7 @@
 use Rattle.mp_names.specs.declared.names.Name.TheVariants.{Ctrl}
 use Rattle.mp_names.specs.Outlines.{Outline}
 use Rattle.mp_outline.specs.JobOutline.{outline_of}
-use Rattle.mp_worker_parts.proofs.Received.{only_new, only_owed}
+use Rattle.mp_worker_steps.proofs.Received.{only_new, only_owed}
 use Rattle.mp_worker_steps.proofs.parts.Parts.take.Given as given
 use Rattle.mp_worker_steps.proofs.parts.Parts.take.Goals as goal
 use Rattle.mp_model.specs.Tables.{table_of}

@@ -1,6 +1,6 @@
 use Rattle.std.proofs.Common.{◌∙◌, ap, arith, length, refl}
 use Rattle.mp_host_laws.proofs.WakeTimes.{few_times}
-use Rattle.mp_worker_parts.proofs.Coming.{taken_length}
+use Rattle.mp_worker_steps.proofs.Coming.{taken_length}
 use Rattle.mp_worker_steps.proofs.Rooms.{not_refused, some_names}
 use Rattle.mp_worker_steps.proofs.Stepping.{packet_comes, packet_stage}
 use Rattle.mp_worker_steps.proofs.parts.Parts.take_packet.Goals as goal

@@ -3,7 +3,7 @@ use Rattle.std.proofs.lemmas.Bool.{cond-false, cond-true, eq-eqb, eqb-true, fals
 use Rattle.mp_names.specs.Limits.{most_in_bundle}
 use Rattle.mp_host_laws.specs.Hosted.{Hosted}
 use Rattle.mp_worker_invariant.proofs.Standing.{host_at}
-use Rattle.mp_worker_parts.proofs.Received.{few_records, records_changes, records_held, records_taken_here, stage_below}
+use Rattle.mp_worker_steps.proofs.Received.{few_records, records_changes, records_held, records_taken_here, stage_below}
 use Rattle.mp_worker_steps.proofs.Keeping.{kept_as}
 use Rattle.mp_worker_steps.proofs.Rooms.{not_refused}
 use Rattle.mp_worker_steps.proofs.parts.Parts.take_records.Goals as goal

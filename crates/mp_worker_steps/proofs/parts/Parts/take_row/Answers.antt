@@ -3,7 +3,7 @@ use Rattle.mp_names.specs.declared.names.Name.TheVariants.{Row}
 use Rattle.mp_outline.specs.JobOutline.{outline_of}
 use Rattle.mp_rows.proofs.RowTaken.{row_taken as taken_is_counted}
 use Rattle.mp_worker_invariant.proofs.Asked.{row_not_written}
-use Rattle.mp_worker_parts.proofs.Received.{only_new, only_owed, row_taken}
+use Rattle.mp_worker_steps.proofs.Received.{only_new, only_owed, row_taken}
 use Rattle.mp_worker_steps.proofs.Keeping.{kept_as}
 use Rattle.mp_worker_steps.proofs.Rooms.{not_refused, some_names}
 use Rattle.mp_worker_steps.proofs.parts.Parts.take_row.Goals as goal

@@ -1,5 +1,5 @@
 use Rattle.std.proofs.Common.{◌∙◌, ℕ, ap}
-use Rattle.mp_worker_parts.proofs.Tallied.{names_moved}
+use Rattle.mp_worker_steps.proofs.Tallied.{names_moved}
 use Rattle.mp_tally.specs.Tallies.{sent_packets}
 use Rattle.mp_worker_steps.proofs.parts.Parts.tally.Goals as goal
 use Rattle.mp_model.specs.Tables.{table_of}

@@ -1,0 +1,5 @@
+-- The name that is picked is that of the job.
+use Rattle.mp_test_threads.proofs.threads.a_worker_without_memory_stops_all.Given as goal
+
+abbrev pub ghosts-stops : goal.ghosts-stops
+ghosts-stops g a = record { job = a.job.now }
