@@ -11,7 +11,7 @@ use mp_q_simple::Q1;
 use std::test::Fail;
 
 /// A bid.
-fn bid_at(time: Time, auction: u64, bidder: u64, price: u64) -> Event
+pub fn bid_at(time: Time, auction: u64, bidder: u64, price: u64) -> Event
     requires time { time ≤ greatest_time }
     requires auction { auction ≤ greatest_id }
     requires bidder { bidder ≤ greatest_id }
