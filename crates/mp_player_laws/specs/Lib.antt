@@ -1,0 +1,8 @@
+-- What the contracts of this crate cite.
+pub mod Numbers
+pub mod Counted
+pub mod Rising
+pub mod Held
+pub mod Exchanging
+pub mod Made
+pub mod Changing

@@ -1,0 +1,5 @@
+pub mod Next
+pub mod Controls
+pub mod Decided
+pub mod Sending
+pub mod Deciding
