@@ -1,5 +1,5 @@
 -- What a host keeps to as it changes, where a call succeeds and where it is refused.
-use Rattle.std.proofs.Common.{◌≡◌, ◌<◌, ◌≤◌, ◌==◌, ◌+◌, ◌++◌, ◌∙◌, ℕ, zero, suc, add-one, refl, sym, Bool, true, false, cond, Option, None, Some, IfNone, IsOk, List, [], ◌∷◌, All, arith}
+use Rattle.std.proofs.Common.{◌≡◌, ◌<◌, ◌≤◌, ◌==◌, ◌+◌, ◌++◌, ◌∙◌, ℕ, zero, suc, add-one, refl, sym, ap, subst, Bool, true, false, cond, Option, None, Some, IfNone, IsOk, List, [], ◌∷◌, All, arith}
 use Rattle.std.specs.List.Sorted.{IsStrictlySortedBy}
 use Rattle.std.specs.Ordering.{nat_cmp}
 use Rattle.std.specs.Result.{OnErr, OnOk}
@@ -9,10 +9,11 @@ use Rattle.std.specs.declared.result.Result.TheVariants.{Ok, Err}
 use Rattle.std.proofs.lemmas.Bool.{eq-eqb, ne_eqb}
 use Rattle.std.proofs.lemmas.List.{append-nil}
 use Rattle.std.proofs.lemmas.List.Elements.{All-append, All-cons, All-contains, All-nil, All-weaker}
-use Rattle.mp_bins.specs.Notes.{first_owner}
+use Rattle.mp_bins.specs.Notes.{Layout, first_owner}
 use Rattle.mp_model.specs.declared.record.Rec.{Rec}
 use Rattle.mp_model.specs.Facts.{JobFacts, QueryFacts}
 use Rattle.mp_job.specs.Legal.{JobIsLegal}
+use Rattle.mp_job.specs.Runs.{IsRunOf}
 use Rattle.mp_job.proofs.Members.{nothing_in_nil}
 use Rattle.mp_outline.specs.JobOutline.{layout_of}
 use Rattle.mp_msg.proofs.States.{same_content}
@@ -46,6 +47,12 @@ pub on_ok : {A E : Type 0} (r : Result A E) (P Q : Type 0) → OnOk r P → (P �
 on_ok (Ok a) P Q p f = f p
 on_ok (Err e) P Q p f = tt
 
+-- a host of a run is one of the run itself
+pub of_the_run : {Cell : Type 0} {q : QueryFacts Cell} {job its : JobFacts} {old new : Hosted Cell} → old ≡ new → IsHosted q job its old → IsHosted q job job new
+of_the_run {q = q} {job = job} {old = old} is hosted =
+    let itself : IsHosted q job job old = record { run = refl; legal = hosted.legal; stage = hosted.stage; worker = hosted.worker; order = hosted.order; posted = hosted.posted } in
+    subst (IsHosted q job job) is itself
+
 module _ {Cell : Type 0} (q : QueryFacts Cell) (job its : JobFacts) where
   -- each state of a host is one that a host may have
   pub states_fit : (h : Hosted Cell) → IsHosted q job its h → All (MayBeHeld q job h.stage) h.held
@@ -61,7 +68,7 @@ module _ {Cell : Type 0} (q : QueryFacts Cell) (job its : JobFacts) where
       → IsHosted q job its h → All (IsRecordOf q job h.stage) records → IsInOrder group_rank records → All (MayBeHeld q job h.stage) held
       → IsHosted q job its (record { stage = h.stage; worker = h.worker; records = records; held = held; room = room; room_for_bins = bins })
   hosted_still h records held room bins hosted content order fit = record {
-    same = hosted.same;
+    run = hosted.run;
     legal = hosted.legal;
     stage = hosted.stage;
     worker = hosted.worker;
@@ -115,12 +122,19 @@ module _ {Cell : Type 0} (job : JobFacts) (j w b : ℕ) (held : List (Held Cell)
       let other : (first_owner (layout_of job) j b == w) ≡ false = ne_eqb (first_owner (layout_of job) j b) w e in
       rw (add-one, other) (was ∙ sym (append-nil (first_held job j w b)))
 
+-- a run of a job has the same first owners
+pub first_of_run : {Cell : Type 0} (its job : JobFacts) → IsRunOf its job → (j w n : ℕ) → first_held {Cell = Cell} its j w n ≡ first_held {Cell = Cell} job j w n
+first_of_run its job run j w zero = refl
+first_of_run {Cell} its job run j w (suc b) =
+    ap (λ (bins : List (Held Cell)). bins ++ cond (first_owner (layout_of its) j b == w) (record { bin = b; since = None; state = empty_state } ∷ []) []) (first_of_run its job run j w b)
+    ∙ ap (λ (l : Layout). first_held {Cell = Cell} job j w b ++ cond (first_owner l j b == w) (record { bin = b; since = None; state = empty_state } ∷ []) []) (ap layout_of run)
+
 -- so a new host keeps to what a host keeps to
-pub new_hosted : {Cell : Type 0} (q : QueryFacts Cell) (job its : JobFacts) (h : Hosted Cell) → its ≡ job → JobIsLegal q job → h.stage < job.shape.stages → h.worker < job.shape.workers → IsNew job h → IsHosted q job its h
-new_hosted q job its h same legal stage worker new =
+pub new_hosted : {Cell : Type 0} (q : QueryFacts Cell) (job its : JobFacts) (h : Hosted Cell) → IsRunOf its job → JobIsLegal q job → h.stage < job.shape.stages → h.worker < job.shape.workers → IsNew job h → IsHosted q job its h
+new_hosted q job its h run legal stage worker new =
     let fit : All (MayBeHeld q job h.stage) h.held = rw new.held (first_fit q job h.stage h.worker job.shape.bins (omega arith)) in
     record {
-      same = same;
+      run = run;
       legal = legal;
       stage = stage;
       worker = worker;

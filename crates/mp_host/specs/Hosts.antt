@@ -4,6 +4,7 @@ use Rattle.mp_model.specs.declared.record.Rec.{Rec}
 use Rattle.mp_model.specs.Facts.{JobFacts, QueryFacts}
 use Rattle.mp_model.specs.Stages.{stage_records}
 use Rattle.mp_job.specs.Legal.{JobIsLegal}
+use Rattle.mp_job.specs.Runs.{IsRunOf}
 use Rattle.mp_ordered.specs.InOrder.{InOrder}
 use Rattle.mp_postdated.specs.Wakes.{Has}
 use Rattle.mp_host_laws.specs.declared.held.Held.{Held}
@@ -31,9 +32,9 @@ module _ {Cell : Type 0} (q : QueryFacts Cell) (job : JobFacts) where
     pub denotes : StateStands q job j s
     pub posted : WakesArePosted j s
 
--- it is of the job that it was made for, which is legal, on a worker and of a stage that the job has, its records and states stand in order, and records posted its wakes
+-- it is of a run of the job that it was made for, which is legal, on a worker and of a stage that the job has, its records and states stand in order, and records posted its wakes
 pub record IsHosted {Cell : Type 0} (q : QueryFacts Cell) (job its : JobFacts) (h : Hosted Cell) : Type 0 where
-  pub same : its ≡ job
+  pub run : IsRunOf its job
   pub legal : JobIsLegal q job
   pub stage : h.stage < job.shape.stages
   pub worker : h.worker < job.shape.workers

@@ -2,6 +2,7 @@
 ghost use Rattle.std.specs.Prelude.{◌≡◌, ◌≤◌, ◌<◌, ◌+◌, IfOk, IsOk, OnErr, OnOk};
 ghost use Rattle.mp_names.specs.Logs.{empty_log};
 ghost use Rattle.mp_job.specs.Legal.{JobIsLegal};
+ghost use Rattle.mp_job.specs.Runs.{IsRunOf};
 ghost use Rattle.mp_msg.specs.Contents.{IsRecordOf};
 ghost use Rattle.mp_host_laws.specs.Applying.{IsReceived};
 ghost use Rattle.mp_host_laws.specs.Hosted.{IsNew, first_held};
@@ -53,7 +54,7 @@ impl<'a, Q: Query, J: Naming> Host<'a, Q, J> {
         worker: u32,
         job: &'a Job<Q>,
     ) -> Result<Host<'a, Q, J>, AllocError>
-        requires job { job.now ≡ J.job }
+        requires job { IsRunOf job.now J.job }
         requires stage { stage < J.job.shape.stages }
         requires worker { worker < J.job.shape.workers }
         ensures stage { IfOk result (λ h. h.stage ≡ stage) }

@@ -3,11 +3,10 @@ use Rattle.std.proofs.Common.{◌≡◌, ℕ, zero, suc, ◌+◌, ◌-◌, ◌<�
 use Rattle.std.specs.declared.collections.VecDeque.{VecDeque}
 use Rattle.std.specs.Prelude.{slice_get}
 use Rattle.std.specs.List.{insert, prefix_len, remove}
-use Rattle.std.specs.List.Sorted.{IsPartitionedBy, IsPartitionPoint}
+use Rattle.std.specs.List.Sorted.{IsPartitionedBy}
 use Rattle.std.proofs.lemmas.Bool.{cases_Bool}
 use Rattle.std.proofs.lemmas.List.{get_or-append-add, get_or_append_left, get_or_at, take_all}
 use Rattle.std.proofs.lemmas.List.Edits.{remove-append_left, remove-append_right}
-use Rattle.std.proofs.lemmas.List.Sums.{prefix_len_is}
 use Rattle.std.proofs.lemmas.List.Elements.{All-nil, All-cons, All-head, All-tail, All-weaker, All-get_or}
 use Rattle.mp_names.specs.Names.{is_before}
 use Rattle.mp_ordered.specs.Blocks.{AreFilled, IsBlockFor, IsCutIn, IsFilled, begins_before, items_of}
@@ -52,7 +51,7 @@ module _ {T : Type 0} (p : T → Bool) where
       sym (ap p (get_or-append-add xs ys i d)) ∙ h (length xs + i) (length xs + j) d (omega arith) (omega arith) (ap p (get_or-append-add xs ys j d) ∙ e)
 
   -- where the second part begins in front, all of the first are
-  all_pass : (xs ys : List T) → IsPartitionedBy p (xs ++ ys) → begins p ys ≡ true → All Passes xs
+  pub all_pass : (xs ys : List T) → IsPartitionedBy p (xs ++ ys) → begins p ys ≡ true → All Passes xs
   all_pass xs [] h e = absurd (cc)
   all_pass xs (y ∷ ys) h e =
       λ k d l.
@@ -63,25 +62,16 @@ module _ {T : Type 0} (p : T → Bool) where
   begins_front [] ys e = absurd (cc)
   begins_front (x ∷ xs) ys e = e
 
-  begins_of : (xs ys : List T) → 0 < length xs → begins p (xs ++ ys) ≡ true → begins p xs ≡ true
-  begins_of [] ys l e = absurd (omega arith)
-  begins_of (x ∷ xs) ys l e = e
-
   begins_if_all : (xs : List T) → 0 < length xs → All Passes xs → begins p xs ≡ true
   begins_if_all [] l h = absurd (omega arith)
   begins_if_all (x ∷ xs) l h = All-head Passes x xs h
 
-  -- where a search finds the cut
-  pub point_is_count : (xs : List T) (n : ℕ) → n ≤ length xs → IsPartitionPoint (λ y. p y ≡ true) (λ y. p y ≡ false) xs n → prefix_len p xs ≡ n
-  point_is_count [] n l h = omega (arith, l)
-  point_is_count (x ∷ xs) n l h = prefix_len_is p (x ∷ xs) n x l (λ k m. h.0 k x (omega arith) m) (λ m. h.1 n x (omega arith) m)
-
   -- how many are in front, by parts
-  count_behind : (xs ys : List T) → All Passes xs → prefix_len p (xs ++ ys) ≡ length xs + prefix_len p ys
+  pub count_behind : (xs ys : List T) → All Passes xs → prefix_len p (xs ++ ys) ≡ length xs + prefix_len p ys
   count_behind [] ys h = omega arith
   count_behind (x ∷ xs) ys h = let e : p x ≡ true = All-head Passes x xs h in let rest = count_behind xs ys (All-tail Passes x xs h) in rw e (omega (arith, rest))
 
-  count_within : (xs ys : List T) → begins p ys ≡ false → prefix_len p (xs ++ ys) ≡ prefix_len p xs
+  pub count_within : (xs ys : List T) → begins p ys ≡ false → prefix_len p (xs ++ ys) ≡ prefix_len p xs
   count_within [] [] e = refl
   count_within [] (y ∷ ys) e = rw e refl
   count_within (x ∷ xs) ys e = ap (λ n. cond (p x) (1 + n) 0) (count_within xs ys e)
@@ -96,23 +86,6 @@ module _ {T : Type 0} (p : T → Bool) where
     begun (b ∷ bs) (suc at) d h f l e =
         let rest = begun bs at d (parted_back b.items (items_of bs) h) (All-tail IsFilled b bs f) (omega arith) e in
         begins_front b.items (items_of bs) (begins_if_all b.items (All-head IsFilled b bs f) (all_pass b.items (items_of bs) h rest))
-
-    -- blocks that begin in front of the cut stand in front of those that don't
-    rising : (bs : List (VecDeque T Z)) → All IsFilled bs → IsPartitionedBy p (items_of bs) → IsPartitionedBy starts bs
-    rising [] f h i j d l m e = absurd (omega (arith, m))
-    rising (b ∷ bs) f h zero j d l m e = begins_of b.items (items_of bs) (All-head IsFilled b bs f) (begun (b ∷ bs) j d h f m e)
-    rising (b ∷ bs) f h (suc i) zero d l m e = absurd (omega arith)
-    rising (b ∷ bs) f h (suc i) (suc j) d l m e = rising bs (All-tail IsFilled b bs f) (parted_back b.items (items_of bs) h) i j d (omega arith) (omega arith) e
-
-    -- so halving finds the block of a cut
-    pub parted_blocks : (bs : List (VecDeque T Z)) → IsPartitionedBy p (items_of bs) → AreFilled bs → IsPartitionedBy starts (drop 1 bs)
-    parted_blocks [] h f = λ i j d l m e. absurd (omega (arith, m))
-    parted_blocks (b ∷ bs) h f = rising bs f.1 (parted_back b.items (items_of bs) h)
-
-    pub cut_there : (bs : List (VecDeque T Z)) (at : ℕ) → 0 < length bs → IsPartitionPoint (λ b. starts b ≡ true) (λ b. starts b ≡ false) (drop 1 bs) at → IsCutIn p bs at
-    cut_there [] at l point = absurd (omega arith)
-    cut_there (b ∷ bs) zero l point = λ d. (λ m. absurd (omega arith), λ m. point.1 0 d (omega arith) (omega arith))
-    cut_there (b ∷ bs) (suc at) l point = λ d. (λ m. point.0 at d (omega arith) (omega arith), λ m. point.1 (suc at) d (omega arith) (omega arith))
 
     -- the items behind the block of a cut don't begin in front of it
     pub behind_block : (bs : List (VecDeque T Z)) → All IsFilled bs → ((d : VecDeque T Z) → 0 < length bs → starts (get_or bs 0 d) ≡ false) → begins p (items_of bs) ≡ false

@@ -10,53 +10,28 @@ ghost use Rattle.mp_names.specs.Names.{is_before};
 ghost use Rattle.mp_ordered.specs.Blocks.{AreFilled, HasMemory, IsBlockFor, IsCutIn, IsSpare, IsSplit, begins_before, items_of};
 ghost use Rattle.mp_ordered.specs.InOrder.{IsInOrder, begins, put_in_order};
 
-use crate::cut::Cut;
+use crate::cut::{Before, Cut};
 use crate::order::Order;
+use crate::search::{cut_in_slice, slice_begins_in_front};
 use std::alloc::{AllocError, Global};
 use std::collections::VecDeque;
+use std::marker::PhantomData;
 
 /// As many items as a block is split at, which is twice as many as each half has.
 pub const FULL: usize = 128;
 
-/// How many items of a block come before one. Where the item goes to an end of the block it isn't searched for.
+/// How many items of a block come before one.
 pub fn place_in<T, O: Order<T>>(block: &VecDeque<T>, item: &T) -> usize
     requires { IsInOrder O.rank block.now.items }
     ensures inside { result ≤ length block.now.items }
     ensures place { insert block.now.items result item.now ≡ put_in_order O.rank item.now block.now.items }
     ensures count { result ≡ prefix_len (λ y. is_before (O.rank y) (O.rank item.now)) block.now.items }
 {
-    if !begins_before::<T, O>(block, item) {
-        return 0;
-    }
-    if ends_before::<T, O>(block, item) {
-        return block.len();
-    }
-    found_in::<T, O>(block, item)
-}
-
-// The same, found by halving.
-fn found_in<T, O: Order<T>>(block: &VecDeque<T>, item: &T) -> usize
-    requires { IsInOrder O.rank block.now.items }
-    ensures inside { result ≤ length block.now.items }
-    ensures place { insert block.now.items result item.now ≡ put_in_order O.rank item.now block.now.items }
-    ensures count { result ≡ prefix_len (λ y. is_before (O.rank y) (O.rank item.now)) block.now.items }
-{
-    block.partition_point(
-        |other: &T| -> bool
-            ensures { result ≡ is_before (O.rank other.now) (O.rank item.entry.now) }
-        { O::is_before(other, item) },
-    )
-}
-
-// Whether a block ends with an item that comes before this one.
-fn ends_before<T, O: Order<T>>(block: &VecDeque<T>, item: &T) -> bool
-    ensures some { IsTrue result → 0 < length block.now.items }
-    ensures before { IsTrue result → (d : T) → is_before (O.rank (get_or block.now.items (length block.now.items - 1) d)) (O.rank item.now) ≡ true }
-{
-    match block.back() {
-        Some(last) => O::is_before(last, item),
-        None => false,
-    }
+    let before: Before<T, O> = Before {
+        item,
+        of: PhantomData,
+    };
+    cut_in(block, &before)
 }
 
 /// How many items of a block stand in front of a cut.
@@ -64,69 +39,51 @@ pub fn cut_in<T, C: Cut<T>>(block: &VecDeque<T>, cut: &C) -> usize
     requires { IsPartitionedBy (C.front cut.now) block.now.items }
     ensures { result ≡ prefix_len (C.front cut.now) block.now.items }
 {
-    block.partition_point(
-        |other: &T| -> bool
-            ensures { result ≡ C.front cut.entry.now other.now }
-        { cut.is_in_front(other) },
-    )
+    let (first, second) = block.as_slices();
+    if slice_begins_in_front(second, cut) {
+        return first.len() + cut_in_slice(second, cut);
+    }
+    cut_in_slice(first, cut)
 }
 
 /// The block in which an item has its place. The first and the last one are asked first: most items go to them.
 pub fn block_of<T, O: Order<T>>(blocks: &[VecDeque<T>], item: &T) -> usize
-    requires some { 0 < length blocks.now }
-    requires order { IsInOrder O.rank (items_of blocks.now) }
-    requires filled { AreFilled blocks.now }
+    requires { 0 < length blocks.now }
     ensures inside { result < length blocks.now }
     ensures place { IsBlockFor O.rank item.now blocks.now result }
 {
+    let before: Before<T, O> = Before {
+        item,
+        of: PhantomData,
+    };
     let last = blocks.len() - 1;
-    if last == 0 || !begins_before::<T, O>(&blocks[1], item) {
+    if last == 0 || !begins_in_front(&blocks[1], &before) {
         return 0;
     }
-    if begins_before::<T, O>(&blocks[last], item) {
+    if begins_in_front(&blocks[last], &before) {
         return last;
     }
-    found_among::<T, O>(blocks, item)
+    cut_block(blocks, &before)
 }
 
-// The same, found by halving.
-fn found_among<T, O: Order<T>>(blocks: &[VecDeque<T>], item: &T) -> usize
-    requires some { 0 < length blocks.now }
-    requires order { IsInOrder O.rank (items_of blocks.now) }
-    requires filled { AreFilled blocks.now }
-    ensures inside { result < length blocks.now }
-    ensures place { IsBlockFor O.rank item.now blocks.now result }
-{
-    blocks[1..].partition_point(
-        |block: &VecDeque<T>| -> bool
-            ensures { result ≡ begins_before O.rank item.entry.now block.now.items }
-        { begins_before::<T, O>(block, item) },
-    )
-}
-
-// Whether a block begins with an item that comes before this one.
-fn begins_before<T, O: Order<T>>(block: &VecDeque<T>, item: &T) -> bool
-    ensures { result ≡ begins_before O.rank item.now block.now.items }
-{
-    match block.front() {
-        Some(first) => O::is_before(first, item),
-        None => false,
-    }
-}
-
-/// The block in which a cut is: the last one that begins in front of it, or the first one.
+/// The block in which a cut is: the last one that begins in front of it, or the first one, found by halving.
 pub fn cut_block<T, C: Cut<T>>(blocks: &[VecDeque<T>], cut: &C) -> usize
-    requires some { 0 < length blocks.now }
-    requires parted { IsPartitionedBy (C.front cut.now) (items_of blocks.now) }
-    requires filled { AreFilled blocks.now }
+    requires { 0 < length blocks.now }
     ensures inside { result < length blocks.now }
     ensures cut { IsCutIn (C.front cut.now) blocks.now result }
 {
-    blocks[1..].partition_point(
-        |block: &VecDeque<T>| -> bool
-            ensures { result ≡ begins (C.front cut.entry.now) block.now.items }
-        { begins_in_front(block, cut) },
-    )
+    let mut at = 0;
+    let mut count = blocks.len();
+    while count > 1 {
+        let half = count / 2;
+        if begins_in_front(&blocks[at + half], cut) {
+            at += half;
+            count -= half;
+        } else {
+            count = half;
+        }
+    }
+    at
 }
 
 // Whether a block begins with an item in front of the cut.

@@ -9,8 +9,10 @@ mod cut;
 mod front;
 mod hinted;
 mod order;
+mod search;
 
 pub use blocks::OrderedBlocks;
 pub use cut::Cut;
 pub use hinted::Spot;
 pub use order::Order;
+pub use search::place_of;

@@ -5,8 +5,8 @@ ghost use Rattle.mp_ordered.specs.Blocks.{begins_before};
 ghost use Rattle.mp_ordered.specs.InOrder.{IsInOrder, first_from, put_in_order};
 ghost use Rattle.mp_ordered_runs.specs.Runs.{GoesBehindRun, GoesIntoRun, IsOneKind, continues, first_run};
 
-use crate::place::{place_of, put};
-use mp_ordered::{Order, OrderedBlocks};
+use crate::place::put;
+use mp_ordered::{Order, OrderedBlocks, place_of};
 use std::alloc::{AllocError, Global};
 use std::marker::Model;
 

@@ -1,5 +1,5 @@
 -- A log with several more names.
-use Rattle.std.proofs.Common.{◌≡◌, ℕ, ◌+◌, ◌*◌, ◌<◌, ◌≤◌, List, [], ◌∷◌, ◌++◌, length, length-append, append-nil, append_assoc, ◌+ℤ◌, refl, sym, ap, arith}
+use Rattle.std.proofs.Common.{◌≡◌, ℕ, ◌+◌, ◌*◌, ◌<◌, ◌≤◌, List, [], ◌∷◌, ◌++◌, length, length-append, append-nil, append_assoc, ◌+ℤ◌, refl, ap, arith}
 use Rattle.mp_names.specs.declared.locations.Loc.{Loc}
 use Rattle.mp_names.specs.declared.names.Name.{Name}
 use Rattle.mp_names.specs.declared.pointstamps.Change.{Change}

@@ -1,6 +1,8 @@
 //! What the empty log of a worker adds to the counts.
 ghost use Rattle.std.specs.Prelude.{◌≡◌, ◌++◌, ◌<◌, All, IfOk, OnOk, length};
 ghost use Rattle.mp_names.specs.Logs.{empty_log};
+ghost use Rattle.mp_job.specs.Runs.{IsRunOf};
+ghost use Rattle.mp_model.specs.Facts.{JobFacts};
 ghost use Rattle.mp_outline.specs.JobOutline.{outline_of};
 ghost use Rattle.mp_rows.specs.Entries.{AreContributions};
 ghost use Rattle.mp_rows.specs.Opening.{control_entries, source_entries};
@@ -11,15 +13,15 @@ use mp_job::{Control, Event, Job, Query};
 use mp_names::Loc;
 use std::alloc::{AllocError, Global};
 
-/// The contributions of the empty log of a worker: on worker 0 the control records that it has to send to each worker,
-/// and the records of the worker's share. `AllocError`: no memory.
+/// The contributions of the empty log of a worker, whether the job runs paced or not: on worker 0 the control records that
+/// it has to send to each worker, and the records of the worker's share. `AllocError`: no memory.
 pub fn opening_entries<Q: Query>(
     alloc: Global,
     job: &Job<Q>,
     worker: u32,
 ) -> Result<Vec<Change>, AllocError>
     requires { worker < job.now.shape.workers }
-    ensures { let o = outline_of (table_of Q.facts job.now) job.now in
+    ensures { (run : JobFacts) → IsRunOf job.now run → let o = outline_of (table_of Q.facts run) run in
         IfOk result (λ v. AreContributions o worker empty_log v.items) }
 {
     let shape = job.shape();

@@ -2,6 +2,7 @@ use Rattle.std.proofs.Common.{◌≤◌, ◌∙◌, ap, length, arith}
 use Rattle.mp_names.specs.Limits.{most_events}
 use Rattle.mp_host_laws.specs.Hosted.{Hosted}
 use Rattle.mp_host.specs.Waiting.{woken_keys}
+use Rattle.mp_host.proofs.Kept.{of_the_run}
 use Rattle.mp_host.proofs.Woken.{hosted_few, woken_step}
 use Rattle.mp_host.proofs.host.Host.count_woken.Goals as goal
 use Rattle.mp_model.specs.Tables.{table_of}
@@ -23,3 +24,6 @@ returns-clause-few g c =
     let job = g.J.Naming.job in
     let few : length (woken_keys c.args.time c.args.self.now.held) ≤ most_events = rw (← c.self.view_is) (hosted_few (table_of g.Q.Query.facts job) (laws.later_stages_post_nothing job.values) job _ _ c.self.invariant c.args.time) in
     omega (arith, c.loop-at.invariant, few)
+
+pub returns-clause-hosted : goal.returns-clause-hosted
+returns-clause-hosted g c = of_the_run c.self.view_is c.self.invariant

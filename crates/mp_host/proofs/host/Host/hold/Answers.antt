@@ -8,7 +8,7 @@ use Rattle.mp_host.proofs.host.Host.hold.Goals as goal
 pub hold-requires-clause-bin : goal.hold-requires-clause-bin
 hold-requires-clause-bin g c =
     let fits = rw (← c.self.view_is) at c.requires.fits in
-    subst (λ (n : ℕ). c.args.one.bin < n) (sym (c.self.inside.each_bin ∙ ap (λ (j : JobFacts). j.shape.bins) c.self.invariant.same)) fits.denotes.bin
+    subst (λ (n : ℕ). c.args.one.bin < n) (sym (c.self.inside.each_bin ∙ ap (λ (j : JobFacts). j.shape.bins) c.self.invariant.run)) fits.denotes.bin
 
 pub invariant_of-self : goal.invariant_of-self
 invariant_of-self g c =

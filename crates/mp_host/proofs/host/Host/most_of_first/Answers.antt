@@ -18,7 +18,7 @@ pub most_of_group-outputs-requires-clause-in_hand : goal.most_of_group-outputs-r
 most_of_group-outputs-requires-clause-in_hand g c = λ κs b.
     let i = c.self.inside in
     let h = hosted_of i.stage i.worker i.records i.states in
-    let bins = i.each_bin ∙ ap (λ (j : JobFacts). j.shape.bins) c.self.invariant.same in
+    let bins = i.each_bin ∙ ap (λ (j : JobFacts). j.shape.bins) c.self.invariant.run in
     rw c.new-group.ensures (found_here h i.states refl bins c.args.time c.args.key (rw (← c.self.view_is) at c.requires.in_hand))
 
 pub most_of_group-outputs-requires-clause-fits : goal.most_of_group-outputs-requires-clause-fits
@@ -26,8 +26,8 @@ most_of_group-outputs-requires-clause-fits g c = λ κs b.
     let q = table_of g.Q.Query.facts g.J.Naming.job in
     let i = c.self.inside in
     let h = hosted_of i.stage i.worker i.records i.states in
-    let rules = c.query-query.ensures ∙ ap (λ (j : JobFacts). j.values) c.self.invariant.same in
-    let bins = i.each_bin ∙ ap (λ (j : JobFacts). j.shape.bins) c.self.invariant.same in
+    let rules = c.query-query.ensures ∙ ap (λ (j : JobFacts). j.values) c.self.invariant.run in
+    let bins = i.each_bin ∙ ap (λ (j : JobFacts). j.shape.bins) c.self.invariant.run in
     let woken = rw (← c.self.view_is) at c.is_first_woken.ensures in
     let is = group_is h c.args.time c.args.key c.new-group.result _ _ c.new-group.ensures woken c.first_records-recs.ensures.records in
     let cell = cell_here h i.states refl bins (q.fresh i.stage) c.args.time c.args.key in
@@ -46,8 +46,8 @@ returns g c =
     let q = table_of g.Q.Query.facts g.J.Naming.job in
     let i = c.self.inside in
     let h = hosted_of i.stage i.worker i.records i.states in
-    let rules = c.query-query.ensures ∙ ap (λ (j : JobFacts). j.values) c.self.invariant.same in
-    let bins = i.each_bin ∙ ap (λ (j : JobFacts). j.shape.bins) c.self.invariant.same in
+    let rules = c.query-query.ensures ∙ ap (λ (j : JobFacts). j.values) c.self.invariant.run in
+    let bins = i.each_bin ∙ ap (λ (j : JobFacts). j.shape.bins) c.self.invariant.run in
     let woken = rw (← c.self.view_is) at c.is_first_woken.ensures in
     let is = group_is h c.args.time c.args.key c.new-group.result _ _ c.new-group.ensures woken c.first_records-recs.ensures.records in
     let cell = cell_here h i.states refl bins (q.fresh i.stage) c.args.time c.args.key in

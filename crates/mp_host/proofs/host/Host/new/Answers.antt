@@ -1,13 +1,13 @@
-use Rattle.std.proofs.Common.{◌≡◌, ◌<◌, arith, subst}
+use Rattle.std.proofs.Common.{◌∙◌, ◌<◌, ap, arith}
 use Rattle.std.proofs.lemmas.List.Elements.{All-weaker}
-use Rattle.mp_model.specs.Facts.{JobFacts}
+use Rattle.mp_names.specs.declared.controls.Shape.{Shape}
 use Rattle.mp_model.specs.Tables.{table_of}
-use Rattle.mp_job.specs.Legal.{JobIsLegal}
+use Rattle.mp_job.proofs.Runs.{run_is_legal, run_shape}
 use Rattle.mp_host_laws.specs.Hosted.{first_held}
 use Rattle.mp_host_laws.proofs.Beginning.{new_hosts_hold_nothing}
 use Rattle.mp_host.specs.Hosts.{MayBeHeld}
 use Rattle.mp_host.proofs.FirstWakes.{first_without}
-use Rattle.mp_host.proofs.Kept.{first_fit, new_hosted}
+use Rattle.mp_host.proofs.Kept.{first_fit, first_of_run, new_hosted}
 use Rattle.mp_host.proofs.host.Host.new.Goals as goal
 
 pub new-requires-clause-bins : goal.new-requires-clause-bins
@@ -31,12 +31,16 @@ invariant_of-result g c = (rw (← c.shape.ensures.shape) c.in_ok-states.ensures
 
 pub invariant_of-result-2 : goal.invariant_of-result-2
 invariant_of-result-2 g c =
-    let held = subst (λ (j : JobFacts). c.in_ok-held.held.items ≡ first_held j c.args.stage c.args.worker j.shape.bins) c.requires.job c.in_ok-held.ensures.bins in
-    let legal = subst (λ (j : JobFacts). JobIsLegal (table_of g.Q.Query.facts j) j) c.requires.job c.in_ok-held.ensures.legal in
+    let its = c.args.job.now in
+    let first = first_of_run its g.J.Naming.job c.requires.job c.args.stage c.args.worker its.shape.bins in
+    let held = c.in_ok-held.ensures.bins ∙ first ∙ ap (λ (s : Shape). first_held g.J.Naming.job c.args.stage c.args.worker s.bins) (run_shape its g.J.Naming.job c.requires.job) in
+    let legal = run_is_legal c.args.job.now g.J.Naming.job c.requires.job g.Q.Query.facts c.in_ok-held.ensures.legal in
     new_hosted _ g.J.Naming.job _ _ c.requires.job legal c.requires.stage c.requires.worker (record { records = c.new-2.ensures; held = rw (← c.in_ok-states.ensures.held) at held })
 
 pub returns-clause-held : goal.returns-clause-held
 returns-clause-held g c =
-    let held = subst (λ (j : JobFacts). c.in_ok-held.held.items ≡ first_held j c.args.stage c.args.worker j.shape.bins) c.requires.job c.in_ok-held.ensures.bins in
-    let legal = subst (λ (j : JobFacts). JobIsLegal (table_of g.Q.Query.facts j) j) c.requires.job c.in_ok-held.ensures.legal in
+    let its = c.args.job.now in
+    let first = first_of_run its g.J.Naming.job c.requires.job c.args.stage c.args.worker its.shape.bins in
+    let held = c.in_ok-held.ensures.bins ∙ first ∙ ap (λ (s : Shape). first_held g.J.Naming.job c.args.stage c.args.worker s.bins) (run_shape its g.J.Naming.job c.requires.job) in
+    let legal = run_is_legal c.args.job.now g.J.Naming.job c.requires.job g.Q.Query.facts c.in_ok-held.ensures.legal in
     new_hosts_hold_nothing (table_of g.Q.Query.facts g.J.Naming.job) g.J.Naming.job legal _ (record { records = c.new-2.ensures; held = rw (← c.in_ok-states.ensures.held) at held })
