@@ -4,4 +4,5 @@ pub mod Kinds
 pub mod Lines
 pub mod Read
 pub mod Reasons
+pub mod Usual
 pub mod Written

@@ -1,15 +1,18 @@
 //! The events of a whole file.
-ghost use Rattle.std.specs.Prelude.{◌≡◌, ◌≤◌, ◌++◌, ◌∷◌, [], All, Ok, Err, IfOk, IfErr, OnOk, length, vec_len};
+ghost use Rattle.std.specs.Prelude.{◌≡◌, ◌≤◌, ◌<◌, ◌+◌, ◌^◌, ◌++◌, ◌∷◌, [], All, Ok, Err, IfOk, IfErr, OnOk, length, vec_len};
 ghost use Rattle.mp_events.specs.Events.{events_of};
+ghost use Rattle.mp_events.specs.Usual.{AreReadFirst, refused_behind};
 ghost use Rattle.mp_lines.specs.Refusals.{IfBadLine};
 ghost use Rattle.mp_model.specs.Legal.{EventIsLegal};
 ghost use Rattle.mp_model.specs.Plain.{EventsArePlain};
 ghost use Rattle.mp_names.specs.Limits.{most_events};
 
 use crate::line::read_line;
+use crate::usual_line::event_before;
 use crate::{EventsReason, EventsRefused};
 use mp_lines::{LineReader, LineRefused, read_lines};
 use mp_model::Event;
+use mp_names::limits::MAX_EVENTS;
 use mp_text::FieldList;
 use std::alloc::{AllocError, Global};
 use std::marker::Model;
@@ -28,8 +31,49 @@ pub fn read_events(alloc: Global, text: &[u8]) -> Result<Vec<Event>, EventsRefus
     ensures bad_line { IfErr result (λ refused.
         IfBadLine refused (λ line why. events_of text.now ≡ Err (line, why))) }
 {
-    let list = read_lines(alloc, &EventReader, EventList::new(alloc), text)?;
-    Ok(list.into_events())
+    let first = read_first(alloc, text)?;
+    let lines = first.events.len() as u64;
+    match read_lines(alloc, &EventReader, first.events, first.rest) {
+        Ok(list) => Ok(list.into_events()),
+        Err(refused) => Err(behind(refused, lines)),
+    }
+}
+
+// The events of the first lines, and what is behind these.
+#[derive(Drop)]
+struct FirstEvents<'a> {
+    events: EventList,
+    rest: &'a [u8],
+}
+
+// The events of the first lines, as far as these are as lines mostly are. `AllocError`: no memory.
+fn read_first<'a>(alloc: Global, text: &'a [u8]) -> Result<FirstEvents<'a>, AllocError>
+    ensures { IfOk result (λ first. AreReadFirst text.now first.events first.rest.now) }
+{
+    let mut events = EventList::new(alloc);
+    let mut rest = text;
+    'lines: while events.len() < MAX_EVENTS {
+        let Some(found) = event_before(alloc, rest)? else {
+            break;
+        };
+        events.push(found.event)?;
+        rest = found.rest;
+    }
+    Ok(FirstEvents { events, rest })
+}
+
+// A refusal of what is behind so many lines, as one of the whole file.
+fn behind(refused: EventsRefused, lines: u64) -> EventsRefused
+    requires { IfBadLine refused (λ line _. line + lines < 2 ^ 64) }
+    ensures { result ≡ refused_behind lines refused }
+{
+    match refused {
+        EventsRefused::BadLine { line, why } => EventsRefused::BadLine {
+            line: line + lines,
+            why,
+        },
+        EventsRefused::NoMemory => EventsRefused::NoMemory,
+    }
 }
 
 /// The events of the lines that were read. Contracts see a list.

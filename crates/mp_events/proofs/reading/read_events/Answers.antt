@@ -1,17 +1,32 @@
-use Rattle.std.proofs.Common.{◌≡◌, Ok, arith, rules}
+use Rattle.std.proofs.Common.{◌≡◌, ◌∙◌, ◌+◌, ◌^◌, ◌<◌, Ok, Err, length, arith, ap, subst, sym}
 use Rattle.mp_events.specs.Events.{events_of}
+use Rattle.mp_events.specs.Usual.{refused_behind}
+use Rattle.mp_lines.specs.Refusals.{IfBadLine}
 use Rattle.mp_events.proofs.LegalEvents.{legal_events}
 use Rattle.mp_events.proofs.PlainNames.{plain_events}
+use Rattle.mp_events.proofs.UsualLines.{few_lines, refused_there, rest_passes}
 use Rattle.mp_events.proofs.reading.read_events.Goals as goal
 
-pub returns-clause-legal : goal.returns-clause-legal
-returns-clause-legal c =
-    let is : events_of c.args.text.now ≡ Ok c.into_events.result.items = search rules in (legal_events c.args.text.now c.into_events.result.items is).0
+pub behind-requires : goal.behind-requires
+behind-requires c =
+    let few = few_lines c.args.text.now c.in_ok-first.first.events c.in_ok-first.first.rest.now c.in_ok-first.ensures c.in-Err.refused c.in-Err.ensures.bad_line (let all : length c.args.text.now < 2 ^ 64 = omega arith in all) in
+    subst (λ n. IfBadLine c.in-Err.refused (λ line _. line + n < 2 ^ 64)) (sym c.len-lines.ensures) few
 
-pub returns-clause-few : goal.returns-clause-few
-returns-clause-few c =
-    let is : events_of c.args.text.now ≡ Ok c.into_events.result.items = search rules in omega (arith, (legal_events c.args.text.now c.into_events.result.items is).1)
+pub returns-in-Ok-clause-events : goal.returns-in-Ok-clause-events
+returns-in-Ok-clause-events c =
+    rest_passes c.args.text.now c.in_ok-first.first.events c.in_ok-first.first.rest.now c.in_ok-first.ensures c.in-Ok.list c.in-Ok.ensures.said ∙ ap Ok (sym c.into_events.ensures)
 
-pub returns-clause-plain : goal.returns-clause-plain
-returns-clause-plain c =
-    let is : events_of c.args.text.now ≡ Ok c.into_events.result.items = search rules in plain_events c.args.text.now c.into_events.result.items is
+pub returns-in-Ok-clause-legal : goal.returns-in-Ok-clause-legal
+returns-in-Ok-clause-legal c = (legal_events c.args.text.now c.into_events.result.items (returns-in-Ok-clause-events c)).0
+
+pub returns-in-Ok-clause-few : goal.returns-in-Ok-clause-few
+returns-in-Ok-clause-few c = omega (arith, (legal_events c.args.text.now c.into_events.result.items (returns-in-Ok-clause-events c)).1, c.into_events.result.ok.0)
+
+pub returns-in-Ok-clause-plain : goal.returns-in-Ok-clause-plain
+returns-in-Ok-clause-plain c = plain_events c.args.text.now c.into_events.result.items (returns-in-Ok-clause-events c)
+
+pub returns-in-Err-clause-bad_line : goal.returns-in-Err-clause-bad_line
+returns-in-Err-clause-bad_line c =
+    let is = c.behind.ensures ∙ ap (λ n. refused_behind n c.in-Err.refused) c.len-lines.ensures in
+    subst (λ r. IfBadLine r (λ line why. events_of c.args.text.now ≡ Err (line, why))) (sym is)
+    (refused_there c.args.text.now c.in_ok-first.first.events c.in_ok-first.first.rest.now c.in_ok-first.ensures c.in-Err.refused c.in-Err.ensures.bad_line)
