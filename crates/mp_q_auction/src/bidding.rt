@@ -1,8 +1,12 @@
 //! What is kept of an auction until it closes.
-ghost use Rattle.std.specs.Prelude.{◌≡◌, ◌↔◌, IsTrue};
-ghost use Rattle.mp_q_auction.specs.Bidding.{after_records, after_value, is_closed, no_bids, sold_in};
+ghost use Rattle.std.specs.Prelude.{◌≡◌, ◌↔◌, ◌++◌, IsTrue, OnOk};
+ghost use Rattle.mp_saved.specs.Numbers.{numbers_text};
+ghost use Rattle.mp_q_auction.specs.Bidding.{after_records, after_value, best_said, bid_numbers, bids_are_legal, bids_said, has_none, is_closed, lot_is_legal, lot_said, no_bids, sold_in};
 
 use mp_model::{Group, Rec, Time, Value};
+use mp_names::limits::{MAX_ID, MAX_PRICE, MAX_TIME};
+use mp_saved::put_numbers;
+use std::alloc::AllocError;
 
 /// What the first auction record of an id says. Its numbers have the limits of an auction event, of this project's
 /// profile. It is public only as a part of the `Cell` of q4 and q6.
@@ -42,6 +46,64 @@ impl Bidding {
         ensures { IsTrue result ↔ (self.now ≡ no_bids) }
     {
         self.lot.is_none() && self.best.is_none()
+    }
+
+    /// Whether there are no lot and no bid, in the words of what may be saved.
+    pub(crate) fn has_none(&self) -> bool
+        ensures { result ≡ has_none self.now.lot self.now.best }
+    {
+        matches!((self.lot, self.best), (None, None))
+    }
+
+    /// Whether the lot or the best price may be saved: one is there, and both are within their limits.
+    pub(crate) fn is_legal(&self) -> bool
+        ensures { result ≡ bids_are_legal self.now.lot self.now.best }
+    {
+        match (self.lot, self.best) {
+            (None, None) => false,
+            (None, Some(best)) => best <= MAX_PRICE,
+            (Some(lot), None) => lot.is_legal(),
+            (Some(lot), Some(best)) => lot.is_legal() && best <= MAX_PRICE,
+        }
+    }
+
+    /// Appends the text: the numbers of the lot and of the best price. `AllocError`: no memory, and a part of it may be
+    /// appended.
+    pub(crate) fn write(&self, out: &mut Vec<u8>) -> Result<(), AllocError>
+        ensures { OnOk result (out.new.items ≡ out.old.items ++ numbers_text (bid_numbers self.now.lot self.now.best)) }
+    {
+        match (self.lot, self.best) {
+            (None, None) => put_numbers(out, &[0, 0]),
+            (None, Some(best)) => put_numbers(out, &[0, 1, best]),
+            (Some(lot), None) => {
+                let Lot {
+                    seller,
+                    category,
+                    reserve,
+                    expires,
+                } = lot;
+                put_numbers(out, &[1, seller, category, reserve, expires, 0])
+            }
+            (Some(lot), Some(best)) => {
+                let Lot {
+                    seller,
+                    category,
+                    reserve,
+                    expires,
+                } = lot;
+                put_numbers(out, &[1, seller, category, reserve, expires, 1, best])
+            }
+        }
+    }
+
+    /// The lot and the best price that such numbers say.
+    pub(crate) fn said(numbers: &[u64]) -> Bidding
+        ensures { result ≡ bids_said numbers.now }
+    {
+        Bidding {
+            lot: lot_said(numbers),
+            best: best_said(numbers),
+        }
     }
 
     /// The lot and its price, where this group closes the auction and the best price is at least the reserve.
@@ -104,5 +166,46 @@ impl Bidding {
             Some(lot) => time >= lot.expires,
             None => false,
         }
+    }
+}
+
+impl Lot {
+    /// Whether its numbers are within the limits of an auction event.
+    fn is_legal(&self) -> bool
+        ensures { result ≡ lot_is_legal self.now }
+    {
+        self.seller <= MAX_ID
+            && self.category <= MAX_ID
+            && self.reserve <= MAX_PRICE
+            && self.expires <= MAX_TIME
+    }
+}
+
+/// The lot that the numbers of a bidding say.
+fn lot_said(numbers: &[u64]) -> Option<Lot>
+    ensures { result ≡ lot_said numbers.now }
+{
+    if numbers.len() > 5 {
+        Some(Lot {
+            seller: numbers[1],
+            category: numbers[2],
+            reserve: numbers[3],
+            expires: numbers[4],
+        })
+    } else {
+        None
+    }
+}
+
+/// The best price that the numbers of a bidding say.
+fn best_said(numbers: &[u64]) -> Option<u64>
+    ensures { result ≡ best_said numbers.now }
+{
+    if numbers.len() == 3 {
+        Some(numbers[2])
+    } else if numbers.len() == 7 {
+        Some(numbers[6])
+    } else {
+        None
     }
 }

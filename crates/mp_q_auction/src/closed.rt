@@ -5,6 +5,7 @@ ghost use Rattle.mp_q_auction.specs.Closed.{key_of, posts_of, row_of, sale_by};
 
 use crate::{Bidding, Sales};
 use mp_model::{Field, Fields, Group, PostList, Query, Rec, RuleList, Time, Value};
+use mp_saved::{Saved, ValueList, read_numbers};
 use std::alloc::{AllocError, Global};
 
 /// The query that makes `S` of the sales. It is public only as the type of `Q4` and `Q6`.
@@ -26,7 +27,8 @@ where
     S::Kept: Send + Sync,
 {
     ghost use Rattle.mp_q_auction.specs.Closed.{closed_by, text_of};
-    ghost use Rattle.mp_q_auction.specs.Laws.{begins_fresh, has_stages, posts_are_later, later_stages_post_nothing, most_is_enough, fresh_stays_fresh, texts_tell_cells};
+    ghost use Rattle.mp_q_auction.specs.Laws.{begins_fresh, has_stages, posts_are_later, later_stages_post_nothing, most_is_enough, fresh_stays_fresh};
+    ghost use Rattle.mp_q_auction.specs.Laws.Texts.{texts_tell_cells};
 
     type Cell = AuctionCell<S::Kept>;
 
@@ -36,7 +38,7 @@ where
 
     ghost facts = { λ vs. closed_by S.party (S.sales vs) };
 
-    ghost text_of = { λ j cell. text_of j cell };
+    ghost text_of = { λ j cell. text_of S.numbers j cell };
 
     fn stages(&self) -> u32 {
         2
@@ -121,9 +123,68 @@ where
 
     ghost begins_fresh = { λ vs. begins_fresh S.party (S.sales vs) };
 
-    ghost texts_tell_cells = { λ vs. texts_tell_cells S.party (S.sales vs) };
+    ghost texts_tell_cells = { λ vs. texts_tell_cells S.party S.numbers (S.sales vs) (S.numbers_tell vs) };
 
     ghost sums_fit = { S.sums_fit };
+}
+
+impl<S: Sales + Sync> Saved for Closed<S>
+where
+    S::Kept: Send + Sync,
+{
+    ghost use Rattle.mp_q_auction.specs.Laws.Texts.{texts_are_plain};
+
+    const NUMBER: u32 = S::NUMBER;
+
+    ghost NUMBER = { S.NUMBER };
+
+    fn values(&self) -> ValueList {
+        self.sales.values()
+    }
+
+    fn is_allowed(&self, stage: u32, _key: u64, _until: Time, cell: &AuctionCell<S::Kept>) -> bool {
+        if stage == 0 {
+            self.sales.is_none(&cell.sales) && cell.bidding.is_legal()
+        } else {
+            stage == 1 && cell.bidding.has_none() && self.sales.is_allowed(&cell.sales)
+        }
+    }
+
+    fn write_cell(
+        &self,
+        stage: u32,
+        cell: &AuctionCell<S::Kept>,
+        out: &mut Vec<u8>,
+    ) -> Result<(), AllocError> {
+        if stage == 0 {
+            cell.bidding.write(out)
+        } else {
+            self.sales.write(&cell.sales, out)
+        }
+    }
+
+    fn read_cell(
+        &self,
+        alloc: Global,
+        stage: u32,
+        text: &[u8],
+    ) -> Result<Option<AuctionCell<S::Kept>>, AllocError> {
+        let Some(numbers) = read_numbers(alloc, text)? else {
+            return Ok(None);
+        };
+        if stage == 0 {
+            let bidding = Bidding::said(numbers.as_slice());
+            let sales = self.sales.none(alloc);
+            return Ok(Some(AuctionCell { bidding, sales }));
+        }
+        let Some(sales) = self.sales.said(numbers) else {
+            return Ok(None);
+        };
+        let bidding = Bidding::new();
+        Ok(Some(AuctionCell { bidding, sales }))
+    }
+
+    ghost texts_are_plain = { λ vs. texts_are_plain S.party S.numbers (S.sales vs) (S.numbers_tell vs) };
 }
 
 /// The key of a value: in stage 0 the id of an auction and the auction of a bid, in stage 1 what a sale is of. Other

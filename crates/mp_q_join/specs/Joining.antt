@@ -1,11 +1,15 @@
 -- What q3 keeps of a seller.
-use Rattle.std.specs.Prelude.{ℕ, ◌++◌, Option, Some, None, List, [], ◌∷◌, fold, if◌then◌else◌, map}
-use Rattle.std.specs.List.{filter_map}
+use Rattle.std.specs.Prelude.{ℕ, ◌++◌, ◌==◌, ◌&&◌, Bool, Option, Some, None, List, [], ◌∷◌, codes, fold, if◌then◌else◌, length, map, nat_le, nat_lt}
+use Rattle.std.specs.Fmt.{decimal}
+use Rattle.std.specs.List.{filter_map, flat_map, join_with_byte, list_all}
 use Rattle.std.specs.Option.{is_some, option_map, option_to_list}
 use Rattle.mp_model.specs.declared.fields.Field.TheVariants.{Number, Text}
 use Rattle.mp_model.specs.declared.record.Rec.{Rec}
 use Rattle.mp_model.specs.declared.value.Value.{Value}
 use Rattle.mp_model.specs.declared.value.Value.TheVariants.{Auction, Person, Row}
+use Rattle.mp_names.specs.Limits.{greatest_id, most_events}
+use Rattle.mp_saved.specs.Numbers.{numbers_said}
+use Rattle.mp_q_join.specs.Names.{is_yes, name_is_legal}
 use Rattle.mp_q_join.specs.declared.home.Home.{Home}
 
 -- the person, if it came, and the ids of the auctions that wait for it
@@ -74,6 +78,49 @@ abbrev pub first_home : List Rec → Option Home
 first_home [] = None
 first_home (r ∷ rs) = if is_some (home_of r.value) then home_of r.value else first_home rs
 
--- nothing is saved
+-- Saved cells
+
+-- the words of a person: 1, its name, its city and its state
+abbrev pub home_words : Home → List (List ℕ)
+home_words home = codes "1" ∷ home.name ∷ home.city ∷ home.state ∷ []
+
+-- the text of a cell: the words of the person, cut by `|`; or 0, and the ids that wait, each after a `|`
+abbrev pub cell_text : Option Home → List ℕ → List ℕ
+cell_text (Some home) waiting = join_with_byte 124 (home_words home)
+cell_text None waiting = codes "0" ++ flat_map (λ id. 124 ∷ decimal id) waiting
+
 abbrev pub text_of : ℕ → PersonCell → List ℕ
-text_of j cell = []
+text_of j cell = cell_text cell.home cell.waiting
+
+-- the cell of a person that words say
+abbrev pub home_said : List (List ℕ) → Option PersonCell
+home_said (name ∷ city ∷ state ∷ rest) = Some (record { home = Some (record { name = name; city = city; state = state }); waiting = [] })
+home_said _ = None
+
+-- the cell in which these ids wait, if they are read
+abbrev pub waiting_said : Option (List ℕ) → Option PersonCell
+waiting_said None = None
+waiting_said (Some ids) = Some (record { home = None; waiting = ids })
+
+-- the cell in which the ids wait that words say, if there are words
+abbrev pub waiting_read : List (List ℕ) → Option PersonCell
+waiting_read [] = None
+waiting_read (word ∷ words) = waiting_said (numbers_said (word ∷ words))
+
+-- the cell that words say
+abbrev pub person_said : List (List ℕ) → Option PersonCell
+person_said [] = None
+person_said (flag ∷ words) = if is_yes flag then home_said words else waiting_read words
+
+-- the names of a person are legal
+abbrev pub home_is_legal : Home → Bool
+home_is_legal home = name_is_legal home.name && name_is_legal home.city && name_is_legal home.state
+
+-- each id is within its limit
+abbrev pub ids_are_legal : List ℕ → Bool
+ids_are_legal ids = list_all (λ id. nat_le id greatest_id) ids
+
+-- a cell may be saved with a person for which nothing waits, or with one or more ids that wait, no more than events of a file
+abbrev pub person_is_legal : Option Home → List ℕ → Bool
+person_is_legal (Some home) waiting = length waiting == 0 && home_is_legal home
+person_is_legal None waiting = nat_lt 0 (length waiting) && nat_le (length waiting) most_events && ids_are_legal waiting

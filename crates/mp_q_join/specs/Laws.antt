@@ -1,4 +1,5 @@
--- The tables of q3 and q8 keep the laws of a query, whatever the values of their rules.
+-- The tables of q3 and q8 keep the laws of a query, whatever the values of their rules. This file and its folder are proofs.
+pub mod Texts
 use Rattle.std.specs.Prelude.{ℕ, ◌≡◌, ◌<◌, ◌≤◌, ◌+◌, ◌&&◌, Bool, true, false, Option, Some, None, List, [], ◌∷◌, get_or, if◌then◌else◌, length, nat_le, refl}
 use Rattle.std.specs.Option.{option_to_list}
 use Rattle.std.proofs.Common.{◌∙◌, ap, arith, cond}
@@ -11,9 +12,9 @@ use Rattle.mp_model.specs.declared.value.Value.TheVariants.{Auction, Person}
 use Rattle.mp_model.specs.Always.{always_fits}
 use Rattle.mp_model.specs.Rules.{are_within}
 use Rattle.mp_model.proofs.Tables.{length_option, not_zero}
-use Rattle.mp_model.specs.QueryLaws.{BeginsFresh, HasStages, PostsAreLater, LaterStagesPostNothing, MostIsEnough, FreshStaysFresh, SumsFit, RisesWithin, TextsTellCells}
+use Rattle.mp_model.specs.QueryLaws.{BeginsFresh, HasStages, PostsAreLater, LaterStagesPostNothing, MostIsEnough, FreshStaysFresh, SumsFit, RisesWithin}
 use Rattle.mp_q_join.specs.declared.home.Home.{Home}
-use Rattle.mp_q_join.specs.Joining.{PersonCell, after_records, after_value, fresh_cell, row_of, rows_along, rows_of_value, text_of}
+use Rattle.mp_q_join.specs.Joining.{PersonCell, after_records, after_value, fresh_cell, row_of, rows_along, rows_of_value}
 use Rattle.mp_q_join.specs.Keys.{day_of_value, end_of_day}
 use Rattle.mp_q_join.specs.Q3.{q3_facts, q3_with}
 use Rattle.mp_q_join.specs.Q8.{q8_facts, q8_rules, q8_with, width_in}
@@ -100,10 +101,6 @@ module _ (wanted : ℕ) where
   pub q3_begins_fresh : BeginsFresh (q3_with wanted)
   q3_begins_fresh = (refl, refl)
 
-  -- no cell may be saved
-  pub q3_texts_tell_cells : TextsTellCells text_of (q3_with wanted)
-  q3_texts_tell_cells j k t cell allowed = absurd (false≢true allowed)
-
 -- nothing is summed or counted
 pub q3_sums_fit : SumsFit q3_facts
 q3_sums_fit = always_fits q3_facts (λ vs j cell e. refl)
@@ -129,10 +126,6 @@ module _ (width : ℕ) where
   -- each key begins with no name, and doesn't sell
   pub q8_begins_fresh : BeginsFresh (q8_with width)
   q8_begins_fresh = (refl, refl)
-
-  -- no cell may be saved
-  pub q8_texts_tell_cells : TextsTellCells selling.text_of (q8_with width)
-  q8_texts_tell_cells j k t cell allowed = absurd (false≢true allowed)
 
 -- a record posts the end of its day
 pub q8_posts_are_later : (vs : List ℕ) → PostsAreLater (q8_facts vs)

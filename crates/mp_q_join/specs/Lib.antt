@@ -2,6 +2,7 @@
 pub mod Joining
 pub mod Keys
 pub mod Laws
+pub mod Names
 pub mod Q3
 pub mod Q8
 pub mod Selling

@@ -1,9 +1,11 @@
 -- What q3 is.
-use Rattle.std.specs.Prelude.{ℕ, ◌+◌, true, false, List, [], ◌∷◌, codes, get_or, length}
+use Rattle.std.specs.Prelude.{ℕ, ◌+◌, ◌==◌, ◌&&◌, true, List, [], ◌∷◌, codes, get_or, length}
+use Rattle.std.specs.Option.{unwrap_or}
+use Rattle.mp_text.specs.Fields.{fields_of}
 use Rattle.mp_names.specs.Limits.{greatest_id}
 use Rattle.mp_model.specs.Facts.{QueryFacts}
 use Rattle.mp_model.specs.Rules.{RuleFacts, settled}
-use Rattle.mp_q_join.specs.Joining.{PersonCell, after_records, fresh_cell, rows_along}
+use Rattle.mp_q_join.specs.Joining.{PersonCell, after_records, fresh_cell, person_is_legal, person_said, rows_along}
 use Rattle.mp_q_join.specs.Keys.{seller_asked_for}
 
 -- its rule: the auctions of which category are asked for
@@ -21,8 +23,8 @@ q3_with wanted = record {
   gives = λ j cell e. rows_along cell e.recs;
   most = λ j cell e. length e.recs + length cell.waiting;
   fits = λ j cell e. true;
-  allows = λ j k t cell. false;
-  cell_of = λ j text. fresh_cell;
+  allows = λ j k t cell. j == 0 && person_is_legal cell.home cell.waiting;
+  cell_of = λ j text. unwrap_or (person_said (fields_of text)) fresh_cell;
   opening = λ j k. fresh_cell;
   waking = λ j. [];
 }

@@ -1,11 +1,12 @@
 -- What q8 is.
-use Rattle.std.specs.Prelude.{ℕ, true, false, List, [], ◌∷◌, codes, get_or}
-use Rattle.std.specs.Option.{option_to_list}
+use Rattle.std.specs.Prelude.{ℕ, ◌==◌, ◌&&◌, true, List, [], ◌∷◌, codes, get_or}
+use Rattle.std.specs.Option.{option_to_list, unwrap_or}
+use Rattle.mp_text.specs.Fields.{fields_of}
 use Rattle.mp_model.specs.Facts.{QueryFacts}
 use Rattle.mp_model.specs.Rules.{RuleFacts, settled}
 use Rattle.mp_q_join.specs.declared.selling.Selling.{Selling}
 use Rattle.mp_q_join.specs.Keys.{posts_of, seller_of}
-use Rattle.mp_q_join.specs.Selling.{after_records, cell_at, fresh_cell, row_in}
+use Rattle.mp_q_join.specs.Selling.{after_records, cell_at, fresh_cell, row_in, selling_is_legal, selling_said}
 
 -- its rule: how many units of time a day has
 abbrev pub q8_rules : List RuleFacts
@@ -22,8 +23,8 @@ q8_with width = record {
   gives = λ j cell e. option_to_list (row_in cell e);
   most = λ j cell e. 1;
   fits = λ j cell e. true;
-  allows = λ j k t cell. false;
-  cell_of = λ j text. fresh_cell;
+  allows = λ j k t cell. j == 0 && selling_is_legal cell.name cell.sells;
+  cell_of = λ j text. unwrap_or (selling_said (fields_of text)) fresh_cell;
   opening = λ j k. fresh_cell;
   waking = λ j. [];
 }

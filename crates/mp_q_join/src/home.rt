@@ -1,8 +1,12 @@
 //! What q3 keeps of a person.
-ghost use Rattle.std.specs.Prelude.{◌≡◌, ◌++◌, map, IfOk, OnOk};
-ghost use Rattle.mp_q_join.specs.Joining.{first_home, home_of, row_of};
+ghost use Rattle.std.specs.Prelude.{◌≡◌, ◌++◌, [], Some, map, IfOk, OnOk};
+ghost use Rattle.std.specs.List.{join_with_byte};
+ghost use Rattle.std.specs.Option.{option_map};
+ghost use Rattle.mp_q_join.specs.Joining.{first_home, home_is_legal, home_of, home_said, home_words, row_of};
 
+use crate::names;
 use mp_model::{Field, Fields, Rec, Text, Value};
+use mp_saved::Words;
 use std::alloc::{AllocError, Global};
 
 /// A person's name, city and state. It is public only as a part of q3's `Cell`.
@@ -43,6 +47,42 @@ impl Home {
             })),
             _ => Ok(None),
         }
+    }
+
+    /// Whether its names are legal, so that it may be saved.
+    pub(crate) fn is_legal(&self) -> bool
+        ensures { result ≡ home_is_legal self.now }
+    {
+        names::is_legal(&self.name) && names::is_legal(&self.city) && names::is_legal(&self.state)
+    }
+
+    /// Appends the text. `AllocError`: no memory, and a part of it may be appended.
+    pub(crate) fn write(&self, out: &mut Vec<u8>) -> Result<(), AllocError>
+        ensures { OnOk result (out.new.items ≡ out.old.items ++ join_with_byte 124 (home_words self.now)) }
+    {
+        out.push(b'1')?;
+        names::put(out, &self.name)?;
+        names::put(out, &self.city)?;
+        names::put(out, &self.state)
+    }
+
+    /// The person that three words say, if they are there. `AllocError`: no memory.
+    pub(crate) fn read(alloc: Global, words: &mut Words) -> Result<Option<Home>, AllocError>
+        ensures { IfOk result (λ home. option_map (λ h. record { home = Some h; waiting = [] }) home ≡ home_said words.old) }
+    {
+        let Some(name) = words.word() else {
+            return Ok(None);
+        };
+        let Some(city) = words.word() else {
+            return Ok(None);
+        };
+        let Some(state) = words.word() else {
+            return Ok(None);
+        };
+        let name = Text::new(alloc, name)?;
+        let city = Text::new(alloc, city)?;
+        let state = Text::new(alloc, state)?;
+        Ok(Some(Home { name, city, state }))
     }
 
     /// Adds the rows of these auctions at the end. `AllocError`: no memory, and some of them may stay there.

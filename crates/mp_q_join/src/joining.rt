@@ -1,9 +1,12 @@
 //! What q3 keeps of a seller.
 ghost use Rattle.std.specs.Prelude.{◌≡◌, ◌↔◌, ◌+◌, ◌++◌, None, Some, [], IsTrue, IfOk, OnOk, OnErr, length, map};
-ghost use Rattle.mp_q_join.specs.Joining.{after_records, auction_of, auctions_of, fresh_cell, row_of, rows_along};
+ghost use Rattle.mp_text.specs.Fields.{fields_of};
+ghost use Rattle.mp_q_join.specs.Joining.{after_records, auction_of, auctions_of, fresh_cell, home_said, ids_are_legal, person_is_legal, person_said, row_of, rows_along, text_of, waiting_read};
 
-use crate::Home;
+use crate::{Home, names};
 use mp_model::{Rec, Value};
+use mp_names::limits::{MAX_EVENTS, MAX_ID};
+use mp_saved::{Words, put_more, read_numbers};
 use std::alloc::{AllocError, Global};
 use std::marker::Model;
 
@@ -51,6 +54,77 @@ impl Joining {
             home: self.home.clone()?,
             waiting,
         })
+    }
+
+    /// Whether there is a person with legal names, or auctions wait whose ids are within their limits, so that it may be
+    /// saved.
+    pub(crate) fn is_legal(&self) -> bool
+        ensures { result ≡ person_is_legal self.now.home self.now.waiting }
+    {
+        let waiting = self.waiting.as_slice();
+        match &self.home {
+            Some(home) => waiting.len() == 0 && home.is_legal(),
+            None => waiting.len() > 0 && waiting.len() <= MAX_EVENTS && ids_are_legal(waiting),
+        }
+    }
+
+    /// Appends the text. `AllocError`: no memory, and a part of it may be appended.
+    pub(crate) fn write(&self, out: &mut Vec<u8>) -> Result<(), AllocError>
+        ensures { OnOk result (out.new.items ≡ out.old.items ++ text_of 0 self.now) }
+    {
+        match &self.home {
+            Some(home) => home.write(out),
+            None => {
+                out.push(b'0')?;
+                put_more(out, self.waiting.as_slice())?;
+                Ok(())
+            }
+        }
+    }
+
+    /// The cell that a text says, if it says one. `AllocError`: no memory.
+    pub(crate) fn read(alloc: Global, text: &[u8]) -> Result<Option<Joining>, AllocError>
+        ensures { IfOk result (λ cell. cell ≡ person_said (fields_of text.now)) }
+    {
+        let mut words = Words::over(text);
+        let Some(flag) = words.word() else {
+            return Ok(None);
+        };
+        if names::is_yes(flag) {
+            Joining::with_home(alloc, &mut words)
+        } else {
+            Joining::with_waiting(alloc, &words)
+        }
+    }
+
+    /// The cell of the person that words say, if they say one.
+    fn with_home(alloc: Global, words: &mut Words) -> Result<Option<Joining>, AllocError>
+        ensures { IfOk result (λ cell. cell ≡ home_said words.old) }
+    {
+        let Some(home) = Home::read(alloc, words)? else {
+            return Ok(None);
+        };
+        let waiting = Vec::new(alloc);
+        Ok(Some(Joining {
+            home: Some(home),
+            waiting,
+        }))
+    }
+
+    /// The cell in which the ids wait that words say, if they say some.
+    fn with_waiting(alloc: Global, words: &Words) -> Result<Option<Joining>, AllocError>
+        ensures { IfOk result (λ cell. cell ≡ waiting_read words.now) }
+    {
+        let Some(text) = words.rest() else {
+            return Ok(None);
+        };
+        let Some(waiting) = read_numbers(alloc, text)? else {
+            return Ok(None);
+        };
+        Ok(Some(Joining {
+            home: None,
+            waiting,
+        }))
     }
 
     /// How many rows these records have at most: as many as there are of them, and auctions wait.
@@ -142,4 +216,11 @@ fn auction_of(value: &Value) -> Option<u64>
         Value::Auction { id, .. } => Some(*id),
         _ => None,
     }
+}
+
+/// Whether each id is within its limit.
+fn ids_are_legal(ids: &[u64]) -> bool
+    ensures { result ≡ ids_are_legal ids.now }
+{
+    ids.iter().all(|id| *id <= MAX_ID)
 }

@@ -7,6 +7,7 @@
 mod home;
 mod joining;
 mod keys;
+mod names;
 mod q3;
 mod q8;
 mod selling;

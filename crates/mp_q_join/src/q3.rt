@@ -6,6 +6,7 @@ ghost use Rattle.mp_q_join.specs.Q3.{q3_rules};
 
 use crate::{Joining, keys};
 use mp_model::{Group, PostList, Query, Rec, Rule, RuleList, Time, Value};
+use mp_saved::{Saved, ValueList};
 use std::alloc::{AllocError, Global};
 
 /// The query q3: the auctions of a category of the sellers of three states. The subject is NEXMark's, the table this
@@ -37,7 +38,8 @@ impl Query for Q3 {
     ghost use Rattle.std.specs.Prelude.{[], ◌∷◌};
     ghost use Rattle.mp_q_join.specs.Joining.{text_of};
     ghost use Rattle.mp_q_join.specs.Q3.{category_in, q3_facts, q3_rules};
-    ghost use Rattle.mp_q_join.specs.Laws.{q3_has_stages, q3_posts_are_later, q3_later_stages_post_nothing, q3_most_is_enough, q3_fresh_stays_fresh, q3_begins_fresh, q3_texts_tell_cells, q3_sums_fit};
+    ghost use Rattle.mp_q_join.specs.Laws.{q3_has_stages, q3_posts_are_later, q3_later_stages_post_nothing, q3_most_is_enough, q3_fresh_stays_fresh, q3_begins_fresh, q3_sums_fit};
+    ghost use Rattle.mp_q_join.specs.Laws.Texts.{q3_texts_tell_cells};
 
     type Cell = Joining;
 
@@ -110,4 +112,37 @@ impl Query for Q3 {
     ghost texts_tell_cells = { λ vs. q3_texts_tell_cells (category_in vs) };
 
     ghost sums_fit = { q3_sums_fit };
+}
+
+impl Saved for Q3 {
+    ghost use Rattle.mp_q_join.specs.Q3.{category_in};
+    ghost use Rattle.mp_q_join.specs.Laws.Texts.{q3_texts_are_plain};
+
+    const NUMBER: u32 = 3;
+
+    ghost NUMBER = { 3 };
+
+    fn values(&self) -> ValueList {
+        ValueList::one(self.category)
+    }
+
+    fn is_allowed(&self, stage: u32, _key: u64, _until: Time, cell: &Joining) -> bool {
+        stage == 0 && cell.is_legal()
+    }
+
+    fn write_cell(&self, _stage: u32, cell: &Joining, out: &mut Vec<u8>) -> Result<(), AllocError> {
+        cell.write(out)
+    }
+
+    fn read_cell(
+        &self,
+        alloc: Global,
+        _stage: u32,
+        text: &[u8],
+    ) -> Result<Option<Joining>, AllocError> {
+        let cell = Joining::read(alloc, text)?;
+        Ok(cell)
+    }
+
+    ghost texts_are_plain = { λ vs. q3_texts_are_plain (category_in vs) };
 }

@@ -5,6 +5,7 @@ ghost use Rattle.mp_q_join.specs.Q8.{q8_rules};
 
 use crate::{Selling, keys};
 use mp_model::{Group, PostList, Query, Rec, Rule, RuleList, Time, Value};
+use mp_saved::{Saved, ValueList};
 use std::alloc::{AllocError, Global};
 
 /// The query q8: the persons who sell on the day on which they came. The subject is NEXMark's, the table and the length of a
@@ -37,7 +38,8 @@ impl Query for Q8 {
     ghost use Rattle.std.specs.Prelude.{[], ◌∷◌};
     ghost use Rattle.mp_q_join.specs.Selling.{text_of};
     ghost use Rattle.mp_q_join.specs.Q8.{q8_facts, q8_rules, width_in};
-    ghost use Rattle.mp_q_join.specs.Laws.{q8_has_stages, q8_posts_are_later, q8_later_stages_post_nothing, q8_most_is_enough, q8_fresh_stays_fresh, q8_begins_fresh, q8_texts_tell_cells, q8_sums_fit};
+    ghost use Rattle.mp_q_join.specs.Laws.{q8_has_stages, q8_posts_are_later, q8_later_stages_post_nothing, q8_most_is_enough, q8_fresh_stays_fresh, q8_begins_fresh, q8_sums_fit};
+    ghost use Rattle.mp_q_join.specs.Laws.Texts.{q8_texts_tell_cells};
 
     type Cell = Selling;
 
@@ -117,4 +119,37 @@ impl Query for Q8 {
     ghost texts_tell_cells = { λ vs. q8_texts_tell_cells (width_in vs) };
 
     ghost sums_fit = { q8_sums_fit };
+}
+
+impl Saved for Q8 {
+    ghost use Rattle.mp_q_join.specs.Q8.{width_in};
+    ghost use Rattle.mp_q_join.specs.Laws.Texts.{q8_texts_are_plain};
+
+    const NUMBER: u32 = 8;
+
+    ghost NUMBER = { 8 };
+
+    fn values(&self) -> ValueList {
+        ValueList::one(self.width)
+    }
+
+    fn is_allowed(&self, stage: u32, _key: u64, _until: Time, cell: &Selling) -> bool {
+        stage == 0 && cell.is_legal()
+    }
+
+    fn write_cell(&self, _stage: u32, cell: &Selling, out: &mut Vec<u8>) -> Result<(), AllocError> {
+        cell.write(out)
+    }
+
+    fn read_cell(
+        &self,
+        alloc: Global,
+        _stage: u32,
+        text: &[u8],
+    ) -> Result<Option<Selling>, AllocError> {
+        let cell = Selling::read(alloc, text)?;
+        Ok(cell)
+    }
+
+    ghost texts_are_plain = { λ vs. q8_texts_are_plain (width_in vs) };
 }

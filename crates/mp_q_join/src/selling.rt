@@ -1,9 +1,12 @@
 //! What q8 keeps of a seller during a day.
-ghost use Rattle.std.specs.Prelude.{◌≡◌, ◌↔◌, IsTrue, IfOk, OnOk, OnErr};
+ghost use Rattle.std.specs.Prelude.{◌≡◌, ◌↔◌, ◌++◌, IsTrue, IfOk, OnOk, OnErr};
 ghost use Rattle.std.specs.Option.{option_to_list};
-ghost use Rattle.mp_q_join.specs.Selling.{after_records, after_value, cell_at, fresh_cell, row_of, row_in};
+ghost use Rattle.mp_text.specs.Fields.{fields_of};
+ghost use Rattle.mp_q_join.specs.Selling.{after_records, after_value, cell_at, fresh_cell, row_of, row_in, selling_is_legal, selling_said, text_of};
 
+use crate::names;
 use mp_model::{Field, Fields, Group, Text, Value};
+use mp_saved::Words;
 use std::alloc::{AllocError, Global};
 
 /// The name of a person, if it came, and whether it sells. It is public only as the `Cell` of q8.
@@ -39,6 +42,57 @@ impl Selling {
             name: self.name.clone()?,
             sells: self.sells,
         })
+    }
+
+    /// Whether there is a legal name, or without a name it sells, so that it may be saved.
+    pub(crate) fn is_legal(&self) -> bool
+        ensures { result ≡ selling_is_legal self.now.name self.now.sells }
+    {
+        match &self.name {
+            Some(name) => names::is_legal(name),
+            None => self.sells,
+        }
+    }
+
+    /// Appends the text. `AllocError`: no memory, and a part of it may be appended.
+    pub(crate) fn write(&self, out: &mut Vec<u8>) -> Result<(), AllocError>
+        ensures { OnOk result (out.new.items ≡ out.old.items ++ text_of 0 self.now) }
+    {
+        match &self.name {
+            Some(name) => {
+                out.push(b'1')?;
+                names::put(out, name)?;
+            }
+            None => {
+                out.push(b'0')?;
+            }
+        }
+        out.push(b'|')?;
+        out.push(if self.sells { b'1' } else { b'0' })?;
+        Ok(())
+    }
+
+    /// The cell that a text says, if it says one. `AllocError`: no memory.
+    pub(crate) fn read(alloc: Global, text: &[u8]) -> Result<Option<Selling>, AllocError>
+        ensures { IfOk result (λ cell. cell ≡ selling_said (fields_of text.now)) }
+    {
+        let mut words = Words::over(text);
+        let Some(_) = words.word() else {
+            return Ok(None);
+        };
+        let Some(second) = words.word() else {
+            return Ok(None);
+        };
+        let Some(third) = words.word() else {
+            let sells = names::is_yes(second);
+            return Ok(Some(Selling { name: None, sells }));
+        };
+        let name = Text::new(alloc, second)?;
+        let sells = names::is_yes(third);
+        Ok(Some(Selling {
+            name: Some(name),
+            sells,
+        }))
     }
 
     /// The row of a group: where it is woken and a person sells, the key and the name. `AllocError`: no memory.

@@ -1,7 +1,7 @@
 -- The table that q1 and q2 have in common keeps the laws of a query, whatever row a bid has.
-use Rattle.std.specs.Prelude.{ℕ, zero, suc, ◌≡◌, true, List, [], ◌∷◌, All, refl}
+use Rattle.std.specs.Prelude.{ℕ, zero, suc, ◌≡◌, ◌≢◌, true, List, [], ◌∷◌, All, refl}
 use Rattle.std.proofs.Common.{ap, arith}
-use Rattle.std.proofs.lemmas.Bool.{and_from}
+use Rattle.std.proofs.lemmas.Bool.{and_from, false≢true}
 use Rattle.std.proofs.lemmas.List.Elements.{All-head, All-tail}
 use Rattle.mp_model.specs.declared.record.Rec.{Rec}
 use Rattle.mp_model.specs.declared.value.Value.{Value}
@@ -50,6 +50,10 @@ module _ (rows : RowFacts) where
   -- no cell may be saved
   pub texts_tell_cells : TextsTellCells text_of (bids_by rows)
   texts_tell_cells j k t cell allowed = refl
+
+  -- so no text holds a line feed
+  pub texts_are_plain : (j k t : ℕ) (cell : Nothing) → (bids_by rows).allows j k t cell ≡ true → All (λ b. b ≢ 10) (text_of j cell)
+  texts_are_plain j k t cell allowed = absurd (false≢true allowed)
 
   recs_fit : LegalRowsFit rows → (rs : List Rec) → All RecordIsLegal rs → all_fit rows.fits rs ≡ true
   recs_fit legal_fit [] h = refl

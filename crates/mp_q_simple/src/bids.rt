@@ -6,10 +6,17 @@ ghost use Rattle.mp_q_simple.specs.Bids.{RowFacts, all_fit, key_of, rows_of};
 ghost use Rattle.mp_q_simple.specs.Laws.{LegalRowsFit};
 
 use mp_model::{Group, PostList, Query, Rec, RuleList, Time, Value};
+use mp_saved::{Saved, ValueList};
 use std::alloc::{AllocError, Global};
 
 /// A rule that says which row a bid has.
 pub trait RowOf: Drop {
+    /// The number of the query that gives these rows.
+    const NUMBER: u32;
+
+    /// The same, for contracts.
+    ghost NUMBER: { ℕ };
+
     /// The values of its constants.
     ghost values: { Self → List ℕ };
 
@@ -28,6 +35,10 @@ pub trait RowOf: Drop {
     fn rules(&self) -> RuleList
         ensures rules { result ≡ rules self.now }
         ensures given { are_within (rules self.now) (given_values (rules self.now)) ≡ true };
+
+    /// Their values, in order.
+    fn values(&self) -> ValueList
+        ensures { result ≡ values self.now };
 
     /// The rule with these values of its constants.
     fn with(self, given: &[u64]) -> Self
@@ -134,6 +145,42 @@ impl<R: RowOf + Sync> Query for Bids<R> {
     ghost texts_tell_cells = { λ vs. texts_tell_cells (R.rows vs) };
 
     ghost sums_fit = { sums_fit R.rows R.legal_rows_fit };
+}
+
+impl<R: RowOf + Sync> Saved for Bids<R> {
+    ghost use Rattle.mp_q_simple.specs.Laws.{texts_are_plain};
+
+    const NUMBER: u32 = R::NUMBER;
+
+    ghost NUMBER = { R.NUMBER };
+
+    fn values(&self) -> ValueList {
+        self.rule.values()
+    }
+
+    fn is_allowed(&self, _stage: u32, _key: u64, _until: Time, _cell: &Nothing) -> bool {
+        false
+    }
+
+    fn write_cell(
+        &self,
+        _stage: u32,
+        _cell: &Nothing,
+        _out: &mut Vec<u8>,
+    ) -> Result<(), AllocError> {
+        Ok(())
+    }
+
+    fn read_cell(
+        &self,
+        _alloc: Global,
+        _stage: u32,
+        _text: &[u8],
+    ) -> Result<Option<Nothing>, AllocError> {
+        Ok(None)
+    }
+
+    ghost texts_are_plain = { λ vs. texts_are_plain (R.rows vs) };
 }
 
 /// The auction of a bid. Other values make no record.

@@ -5,6 +5,7 @@ ghost use Rattle.mp_q_simple.specs.Q1.{q1_rules};
 
 use crate::{Bids, RowOf};
 use mp_model::{Field, Fields, Query, Rule, RuleList, Value};
+use mp_saved::ValueList;
 use std::alloc::{AllocError, Global};
 
 /// The type of the query q1: each bid with its price in euros, rounded down. The subject is NEXMark's, the rate this project's
@@ -53,6 +54,10 @@ impl RowOf for InEuros {
     ghost use Rattle.mp_q_simple.specs.Q1.{q1_rules, rows_with};
     ghost use Rattle.mp_q_simple.specs.Settled.{legal_rows_fit};
 
+    const NUMBER: u32 = 1;
+
+    ghost NUMBER = { 1 };
+
     ghost values = { λ r. r.num ∷ r.den ∷ [] };
 
     ghost rules = { λ _. q1_rules };
@@ -80,6 +85,10 @@ impl RowOf for InEuros {
 
     fn rules(&self) -> RuleList {
         RuleList::two(NUM, DEN)
+    }
+
+    fn values(&self) -> ValueList {
+        ValueList::two(self.num, self.den)
     }
 
     fn with(self, given: &[u64]) -> InEuros {

@@ -5,6 +5,7 @@ ghost use Rattle.mp_q_simple.specs.Q2.{q2_rules};
 
 use crate::{Bids, RowOf};
 use mp_model::{Field, Fields, Query, Rule, RuleList, Value};
+use mp_saved::ValueList;
 use std::alloc::{AllocError, Global};
 
 /// The type of the query q2: the bids on the auctions whose ids are multiples of a number. The subject is NEXMark's, the number
@@ -43,6 +44,10 @@ impl RowOf for OnMultiples {
     ghost use Rattle.mp_q_simple.specs.Q2.{q2_rules, rows_with};
     ghost use Rattle.mp_q_simple.specs.Settled.{all_rows_fit};
 
+    const NUMBER: u32 = 2;
+
+    ghost NUMBER = { 2 };
+
     ghost values = { λ r. r.modulus ∷ [] };
 
     ghost rules = { λ _. q2_rules };
@@ -61,6 +66,10 @@ impl RowOf for OnMultiples {
 
     fn rules(&self) -> RuleList {
         RuleList::one(MODULUS)
+    }
+
+    fn values(&self) -> ValueList {
+        ValueList::one(self.modulus)
     }
 
     fn with(self, given: &[u64]) -> OnMultiples {

@@ -1,5 +1,5 @@
 -- What q5 is.
-use Rattle.std.specs.Prelude.{ℕ, ◌-◌, ◌*◌, ◌==◌, true, false, Option, Some, None, List, [], ◌∷◌, codes, get_or, if◌then◌else◌, length}
+use Rattle.std.specs.Prelude.{ℕ, ◌-◌, ◌*◌, ◌==◌, ◌&&◌, true, Option, Some, None, List, [], ◌∷◌, codes, get_or, if◌then◌else◌, length}
 use Rattle.std.specs.Option.{option_to_list}
 use Rattle.mp_model.specs.declared.record.Rec.{Rec}
 use Rattle.mp_model.specs.declared.value.Value.{Value}
@@ -7,8 +7,9 @@ use Rattle.mp_model.specs.declared.value.Value.TheVariants.{Bid, Count}
 use Rattle.mp_model.specs.Entry.{Entry}
 use Rattle.mp_model.specs.Facts.{QueryFacts}
 use Rattle.mp_model.specs.Rules.{RuleFacts, settled}
+use Rattle.mp_saved.specs.Numbers.{numbers_in}
 use Rattle.mp_q_window.specs.Counts.{rows_of}
-use Rattle.mp_q_window.specs.Recent.{after_group, count_in}
+use Rattle.mp_q_window.specs.Recent.{after_group, count_in, is_legal, times_said}
 use Rattle.mp_q_window.specs.Windows.{ends_after}
 
 -- its rules: windows end at the multiples of a slide, and are so many slides long
@@ -67,8 +68,8 @@ q5_with slide slides = record {
   gives = λ j cell e. gives_of (slide * slides) j cell e;
   most = λ j cell e. most_of j e;
   fits = λ j cell e. true;
-  allows = λ j k t cell. false;
-  cell_of = λ j text. [];
+  allows = λ j k t cell. j == 0 && is_legal t cell;
+  cell_of = λ j text. times_said (numbers_in text);
   opening = λ j k. [];
   waking = λ j. [];
 }

@@ -1,13 +1,14 @@
 -- What q7 is.
-use Rattle.std.specs.Prelude.{ℕ, ◌==◌, true, false, Option, Some, None, List, [], ◌∷◌, codes, get_or, if◌then◌else◌}
+use Rattle.std.specs.Prelude.{ℕ, ◌==◌, ◌&&◌, true, Option, Some, None, List, [], ◌∷◌, codes, get_or, if◌then◌else◌}
 use Rattle.std.specs.Option.{option_to_list}
 use Rattle.mp_model.specs.declared.record.Rec.{Rec}
 use Rattle.mp_model.specs.declared.value.Value.{Value}
 use Rattle.mp_model.specs.declared.value.Value.TheVariants.{Bid}
 use Rattle.mp_model.specs.Facts.{QueryFacts}
 use Rattle.mp_model.specs.Rules.{RuleFacts, settled}
+use Rattle.mp_saved.specs.Numbers.{numbers_in}
 use Rattle.mp_q_window.specs.declared.best.Offer.{Offer}
-use Rattle.mp_q_window.specs.Best.{after_group, row_of}
+use Rattle.mp_q_window.specs.Best.{after_group, is_legal, offer_said, row_of}
 use Rattle.mp_q_window.specs.Windows.{end_after}
 
 -- its rule: how long a window is
@@ -37,8 +38,8 @@ q7_with width = record {
   gives = λ j cell e. option_to_list (row_of cell e);
   most = λ j cell e. 1;
   fits = λ j cell e. true;
-  allows = λ j k t cell. false;
-  cell_of = λ j text. None;
+  allows = λ j k t cell. j == 0 && is_legal cell;
+  cell_of = λ j text. offer_said (numbers_in text);
   opening = λ j k. None;
   waking = λ j. [];
 }

@@ -1,8 +1,11 @@
 //! The best bid of a window.
-ghost use Rattle.std.specs.Prelude.{◌≡◌, ◌↔◌, IfOk, IsTrue, None, Some};
-ghost use Rattle.mp_q_window.specs.Best.{after_group, after_value, at_start, better_of, row_of};
+ghost use Rattle.std.specs.Prelude.{◌≡◌, ◌↔◌, ◌++◌, IfOk, IsTrue, None, OnOk, Some, true};
+ghost use Rattle.mp_saved.specs.Numbers.{numbers_in, numbers_text};
+ghost use Rattle.mp_q_window.specs.Best.{after_group, after_value, at_start, better_of, is_legal, numbers_of, offer_of, offer_said, row_of};
 
 use mp_model::{Field, Fields, Group, Value};
+use mp_names::limits::{MAX_ID, MAX_PRICE};
+use mp_saved::{put_numbers, read_numbers};
 use std::alloc::{AllocError, Global};
 use std::marker::Model;
 
@@ -54,6 +57,39 @@ impl Best {
         ensures { result ≡ self.now }
     {
         Best { best: self.best }
+    }
+
+    /// Whether there is an offer whose numbers are within the limits of a bid, so that it may be saved.
+    pub(crate) fn is_legal(&self) -> bool
+        ensures { result ≡ is_legal self.now }
+    {
+        match self.best {
+            Some(offer) => {
+                offer.auction <= MAX_ID && offer.bidder <= MAX_ID && offer.price <= MAX_PRICE
+            }
+            None => false,
+        }
+    }
+
+    /// Appends the text of the offer. `AllocError`: no memory, and a part of it may be appended.
+    pub(crate) fn write(&self, out: &mut Vec<u8>) -> Result<(), AllocError>
+        ensures { OnOk result (out.new.items ≡ out.old.items ++ numbers_text (numbers_of self.now)) }
+    {
+        match self.best {
+            Some(offer) => put_numbers(out, &[offer.auction, offer.bidder, offer.price]),
+            None => Ok(()),
+        }
+    }
+
+    /// The offer that a text says, or none. `AllocError`: no memory.
+    pub(crate) fn read(alloc: Global, text: &[u8]) -> Result<Best, AllocError>
+        ensures { IfOk result (λ best. best ≡ offer_said (numbers_in text.now)) }
+    {
+        let Some(numbers) = read_numbers(alloc, text)? else {
+            return Ok(Best::new());
+        };
+        let best = offer_of(numbers.as_slice());
+        Ok(Best { best })
     }
 
     /// The row of the best offer, where this group ends a window. `AllocError`: no memory.
@@ -117,5 +153,20 @@ impl Best {
             Some(best) if best.price >= offer.price => best,
             _ => offer,
         }
+    }
+}
+
+/// The offer that three numbers say.
+fn offer_of(numbers: &[u64]) -> Option<Offer>
+    ensures { result ≡ offer_of numbers.now }
+{
+    if numbers.len() == 3 {
+        Some(Offer {
+            auction: numbers[0],
+            bidder: numbers[1],
+            price: numbers[2],
+        })
+    } else {
+        None
     }
 }

@@ -6,6 +6,7 @@ ghost use Rattle.mp_q_window.specs.Q5.{key_of, posts_of, q5_rules};
 
 use crate::{Recent, counts, windows};
 use mp_model::{Group, PostList, Query, Rec, Rule, RuleList, Time, Value};
+use mp_saved::{Saved, ValueList};
 use std::alloc::{AllocError, Global};
 
 /// The query q5: the auctions with the most bids in each window, which is some slides long and ends at a multiple of a slide.
@@ -142,6 +143,39 @@ impl Query for Q5 {
     ghost texts_tell_cells = { λ vs. texts_tell_cells (slide_in vs) (slides_in vs) };
 
     ghost sums_fit = { sums_fit };
+}
+
+impl Saved for Q5 {
+    ghost use Rattle.mp_q_window.specs.Q5.{slide_in, slides_in};
+    ghost use Rattle.mp_q_window.specs.Laws.Q5.{texts_are_plain};
+
+    const NUMBER: u32 = 5;
+
+    ghost NUMBER = { 5 };
+
+    fn values(&self) -> ValueList {
+        ValueList::two(self.slide, self.slides)
+    }
+
+    fn is_allowed(&self, stage: u32, _key: u64, until: Time, cell: &Recent) -> bool {
+        stage == 0 && cell.is_legal(until)
+    }
+
+    fn write_cell(&self, _stage: u32, cell: &Recent, out: &mut Vec<u8>) -> Result<(), AllocError> {
+        cell.write(out)
+    }
+
+    fn read_cell(
+        &self,
+        alloc: Global,
+        _stage: u32,
+        text: &[u8],
+    ) -> Result<Option<Recent>, AllocError> {
+        let cell = Recent::read(alloc, text)?;
+        Ok(Some(cell))
+    }
+
+    ghost texts_are_plain = { λ vs. texts_are_plain (slide_in vs) (slides_in vs) };
 }
 
 /// The key of a value: in stage 0 the auction of a bid, in stage 1 the time of a count. Other values make no record.

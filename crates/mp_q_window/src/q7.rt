@@ -6,6 +6,7 @@ ghost use Rattle.mp_q_window.specs.Q7.{key_of, posts_of, q7_rules};
 
 use crate::{Best, windows};
 use mp_model::{Group, PostList, Query, Rec, Rule, RuleList, Time, Value};
+use mp_saved::{Saved, ValueList};
 use std::alloc::{AllocError, Global};
 
 /// The query q7: the best bid of each window, which ends at a multiple of its length. The subject is NEXMark's, the table and
@@ -113,6 +114,39 @@ impl Query for Q7 {
     ghost texts_tell_cells = { λ vs. texts_tell_cells (width_in vs) };
 
     ghost sums_fit = { sums_fit };
+}
+
+impl Saved for Q7 {
+    ghost use Rattle.mp_q_window.specs.Q7.{width_in};
+    ghost use Rattle.mp_q_window.specs.Laws.Q7.{texts_are_plain};
+
+    const NUMBER: u32 = 7;
+
+    ghost NUMBER = { 7 };
+
+    fn values(&self) -> ValueList {
+        ValueList::one(self.width)
+    }
+
+    fn is_allowed(&self, stage: u32, _key: u64, _until: Time, cell: &Best) -> bool {
+        stage == 0 && cell.is_legal()
+    }
+
+    fn write_cell(&self, _stage: u32, cell: &Best, out: &mut Vec<u8>) -> Result<(), AllocError> {
+        cell.write(out)
+    }
+
+    fn read_cell(
+        &self,
+        alloc: Global,
+        _stage: u32,
+        text: &[u8],
+    ) -> Result<Option<Best>, AllocError> {
+        let cell = Best::read(alloc, text)?;
+        Ok(Some(cell))
+    }
+
+    ghost texts_are_plain = { λ vs. texts_are_plain (width_in vs) };
 }
 
 /// The end of the window that a bid of this time is in. Other values make no record. A window has 1 to 43,200 units of time.

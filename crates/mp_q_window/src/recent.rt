@@ -1,9 +1,12 @@
 //! The times of the bids on an auction that windows may still hold.
-ghost use Rattle.std.specs.Prelude.{◌≡◌, ◌↔◌, ◌≤◌, [], IfOk, IsTrue, OnErr, OnOk, length, vec_len};
+ghost use Rattle.std.specs.Prelude.{◌≡◌, ◌↔◌, ◌≤◌, ◌++◌, [], IfOk, IsTrue, OnErr, OnOk, length, vec_len};
 ghost use Rattle.std.specs.Vec.{vec_capacity};
-ghost use Rattle.mp_q_window.specs.Recent.{after_group, count_in, count_row, kept_by, since};
+ghost use Rattle.mp_saved.specs.Numbers.{numbers_in, numbers_text};
+ghost use Rattle.mp_q_window.specs.Recent.{after_group, are_times, count_in, count_row, is_legal, kept_by, since, times_said};
 
 use mp_model::{Group, Time, Value};
+use mp_names::limits::{MAX_EVENTS, MAX_TIME};
+use mp_saved::{put_numbers, read_numbers};
 use std::alloc::{AllocError, Global};
 use std::marker::Model;
 
@@ -48,6 +51,31 @@ impl Recent {
         Ok(Recent { times })
     }
 
+    /// Whether there are times, and they may be saved at this one: each is before it, and none less than the one before.
+    pub(crate) fn is_legal(&self, until: Time) -> bool
+        ensures { result ≡ is_legal until self.now }
+    {
+        let times = self.times.as_slice();
+        times.len() > 0 && times.len() <= MAX_EVENTS && are_times(times, until)
+    }
+
+    /// Appends the text of the times. `AllocError`: no memory, and a part of it may be appended.
+    pub(crate) fn write(&self, out: &mut Vec<u8>) -> Result<(), AllocError>
+        ensures { OnOk result (out.new.items ≡ out.old.items ++ numbers_text self.now) }
+    {
+        put_numbers(out, self.times.as_slice())
+    }
+
+    /// The times that a text says, or none. `AllocError`: no memory.
+    pub(crate) fn read(alloc: Global, text: &[u8]) -> Result<Recent, AllocError>
+        ensures { IfOk result (λ times. times ≡ times_said (numbers_in text.now)) }
+    {
+        match read_numbers(alloc, text)? {
+            Some(times) => Ok(Recent { times }),
+            None => Ok(Recent::new(alloc)),
+        }
+    }
+
     /// How many bids the auction had in the window that this group ends, where it ends one and there are some. A window
     /// is this long.
     pub fn count(&self, length: u64, group: &Group) -> Option<Value>
@@ -90,6 +118,20 @@ impl Recent {
         }
         count
     }
+}
+
+/// Whether each time is before this one and within the limits of an event, and none is less than the one before.
+fn are_times(times: &[Time], until: Time) -> bool
+    ensures { result ≡ are_times 0 until times.now }
+{
+    let mut low = 0;
+    for time in times {
+        if !(low <= *time && *time < until && *time <= MAX_TIME) {
+            return false;
+        }
+        low = *time;
+    }
+    true
 }
 
 /// Drops the times that are more than `kept` before the end of a window, where a group ends one.

@@ -2,7 +2,7 @@
 use Rattle.std.specs.Prelude.{ℕ, ◌≡◌, ◌≤◌, ◌==◌, ◌&&◌, true, Option, Some, None, List, [], ◌∷◌, All, IfSome, max, nat_le}
 use Rattle.std.specs.Option.{option_map, option_to_list, unwrap_or}
 use Rattle.std.proofs.Common.{arith}
-use Rattle.std.proofs.lemmas.Bool.{cond_both, false≢true}
+use Rattle.std.proofs.lemmas.Bool.{and_parts, cond_both, leb-true}
 use Rattle.std.proofs.lemmas.List.Elements.{All-nil, All-cons, All-head, All-tail, All-weaker}
 use Rattle.mp_names.specs.Limits.{greatest_price}
 use Rattle.mp_names.specs.Outlines.{is_before_stop}
@@ -21,8 +21,9 @@ use Rattle.mp_model.proofs.Lists.{All-filter_map}
 use Rattle.mp_q_auction.specs.declared.bidding.Bidding.{Bidding}
 use Rattle.mp_q_auction.specs.declared.bidding.Lot.{Lot}
 use Rattle.mp_q_auction.specs.declared.closed.AuctionCell.{AuctionCell}
+use Rattle.mp_q_auction.specs.Laws.Texts.{best_is_fair}
 use Rattle.mp_q_auction.specs.Laws.Along.{opening_keeps, outputs_keep}
-use Rattle.mp_q_auction.specs.Bidding.{after_records, after_value, is_closed, sold_at, sold_in}
+use Rattle.mp_q_auction.specs.Bidding.{after_records, after_value, bids_are_legal, is_closed, sold_at, sold_in}
 use Rattle.mp_q_auction.specs.Closed.{closed_by, sale_by}
 use Rattle.mp_q_auction.specs.SaleLaws.{closed_in}
 use Rattle.mp_q_auction.specs.Sales.{SalesFacts, price_of}
@@ -68,10 +69,16 @@ record_is_fair : (key : Option ℕ) (o : Output) → IsFair (price_of o.value)
 record_is_fair None o h = tt
 record_is_fair (Some k) o h = h
 
+-- so is the best price that may be saved
+fair_bids : (lot : Option Lot) (best : Option ℕ) → bids_are_legal lot best ≡ true → IsFair best
+fair_bids lot None h = tt
+fair_bids lot (Some best) h = leb-true best greatest_price (best_is_fair lot best h)
+
 module _ {Kept : Type 0} (of : Lot → ℕ) (sales : List ℕ → SalesFacts Kept) where
   -- the best price of a cell that may be saved is within the limit
   allowed_is_fair : (vs : List ℕ) (k t : ℕ) (cell : AuctionCell Kept) → (closed_by of (sales vs)).allows 0 k t cell ≡ true → IsFair cell.bidding.best
-  allowed_is_fair vs k t cell allowed = absurd (false≢true allowed)
+  allowed_is_fair vs k t cell allowed =
+      fair_bids cell.bidding.lot cell.bidding.best (and_parts ((sales vs).is_none cell.sales) (bids_are_legal cell.bidding.lot cell.bidding.best) allowed).1
 
   module _ (job : JobFacts) where
     abbrev table : QueryFacts (AuctionCell Kept)

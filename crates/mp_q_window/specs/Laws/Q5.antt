@@ -1,22 +1,23 @@
 -- The table of q5 keeps the laws of a query, whatever the values of its rules.
-use Rattle.std.specs.Prelude.{ℕ, zero, suc, ◌≡◌, ◌+◌, ◌-◌, ◌*◌, ◌/◌, ◌++◌, ◌<◌, ◌≤◌, Bool, true, false, Option, Some, None, List, [], ◌∷◌, All, IsSome, if◌then◌else◌, map, refl}
+use Rattle.std.specs.Prelude.{ℕ, zero, suc, ◌≡◌, ◌≢◌, ◌==◌, ◌&&◌, length, nat_le, nat_lt, ◌+◌, ◌-◌, ◌*◌, ◌/◌, ◌++◌, ◌<◌, ◌≤◌, Bool, true, false, Option, Some, None, List, [], ◌∷◌, All, IsSome, if◌then◌else◌, map, refl}
 use Rattle.std.specs.List.{range_with_len}
 use Rattle.std.specs.Option.{option_to_list}
-use Rattle.std.proofs.Common.{◌∙◌, ap, arith}
-use Rattle.std.proofs.lemmas.Bool.{false≢true}
+use Rattle.std.proofs.Common.{◌∙◌, ap, arith, lit<}
+use Rattle.std.proofs.lemmas.Bool.{and_parts, false≢true}
 use Rattle.std.proofs.lemmas.List.Elements.{All-nil, All-cons}
 use Rattle.std.proofs.lemmas.Nat.{mul-le}
-use Rattle.mp_names.specs.Limits.{greatest_time, last_time}
+use Rattle.mp_names.specs.Limits.{greatest_time, last_time, most_events}
 use Rattle.mp_model.specs.declared.value.Value.{Value}
 use Rattle.mp_model.specs.declared.value.Value.TheVariants.{Bid, Count}
 use Rattle.mp_model.specs.Always.{always_fits}
 use Rattle.mp_model.specs.Rules.{settled}
 use Rattle.mp_model.proofs.Tables.{length-filter_map, length_option, not_zero}
 use Rattle.mp_model.specs.QueryLaws.{BeginsFresh, HasStages, PostsAreLater, LaterStagesPostNothing, OutputsHaveKeys, MostIsEnough, FreshStaysFresh, RisesWithin, SumsFit, TextsTellCells}
+use Rattle.mp_saved.proofs.Spelled.{AreSmall, none_small, numbers_again, numbers_are_plain, one_small}
 use Rattle.mp_q_window.specs.Counts.{rows_of}
 use Rattle.mp_q_window.specs.Laws.Settled.{first_within, second_within, settled_within}
 use Rattle.mp_q_window.specs.Q5.{bid_ends, count_time, q5_facts, q5_rules, q5_with, slide_in, slide_rule, slides_in, slides_rule}
-use Rattle.mp_q_window.specs.Recent.{after_group, count_in, text_of}
+use Rattle.mp_q_window.specs.Recent.{after_group, are_times, count_in, is_legal, text_of, times_said}
 
 -- the slide and the number of slides are allowed
 slide_is : (vs : List ℕ) → (1 ≤ slide_in vs) × (slide_in vs ≤ 7200)
@@ -55,6 +56,17 @@ no_count : (woken : Bool) → (let count : Option Value = if woken then None els
 no_count true = refl
 no_count false = refl
 
+-- times that may be saved have 64 bits
+times_small : (low t : ℕ) (times : List ℕ) → are_times low t times ≡ true → AreSmall times
+times_small low t [] h = none_small
+times_small low t (n ∷ ns) h =
+    let parts = and_parts (nat_le low n && nat_lt n t && nat_le n greatest_time) (are_times n t ns) h in
+    let within = and_parts (nat_le low n && nat_lt n t) (nat_le n greatest_time) parts.0 in
+    one_small n greatest_time ns within.1 (lit< tt) (times_small n t ns parts.1)
+
+legal_small : (t n : ℕ) (ns : List ℕ) → is_legal t (n ∷ ns) ≡ true → AreSmall (n ∷ ns)
+legal_small t n ns h = times_small 0 t (n ∷ ns) (and_parts (nat_lt 0 (length (n ∷ ns)) && nat_le (length (n ∷ ns)) most_events) (are_times 0 t (n ∷ ns)) h).1
+
 module _ (slide slides : ℕ) where
   -- there are two stages
   pub has_stages : HasStages (q5_with slide slides)
@@ -84,9 +96,15 @@ module _ (slide slides : ℕ) where
   pub begins_fresh : BeginsFresh (q5_with slide slides)
   begins_fresh = (refl, refl)
 
-  -- no times may be saved
+  -- times are read from their text
   pub texts_tell_cells : TextsTellCells text_of (q5_with slide slides)
-  texts_tell_cells j k t cell allowed = absurd (false≢true allowed)
+  texts_tell_cells j k t [] allowed = absurd (false≢true (and_parts (j == 0) false allowed).1)
+  texts_tell_cells j k t (n ∷ ns) allowed = ap times_said (numbers_again n ns (legal_small t n ns (and_parts (j == 0) (is_legal t (n ∷ ns)) allowed).1))
+
+  -- and hold no line feed
+  pub texts_are_plain : (j k t : ℕ) (times : List ℕ) → (q5_with slide slides).allows j k t times ≡ true → All (λ b. b ≢ 10) (text_of j times)
+  texts_are_plain j k t [] allowed = absurd (false≢true (and_parts (j == 0) false allowed).1)
+  texts_are_plain j k t (n ∷ ns) allowed = numbers_are_plain n ns (legal_small t n ns (and_parts (j == 0) (is_legal t (n ∷ ns)) allowed).1)
 
 -- a bid posts the ends of its windows
 pub posts_are_later : (vs : List ℕ) → PostsAreLater (q5_facts vs)

@@ -1,0 +1,4 @@
+-- The lemmas of this crate.
+pub mod Cutting
+pub mod Reading
+pub mod Spelled
