@@ -1,5 +1,5 @@
 -- What fails no check is legal: the control records of a file are within the limits of the shape, and not too many.
-use Rattle.std.proofs.Common.{◌≡◌, ◌+◌, ◌*◌, ◌/◌, ◌<◌, ◌≤◌, ℕ, true, None, Some, Option, List, [], ◌++◌, length, arith, length-append}
+use Rattle.std.proofs.Common.{◌≡◌, ◌+◌, ◌*◌, ◌/◌, ◌<◌, ◌≤◌, ℕ, true, None, Some, Option, List, [], ◌++◌, length, arith, length-append, subst, sym}
 use Rattle.std.specs.Prelude.{All}
 use Rattle.std.specs.List.{list_all}
 use Rattle.std.proofs.lemmas.Bool.{leb-true}
@@ -9,7 +9,8 @@ use Rattle.mp_control.specs.declared.line.ControlLine.{ControlLine}
 use Rattle.mp_control.specs.declared.line.ControlLine.TheVariants as line
 use Rattle.mp_control.specs.Controls.{failures_but_count, failures_of, failures_of_kind, is_in_time, numbers_in, records_of_kind, records_on}
 use Rattle.mp_control.specs.Kinds.{failures_within, kind_of, limits_of, line_of, records_on_line}
-use Rattle.mp_control.specs.Read.{StageFits}
+use Rattle.mp_control.specs.Read.{LineFits, StageFits}
+use Rattle.mp_control.proofs.LineSteps.{in_time}
 use Rattle.mp_control.proofs.Numbers.{fields_pass, stage_fits}
 use Rattle.mp_control.proofs.Planned.{all_timely}
 use Rattle.mp_names.specs.Limits.{most_controls}
@@ -25,6 +26,15 @@ line_fits shape (line.Record control) some fits timely = All-cons (ControlFits s
 line_fits shape (line.AllAtOnce time stage shift) some fits timely = all_timely shape stage shift (λ bin. time) some fits timely
 line_fits shape (line.Fluid time gap stage shift) some fits timely = all_timely shape stage shift (λ bin. time + bin * gap) some fits timely
 line_fits shape (line.Batched time gap size stage shift) some fits timely = all_timely shape stage shift (λ bin. time + bin / size * gap) some fits timely
+
+-- with those of a line that fits, control records still fit
+pub with_line : (shape : Shape) (line : ControlLine) (before new : List Control) → 0 < shape.workers → LineFits shape line → ControlsFit shape before
+    → new ≡ before ++ records_on_line shape line → length new ≤ most_controls → ControlsFit shape new
+with_line shape line before new some fits fit is few = record {
+  few = few;
+  each = subst (All (ControlFits shape)) (sym is)
+      (All-append (ControlFits shape) before (records_on_line shape line) fit.each (line_fits shape line some fits.stage (in_time shape line fits.size fits.last)));
+}
 
 -- so are those of a line that fails no check
 records_fit : (shape : Shape) (before : ℕ) (kind : Option LineKind) (fields : List (List ℕ)) → 0 < shape.workers → failures_of_kind shape before kind fields ≡ []

@@ -4,14 +4,16 @@ use Rattle.std.proofs.lemmas.Bool.{and_from, and_parts, eq-eqb, ltb-true, not-tr
 use Rattle.std.proofs.lemmas.List.Elements.{All-append, All-cons, All-nil}
 use Rattle.std.proofs.lemmas.List.Folds.{list_any_at}
 use Rattle.std.proofs.lemmas.List.Quantifiers.{all_pairs_push}
-use Rattle.mp_bins.specs.Notes.{FirstFits}
+use Rattle.mp_bins.specs.Notes.{FirstFits, Layout}
 use Rattle.mp_control.specs.declared.setting_kinds.SettingKind.{SettingKind}
 use Rattle.mp_control.specs.declared.setting_kinds.SettingKind.TheVariants as kind
 use Rattle.mp_control.specs.Controls.{numbers_in}
+use Rattle.mp_control.specs.Drains.{drain_of, failures_of_drain, limits_of_drain, records_by_drain}
 use Rattle.mp_control.specs.Firsts.{failures_of_first, first_of, has_first, limits_of_first}
 use Rattle.mp_control.specs.Kinds.{failures_within}
-use Rattle.mp_control.specs.Settings.{Said, failures_by, kind_behind, nothing_said, said_by, setting_rules}
+use Rattle.mp_control.specs.Settings.{Said, failures_by, kind_behind, layout_in, nothing_said, said_by, setting_rules}
 use Rattle.mp_control.specs.Values.{failures_of_value, limit_at, no_rule, place_of, values_by, with_value}
+use Rattle.mp_control.proofs.DrainSteps.{with_drained}
 use Rattle.mp_control.proofs.LegalControls.{one_more}
 use Rattle.mp_control.proofs.Numbers.{fields_pass, number_passes}
 use Rattle.mp_control.proofs.ValuesSaid.{by_none}
@@ -23,6 +25,7 @@ use Rattle.mp_lines.proofs.LimitSteps.{passes_limit}
 use Rattle.mp_lines.proofs.Said.{kept_in_file}
 use Rattle.mp_lines.proofs.Starts.{empty_map, empty_parts, passes}
 use Rattle.mp_model.specs.Rules.{RuleFacts, are_within, given_values, is_within}
+use Rattle.mp_names.specs.declared.controls.Control.{Control}
 use Rattle.mp_names.specs.declared.controls.First.{First}
 use Rattle.mp_names.specs.declared.controls.Shape.{Shape}
 use Rattle.mp_text.specs.Numbers.{value_of}
@@ -57,6 +60,15 @@ module _ (shape : Shape) where
         once = all_pairs_push (λ f g. (f.stage ≡ g.stage) × (f.bin ≡ g.bin) → ⊥) firsts first fit.once (not_twice firsts first none);
       }
 
+-- with the control records of a line that drains a worker and fails no check, control records still fit
+one_more_drain : (layout : Layout) → 0 < layout.shape.workers → (controls : List Control) (fields : List (List ℕ)) → ControlsFit layout.shape controls → failures_of_drain layout controls fields ≡ []
+    → ControlsFit layout.shape (controls ++ records_by_drain layout controls (drain_of (numbers_in fields)))
+one_more_drain layout some controls fields fit e =
+    let limits = limits_of_drain layout.shape in
+    let parts = empty_parts (failures_within limits fields) _ e in
+    let low = ltb-true _ _ (number_passes limits fields 2 (Below layout.shape.stages) (fields_pass limits fields parts.0) (lit< tt) refl) in
+    with_drained layout controls (drain_of (numbers_in fields)) some low fit parts.1
+
 -- a value within its rule takes the place of another
 set_within : (rules : List RuleFacts) (values : List (Option ℕ)) (k v : ℕ) (d : RuleFacts) → are_within rules (values_by rules values) ≡ true → is_within (get_or rules k d) v ≡ true
     → are_within rules (values_by rules (set values k (Some v))) ≡ true
@@ -89,6 +101,9 @@ module _ (shape : Shape) (rules : List RuleFacts) (some : 0 < shape.workers) whe
       let place = place_of rules (field_at fields 1) in
       let pass = (empty_parts _ _ (empty_parts _ _ (empty_parts _ _ e).0).0).1 in
       record { same = h.same; firsts = h.firsts; values = value_within rules said.values place (field_at fields 2) h.values pass; controls = h.controls }
+  legal_with said kind.Drain fields h e =
+      let workers : 0 < said.shape.workers = subst (λ (s : Shape). 0 < s.workers) (sym h.same) some in
+      record { same = h.same; firsts = h.firsts; values = h.values; controls = one_more_drain (layout_in said) workers said.controls fields h.controls e }
   legal_with said kind.Control fields h e =
       let workers : 0 < said.shape.workers = subst (λ (s : Shape). 0 < s.workers) (sym h.same) some in
       record { same = h.same; firsts = h.firsts; values = h.values; controls = one_more said.shape workers said.controls fields h.controls e }

@@ -1,5 +1,6 @@
 -- What the contracts of this crate cite.
 pub mod Controls
+pub mod Drains
 pub mod Firsts
 pub mod Kinds
 pub mod Read

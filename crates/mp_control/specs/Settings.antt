@@ -5,10 +5,12 @@ use Rattle.mp_control.specs.declared.settings.Settings.{Settings}
 use Rattle.mp_control.specs.declared.setting_kinds.SettingKind.{SettingKind}
 use Rattle.mp_control.specs.declared.setting_kinds.SettingKind.TheVariants as kind
 use Rattle.mp_control.specs.Controls.{failures_of, numbers_in, records_on}
+use Rattle.mp_control.specs.Drains.{drain_of, failures_of_drain, records_by_drain}
 use Rattle.mp_control.specs.Firsts.{failures_of_first, first_of}
 use Rattle.mp_control.specs.Kinds.{failures_within}
 use Rattle.mp_control.specs.SettingKinds.{limits_of_version, setting_kind_of}
 use Rattle.mp_control.specs.Values.{failures_of_rule, place_of, values_by, with_value}
+use Rattle.mp_bins.specs.Notes.{Layout}
 use Rattle.mp_lines.specs.Checks.{field_at, number_at}
 use Rattle.mp_lines.specs.Files.{file_of}
 use Rattle.mp_lines.specs.Rules.{LineRules}
@@ -43,11 +45,16 @@ abbrev pub nothing_said : Shape → Said
 nothing_said shape =
     record { shape = shape; version = 1; begun = false; late = false; firsts = []; values = None ∷ None ∷ []; controls = [] }
 
+-- the shape of the job, and the first owners that were said
+abbrev pub layout_in : Said → Layout
+layout_in said = record { shape = said.shape; firsts = said.firsts }
+
 -- the checks that a line of this kind fails behind these, in their order
 abbrev pub failures_by : List RuleFacts → Said → SettingKind → List (List ℕ) → List ControlReason
 failures_by rules said kind.Version fields = failures_within limits_of_version fields
 failures_by rules said kind.First fields = failures_of_first said.shape said.late said.firsts fields
 failures_by rules said kind.Rule fields = failures_of_rule rules said.late said.values fields
+failures_by rules said kind.Drain fields = failures_of_drain (layout_in said) said.controls fields
 failures_by rules said kind.Control fields = failures_of said.shape (length said.controls) fields
 
 -- with the version that a line says
@@ -67,11 +74,17 @@ with_rule rules said fields =
 abbrev pub with_controls : Said → List (List ℕ) → Said
 with_controls said fields = record said { begun = true; late = true; controls = said.controls ++ records_on said.shape fields }
 
+-- with the control records that a line says which drains a worker
+abbrev pub with_drain : Said → List (List ℕ) → Said
+with_drain said fields =
+    record said { begun = true; late = true; controls = said.controls ++ records_by_drain (layout_in said) said.controls (drain_of (numbers_in fields)) }
+
 -- what these said with a line of this kind
 abbrev pub said_by : List RuleFacts → Said → SettingKind → List (List ℕ) → Said
 said_by rules said kind.Version fields = with_version said fields
 said_by rules said kind.First fields = with_first said fields
 said_by rules said kind.Rule fields = with_rule rules said fields
+said_by rules said kind.Drain fields = with_drain said fields
 said_by rules said kind.Control fields = with_controls said fields
 
 -- what a line behind these is about

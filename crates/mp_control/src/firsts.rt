@@ -71,6 +71,13 @@ impl FirstList {
         self.shape
     }
 
+    /// They, in their order.
+    pub fn as_slice(&self) -> &[First]
+        ensures { result.now ≡ self.now.firsts }
+    {
+        self.firsts.as_slice()
+    }
+
     /// Whether one of them is that of this bin of this stage.
     pub fn has(&self, stage: u32, bin: u32) -> bool
         requires stage { stage < self.now.shape.stages }

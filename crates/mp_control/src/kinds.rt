@@ -25,7 +25,8 @@ pub enum LineKind {
     Batched,
 }
 
-const TIME: NumberLimit = NumberLimit::UpTo(MAX_TIME);
+/// The limit of a time.
+pub const TIME: NumberLimit = NumberLimit::UpTo(MAX_TIME);
 
 const SHIFT: NumberLimit = NumberLimit::UpTo(255);
 

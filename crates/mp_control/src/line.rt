@@ -1,5 +1,5 @@
 //! One line of a configuration.
-ghost use Rattle.std.specs.Prelude.{◌≡◌, ◌+◌, ◌<◌, ◌≤◌, ◌++◌, ◌^◌, ◌∷◌, [], IfErr, OnOk, length};
+ghost use Rattle.std.specs.Prelude.{◌≡◌, ◌+◌, ◌<◌, ◌≤◌, ◌++◌, ◌^◌, ◌∷◌, [], IfErr, OnErr, OnOk, length};
 ghost use Rattle.mp_names.specs.Limits.{most_controls};
 ghost use Rattle.mp_control.specs.Controls.{failures_but_count};
 ghost use Rattle.mp_control.specs.Kinds.{kind_of, last_time_of, line_of, records_on_line};
@@ -115,7 +115,7 @@ impl ControlLine {
     }
 
     /// Appends the records that the line says. `Count`: exactly where there would be more than a job may have; `NoMemory`: an
-    /// allocation failure.
+    /// allocation failure. On both the list is as it was.
     pub fn append(
         self,
         shape: Shape,
@@ -127,6 +127,7 @@ impl ControlLine {
         ensures said { OnOk result (list.new.items ≡ list.old.items ++ records_on_line shape self) }
         ensures bad { IfErr result (λ refused. IfBad refused
             (IsCount (length (list.old.items ++ records_on_line shape self)))) }
+        ensures unchanged { OnErr result (list.new.items ≡ list.old.items) }
     {
         match self {
             ControlLine::Record(control) => append_one(control, list),
@@ -155,6 +156,7 @@ fn append_one(control: Control, list: &mut Vec<Control>) -> Result<(), LineRefus
     ensures few { OnOk result (length list.new.items ≤ most_controls) }
     ensures said { OnOk result (list.new.items ≡ list.old.items ++ control ∷ []) }
     ensures bad { IfErr result (λ refused. IfBad refused (IsCount (length (list.old.items ++ control ∷ [])))) }
+    ensures unchanged { OnErr result (list.new.items ≡ list.old.items) }
 {
     if list.len() >= MAX_CONTROLS {
         return Err(LineRefused::Bad(ControlReason::Count));
@@ -163,8 +165,8 @@ fn append_one(control: Control, list: &mut Vec<Control>) -> Result<(), LineRefus
     Ok(())
 }
 
-// Why a line is refused whose plan is.
-fn refusal_of(refused: PlanRefused) -> LineRefused<ControlReason>
+/// Why a line is refused whose plan is.
+pub fn refusal_of(refused: PlanRefused) -> LineRefused<ControlReason>
     ensures { result ≡ refusal_of refused }
 {
     match refused {

@@ -61,10 +61,10 @@ impl LineReader for SettingReader<'_> {
 
     fn read(
         &self,
-        _alloc: Global,
+        alloc: Global,
         fields: &FieldList,
         said: &mut SaidSoFar,
     ) -> Result<(), LineRefused<ControlReason>> {
-        said.add(self.rules, fields)
+        said.add(alloc, self.rules, fields)
     }
 }

@@ -10,14 +10,14 @@ use std::fmt;
 /// checks of its fields, which go from left to right. All of them are this project's profile.
 #[derive(Clone, Copy, PartialEq, Eq, Debug)]
 pub enum ControlReason {
-    /// The first field isn't `M`, `all`, `fluid` or `batch`, nor `first` or `rule` where the file's version is 2, nor `V` where
-    /// the line is the first that isn't blank.
+    /// The first field isn't `M`, `all`, `fluid` or `batch`, nor `first`, `rule` or `drain` where the file's version is 2, nor `V`
+    /// where the line is the first that isn't blank.
     Kind,
     /// The line has more or fewer fields than its kind.
     Fields,
     /// A field is empty or has a byte that is no digit.
     Number,
-    /// A number isn't within its limit, or the last time of a plan is above 2^47.
+    /// A number isn't within its limit, the last time of a plan is above 2^47, or the only worker is drained.
     Range,
     /// A rule's name is that of no rule of the query.
     Name,

@@ -1,7 +1,9 @@
 //! What the lines of a configuration said so far.
 ghost use Rattle.std.specs.Prelude.{◌≡◌, ◌<◌, ◌≤◌, IfOk, length};
+ghost use Rattle.mp_bins.specs.Laws.{AreAllNoted};
 ghost use Rattle.mp_bins.specs.Notes.{FirstFits};
 ghost use Rattle.mp_control.specs.Controls.{failures_of, numbers_in};
+ghost use Rattle.mp_control.specs.Drains.{AreListOwners, failures_of_drain};
 ghost use Rattle.mp_control.specs.Firsts.{failures_of_first, first_of};
 ghost use Rattle.mp_control.specs.Kinds.{failures_within};
 ghost use Rattle.mp_control.specs.Read.{AnswersLine};
@@ -9,9 +11,11 @@ ghost use Rattle.mp_control.specs.SettingKinds.{limits_of_version};
 ghost use Rattle.mp_control.specs.Values.{failures_of_rule};
 ghost use Rattle.mp_lines.specs.Checks.{AnswersChecks};
 
+use crate::drains::read_drain;
 use crate::firsts::{FirstList, read_first};
 use crate::kinds::numbers_within;
 use crate::line::read_line;
+use crate::list_owners::ListOwners;
 use crate::rule_lines::read_rule;
 use crate::setting_kinds::SettingKind;
 use crate::values::MOST_RULES;
@@ -30,14 +34,19 @@ pub struct SaidSoFar {
     firsts: FirstList,
     values: [Option<u64>; MOST_RULES],
     controls: Vec<Control>,
+    // The owners by the control records, kept from the first line on that drains a worker.
+    owners: Option<ListOwners>,
     version: u64,
     begun: bool,
     late: bool,
 }
 
 impl Model for SaidSoFar {
-    ghost use Rattle.std.specs.Prelude.{◌<◌};
+    ghost use Rattle.std.specs.Prelude.{◌<◌, All};
+    ghost use Rattle.mp_bins.specs.Notes.{FirstFits};
+    ghost use Rattle.mp_control.specs.Drains.{MayBeKept};
     ghost use Rattle.mp_control.specs.Settings.{Said};
+    ghost use Rattle.mp_job.specs.Legal.{ControlsFit};
 
     ghost Value = { Said };
 
@@ -51,11 +60,16 @@ impl Model for SaidSoFar {
       controls = s.controls.items;
     } };
 
-    ghost invariant = { λ s. (0 < s.firsts.shape.workers) × (0 < s.firsts.shape.bins) };
+    ghost invariant = { λ s.
+        (0 < s.firsts.shape.workers)
+        × (0 < s.firsts.shape.bins)
+        × All (FirstFits s.firsts.shape) s.firsts.firsts
+        × ControlsFit s.firsts.shape s.controls.items
+        × MayBeKept s.firsts s.controls.items s.late s.owners };
 }
 
 impl SaidSoFar {
-    ghost use Rattle.mp_control.specs.Settings.{failures_by, kind_behind, nothing_said, said_by, settings_by, settings_in, with_controls, with_first, with_rule, with_version};
+    ghost use Rattle.mp_control.specs.Settings.{failures_by, kind_behind, layout_in, nothing_said, said_by, settings_by, settings_in, with_controls, with_drain, with_first, with_rule, with_version};
 
     /// Nothing, for a job of this shape. `AllocError`: no memory.
     pub fn new(alloc: Global, shape: Shape) -> Result<SaidSoFar, AllocError>
@@ -67,6 +81,7 @@ impl SaidSoFar {
             firsts: FirstList::new(alloc, shape)?,
             values: [None, None],
             controls: Vec::new(alloc),
+            owners: None,
             version: 1,
             begun: false,
             late: false,
@@ -77,6 +92,7 @@ impl SaidSoFar {
     /// allocation failure.
     pub fn add(
         &mut self,
+        alloc: Global,
         rules: &RuleList,
         fields: &FieldList,
     ) -> Result<(), LineRefused<ControlReason>>
@@ -88,6 +104,7 @@ impl SaidSoFar {
             SettingKind::Version => self.add_version(fields).map_err(LineRefused::Bad),
             SettingKind::First => self.add_first(fields),
             SettingKind::Rule => self.add_rule(rules, fields).map_err(LineRefused::Bad),
+            SettingKind::Drain => self.add_drain(alloc, fields),
             SettingKind::Control => self.add_controls(fields),
         }
     }
@@ -160,6 +177,43 @@ impl SaidSoFar {
         self.late = true;
         self.begun = true;
         Ok(())
+    }
+
+    // Adds the control records of a line that drains a worker.
+    fn add_drain(
+        &mut self,
+        alloc: Global,
+        fields: &FieldList,
+    ) -> Result<(), LineRefused<ControlReason>>
+        ensures { AnswersLine result (failures_of_drain (layout_in self.old) self.old.controls fields.now)
+            (λ _. self.new ≡ with_drain self.old fields.now) }
+    {
+        let shape = self.firsts.shape();
+        let drain = match read_drain(shape, fields) {
+            Ok(drain) => drain,
+            Err(why) => return Err(LineRefused::Bad(why)),
+        };
+        let kept = self.take_owners(alloc)?;
+        drain.append(&kept.owners, shape, &mut self.controls)?;
+        self.owners = Some(kept);
+        self.late = true;
+        self.begun = true;
+        Ok(())
+    }
+
+    // The owners by all control records so far, which aren't kept any more then. `AllocError`: no memory.
+    fn take_owners(&mut self, alloc: Global) -> Result<ListOwners, AllocError>
+        requires { 0 < self.old.shape.stages }
+        ensures same { self.new ≡ self.old }
+        ensures owners { IfOk result (AreListOwners (layout_in self.old) self.old.controls) }
+        ensures all { IfOk result (λ kept. AreAllNoted self.old.controls kept.owners) }
+    {
+        let mut kept = match self.owners.take() {
+            Some(kept) => kept,
+            None => ListOwners::new(alloc, self.firsts.shape(), self.firsts.as_slice())?,
+        };
+        kept.note_more(self.controls.as_slice())?;
+        Ok(kept)
     }
 
     /// The settings of a job whose query has these rules.

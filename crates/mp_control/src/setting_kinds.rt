@@ -14,6 +14,8 @@ pub enum SettingKind {
     First,
     /// `rule`, a constant of the query: name, value.
     Rule,
+    /// `drain`, the bins of a worker go to the others: time, gap, stage, worker.
+    Drain,
     /// One or more control records, or nothing that is known.
     Control,
 }
@@ -32,6 +34,8 @@ impl SettingKind {
             SettingKind::First
         } else if version == 2 && first == b"rule".as_slice() {
             SettingKind::Rule
+        } else if version == 2 && first == b"drain".as_slice() {
+            SettingKind::Drain
         } else {
             SettingKind::Control
         }

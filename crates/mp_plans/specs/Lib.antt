@@ -1,3 +1,4 @@
 -- What the contracts of this crate cite.
+pub mod Drains
 pub mod Plans
 pub mod Refusals

@@ -1,5 +1,7 @@
 //! First owners, values of rules, control records and plans, in file order, with ample memory; and the lines that only a file of
 //! version 2 is refused for.
+ghost use Rattle.std.specs.Prelude.{◌<◌};
+
 use mp_control::{
     Control, ControlReason, ControlRefused, First, Rule, RuleList, Shape, read_settings,
 };
@@ -63,6 +65,41 @@ fn three_plans(rt: HostRuntime) -> Result<(), ControlRefused> {
     plan_says(&rt, rt.alloc(), b"batch|25|10|2|0|1", [25, 25, 35, 35])
 }
 
+/// Three workers and one stage of four bins.
+const THREE: Shape = Shape {
+    workers: 3,
+    bins: 4,
+    stages: 1,
+};
+
+// What a file says that drains one of three workers.
+fn drain_says(
+    rt: &impl Abort,
+    alloc: Global,
+    text: &[u8],
+    wanted: &[Control],
+) -> Result<(), ControlRefused> {
+    let settings = read_settings(alloc, text, &THREE, &RuleList::new())?;
+    assert!(rt; settings.controls.as_slice() == wanted);
+    Ok(())
+}
+
+#[test]
+fn drained_workers(rt: HostRuntime) -> Result<(), ControlRefused> {
+    let two = [record(25, 0, 1), record(35, 3, 2)];
+    drain_says(&rt, rt.alloc(), b"V|2\ndrain|25|10|0|0", &two)?;
+    // The first owner, the record and the first drain count for the second one.
+    let text = b"V|2\nfirst|0|1|0\nM|10|0|3|1\ndrain|25|0|0|0\n\ndrain|30|10|0|1\n";
+    let five = [
+        record(10, 3, 1),
+        record(25, 0, 1),
+        record(25, 1, 2),
+        record(30, 0, 2),
+        record(40, 3, 0),
+    ];
+    drain_says(&rt, rt.alloc(), text, &five)
+}
+
 /// The rules of q1.
 const NUM: Rule = Rule {
     name: "num",
@@ -102,9 +139,12 @@ fn all_three_lists(rt: HostRuntime) -> Result<(), ControlRefused> {
     Ok(())
 }
 
-// Its third line is refused for this reason.
-fn is_refused(rt: &impl Abort, alloc: Global, text: &[u8], wanted: ControlReason) {
-    match read_settings(alloc, text, &SHAPE, &RuleList::two(NUM, DEN)) {
+// In a job of this shape its third line is refused for this reason.
+fn is_refused(rt: &impl Abort, alloc: Global, shape: Shape, text: &[u8], wanted: ControlReason)
+    requires workers { 0 < shape.workers }
+    requires bins { 0 < shape.bins }
+{
+    match read_settings(alloc, text, &shape, &RuleList::two(NUM, DEN)) {
         Err(ControlRefused::BadLine { line, why }) => {
             assert!(rt; line == 3 && why == wanted);
         }
@@ -114,17 +154,52 @@ fn is_refused(rt: &impl Abort, alloc: Global, text: &[u8], wanted: ControlReason
 
 #[test]
 fn three_reasons(rt: HostRuntime) {
-    is_refused(&rt, rt.alloc(), b"V|2\n\nrule|x|zz", ControlReason::Name);
+    let late = b"V|2\nM|5|0|0|0\nfirst|0|0|0";
+    let twice = b"V|2\nfirst|0|0|0\nfirst|0|0|0";
     is_refused(
         &rt,
         rt.alloc(),
-        b"V|2\nM|5|0|0|0\nfirst|0|0|0",
-        ControlReason::Late,
+        SHAPE,
+        b"V|2\n\nrule|x|zz",
+        ControlReason::Name,
+    );
+    is_refused(&rt, rt.alloc(), SHAPE, late, ControlReason::Late);
+    is_refused(&rt, rt.alloc(), SHAPE, twice, ControlReason::Twice);
+}
+
+/// One worker, which owns a bin.
+const ALONE: Shape = Shape {
+    workers: 1,
+    bins: 1,
+    stages: 1,
+};
+
+/// Two workers, of which the second one has no bin.
+const ONE_BIN: Shape = Shape {
+    workers: 2,
+    bins: 1,
+    stages: 1,
+};
+
+#[test]
+fn drains_are_refused(rt: HostRuntime) {
+    let too_late = b"V|2\n\ndrain|140737488355328|1|0|0";
+    is_refused(&rt, rt.alloc(), SHAPE, too_late, ControlReason::Range);
+    is_refused(
+        &rt,
+        rt.alloc(),
+        ALONE,
+        b"V|2\n\ndrain|5|0|0|0",
+        ControlReason::Range,
     );
     is_refused(
         &rt,
         rt.alloc(),
-        b"V|2\nfirst|0|0|0\nfirst|0|0|0",
-        ControlReason::Twice,
+        SHAPE,
+        b"V|1\n\ndrain|5|0|0|0",
+        ControlReason::Kind,
     );
+    // A drain that finds no bin adds nothing, and stands before the first owner all the same.
+    let none = b"V|2\ndrain|5|0|0|1\nfirst|0|0|0";
+    is_refused(&rt, rt.alloc(), ONE_BIN, none, ControlReason::Late);
 }

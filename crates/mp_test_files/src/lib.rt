@@ -13,4 +13,6 @@ mod events;
 #[cfg(test)]
 mod made;
 #[cfg(test)]
+mod plans;
+#[cfg(test)]
 mod words;

@@ -1,14 +1,14 @@
 //! What words ask for: each command once, with ample memory. Words that are refused, and other ways to say these, stand in
 //! examples/cases.toml.
 use mp_words::{
-    CheckOptions, Command, DemoOptions, MakeOptions, QueryName, RunOptions, Schedule, WordsRefused,
-    parse,
+    CheckOptions, Command, DemoOptions, MakeOptions, QueryName, QueryOption, RunOptions, Schedule,
+    WordsRefused, parse,
 };
 use std::alloc::{AllocError, Global};
 use std::process::Abort;
 
 const RUN: RunOptions<'static> = RunOptions {
-    query: QueryName::Q2,
+    query: QueryOption::Named(QueryName::Q2),
     events: "e",
     config: "c",
     out: "o",
@@ -17,10 +17,11 @@ const RUN: RunOptions<'static> = RunOptions {
     bins: 32,
     depth: 5,
     schedule: Schedule::Threads,
+    paced: false,
 };
 
 const REPLAY: RunOptions<'static> = RunOptions {
-    query: QueryName::Q1,
+    query: QueryOption::Piped("p"),
     events: "e",
     config: "c",
     out: "o",
@@ -29,10 +30,11 @@ const REPLAY: RunOptions<'static> = RunOptions {
     bins: 16,
     depth: 64,
     schedule: Schedule::Seeded(9),
+    paced: true,
 };
 
 const CHECK: CheckOptions<'static> = CheckOptions {
-    query: QueryName::Q3,
+    query: QueryOption::Named(QueryName::Q3),
     events: "e",
     config: "c",
     workers: 1,
@@ -60,7 +62,7 @@ const ASKED: [(&str, Command<'static>); 5] = [
         Command::Run(RUN),
     ),
     (
-        "m replay --seed 9 --query q1 --events e --config c --out o",
+        "m replay --paced --seed 9 --query pipe --pipe p --events e --config c --out o",
         Command::Run(REPLAY),
     ),
     (

@@ -1,19 +1,10 @@
-use Rattle.std.proofs.Common.{◌≡◌, ◌+◌, ◌-◌, ◌++◌, [], ◌∷◌, ◌∙◌, ap, arith, length, map, ℕ, List, sym, refl, append_assoc, length-append}
-use Rattle.std.specs.List.{range_with_len}
-use Rattle.std.proofs.lemmas.List.FromFn.{length-map-range_with_len, map-range_with_len_more}
+use Rattle.std.proofs.Common.{◌≡◌, ◌+◌, ◌-◌, ap, arith, length, ℕ, List, sym, refl, ◌∙◌}
 use Rattle.mp_names.specs.declared.controls.Control.{Control}
 use Rattle.mp_plans.specs.Plans.{time_by, worker_by}
+use Rattle.mp_plans.proofs.Appended.{one_more, so_long}
 use Rattle.mp_plans.proofs.Counted.{more_by}
 use Rattle.mp_plans.proofs.Times.{not_later}
 use Rattle.mp_plans.proofs.plans.append.Goals as goal
-
--- with one more item of a function of the index the list is that of one more index
-one_more : {X : Type 0} (f : ℕ → X) (first old new : List X) (n : ℕ) (x : X) → old ≡ first ++ map f (range_with_len 0 n) → new ≡ old ++ x ∷ [] → x ≡ f n → new ≡ first ++ map f (range_with_len 0 (n + 1))
-one_more f first old new n x before is same =
-    is ∙ (ap (λ l. l ++ x ∷ []) before ∙ (append_assoc first (map f (range_with_len 0 n)) (x ∷ []) ∙ ap (λ l. first ++ l) (ap (λ y. map f (range_with_len 0 n) ++ y ∷ []) same ∙ sym (map-range_with_len_more f 0 n n (omega arith)))))
-
-so_long : {X : Type 0} (f : ℕ → X) (first now : List X) (n : ℕ) → now ≡ first ++ map f (range_with_len 0 n) → length now ≡ length first + n
-so_long f first now n is = ap length is ∙ omega (arith, length-append first (map f (range_with_len 0 n)), length-map-range_with_len f 0 n)
 
 pub time_of-requires-clause-last : goal.time_of-requires-clause-last
 time_of-requires-clause-last c =
