@@ -5,6 +5,7 @@ ghost use Rattle.mp_names.specs.Frontiers.{log_at};
 ghost use Rattle.mp_names.specs.Laws.{names_in};
 ghost use Rattle.mp_names.specs.Logs.{LogIsLegal, empty_log};
 ghost use Rattle.mp_stamps.specs.Seen.{SeenIsDone};
+ghost use Rattle.mp_job.specs.Runs.{IsRunOf};
 ghost use Rattle.mp_board.specs.Boards.{ShowsFrontiers, version_with};
 
 use crate::causes::Cause;
@@ -42,15 +43,15 @@ impl<O: Outlined> Model for Board<O> {
 }
 
 impl<Q: Query, J: Naming> Board<OutlineOf<Q, J>> {
-    /// A board on which every worker of the job posted its empty log. `AllocError`: no memory.
+    /// A board on which every worker of a run of the job posted its empty log. `AllocError`: no memory.
     pub fn open(alloc: Global, job: &Job<Q>) -> Result<Board<OutlineOf<Q, J>>, AllocError>
-        requires { job.now ≡ J.job }
+        requires { IsRunOf job.now J.job }
         ensures logs { IfOk result (λ board. board.logs ≡ replicate J.job.shape.workers empty_log) }
         ensures version { IfOk result (λ board. board.version ≡ 0) }
         ensures cause { IfOk result (λ board. board.stopped ≡ None) }
     {
         let shape = job.shape();
-        let counts = opening_counts(alloc, job)?;
+        let counts = opening_counts::<Q, J>(alloc, job)?;
         let logs = empty_logs(alloc, shape.workers)?;
         let seen = Seen::of(shape.stages, 0, &counts);
         Ok(Board {

@@ -1,13 +1,14 @@
 //! What stands on a board at first.
 ghost use Rattle.std.specs.Prelude.{◌≡◌, ◌≤◌, ◌^◌, IfOk, length, map, replicate};
 ghost use Rattle.mp_names.specs.Logs.{empty_log};
+ghost use Rattle.mp_job.specs.Runs.{IsRunOf};
 ghost use Rattle.mp_job.specs.Times.{times_of};
 ghost use Rattle.mp_outline.specs.JobOutline.{outline_of};
 ghost use Rattle.mp_board.specs.Opening.{AreOpened};
 ghost use Rattle.mp_model.specs.Tables.{table_of};
 
 use crate::totals::add_all;
-use mp_rows::{Change, Job, Log, Outlined, Query, opening_entries};
+use mp_rows::{Change, Job, Log, Naming, Outlined, Query, opening_entries};
 use mp_stamps::Counts;
 use std::alloc::{AllocError, Global};
 use std::snapshot::Snapshot;
@@ -15,11 +16,15 @@ use std::snapshot::Snapshot;
 // How many entries the empty log of a worker may have. No memory holds so many.
 const MOST_ENTRIES: u64 = 1 << 40;
 
-/// The counts of the empty logs of all workers of a job, over the times of the job. `AllocError`: no memory.
-pub(crate) fn opening_counts<Q: Query>(alloc: Global, job: &Job<Q>) -> Result<Counts, AllocError>
-    ensures opened { let o = outline_of (table_of Q.facts job.now) job.now in IfOk result (AreOpened o o.workers) }
-    ensures stages { IfOk result (λ counts. counts.stages ≡ job.now.shape.stages) }
-    ensures times { IfOk result (λ counts. counts.times ≡ times_of (table_of Q.facts job.now) job.now.events job.now.controls) }
+/// The counts of the empty logs of all workers of a run of the job, over the times of the job. `AllocError`: no memory.
+pub(crate) fn opening_counts<Q: Query, J: Naming>(
+    alloc: Global,
+    job: &Job<Q>,
+) -> Result<Counts, AllocError>
+    requires { IsRunOf job.now J.job }
+    ensures opened { let o = outline_of (table_of Q.facts J.job) J.job in IfOk result (AreOpened o o.workers) }
+    ensures stages { IfOk result (λ counts. counts.stages ≡ J.job.shape.stages) }
+    ensures times { IfOk result (λ counts. counts.times ≡ times_of (table_of Q.facts J.job) J.job.events J.job.controls) }
 {
     let shape = job.shape();
     let mut counts = Counts::over(alloc, shape.stages, job.times())?;

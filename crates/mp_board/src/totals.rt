@@ -28,7 +28,7 @@ pub(crate) fn add_all(counts: &mut Counts, changes: &[Change]) -> bool
     moved
 }
 
-// Adds a change to the counts.
+// Adds a change to the counts, if it is one.
 fn add_one(counts: &mut Counts, change: Change) -> bool
     requires { HasRoomFor 1 counts.old }
     ensures counted { (loc : Loc) (t : ℕ) → IsCounted counts.old loc t →
@@ -39,5 +39,8 @@ fn add_one(counts: &mut Counts, change: Change) -> bool
     ensures room { (k : ℕ) → HasRoomFor (1 + k) counts.old → HasRoomFor k counts.new }
     ensures still { result ≡ false → KeepsFrontiers counts.old counts.new }
 {
+    if change.by == 0 {
+        return false;
+    }
     counts.add(change.at.loc, change.at.time, change.by)
 }

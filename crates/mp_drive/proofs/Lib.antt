@@ -1,6 +1,7 @@
 pub mod Appended
 pub mod Ended
 pub mod Followed
+pub mod Keeping
 pub mod Leading
 pub mod Listed
 pub mod Made

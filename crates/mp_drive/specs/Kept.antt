@@ -3,6 +3,7 @@ use Rattle.std.specs.Prelude.{◌≡◌, ℕ, List, None}
 use Rattle.mp_names.specs.declared.names.Name.{Name}
 use Rattle.mp_model.specs.Facts.{JobFacts, QueryFacts}
 use Rattle.mp_job.specs.Legal.{JobIsLegal}
+use Rattle.mp_job.specs.Runs.{IsRunOf}
 use Rattle.mp_outline.specs.JobOutline.{outline_of}
 use Rattle.mp_mailbox.specs.Queues.{Queues}
 use Rattle.mp_board.specs.Boards.{Posted}
@@ -14,10 +15,10 @@ use Rattle.mp_drive.specs.Driven.{AreReached, AreReachedBy}
 abbrev pub together : List WorkerState → Posted → Queues (List Name) → SystemState
 together workers board post = record { workers = workers; board = board; post = post }
 
--- They are of the job that they were made for, which is legal; a run of the machine leads to where they are, and one
+-- They are of a run of the job that they were made for, which is legal; a run of the machine leads to where they are, and one
 -- of which so many steps are made; none has stopped
 pub record IsKept {Cell : Type 0} (q : QueryFacts Cell) (job its : JobFacts) (t : SystemState) (made : ℕ) : Type 0 where
-  pub same : its ≡ job
+  pub run : IsRunOf its job
   pub legal : JobIsLegal q job
   pub reached : AreReached (outline_of q job) t
   pub counted : AreReachedBy (outline_of q job) t made

@@ -2,5 +2,6 @@
 pub mod Driven
 pub mod Kept
 pub mod Ownership
+pub mod Pacing
 pub mod Refused
 pub mod Schedule

@@ -6,6 +6,7 @@
 
 mod list;
 mod ownership;
+mod pacing;
 mod places;
 mod plain;
 mod run;
@@ -13,5 +14,6 @@ mod seed;
 mod tallies;
 
 pub use mp_draws::Draws;
+pub use mp_worker::RunPlan;
 pub use plain::Plain;
 pub use run::{Replayed, replay, replay_with_tallies};

@@ -1,11 +1,12 @@
 //! The workers of a job on one thread.
 ghost use Rattle.std.specs.Prelude.{◌≡◌, ◌≢◌, ◌≤◌, ◌↔◌, ◌∷◌, ◌+◌, ◌*◌, [], ℕ, Err, IfOk, IsTrue, List, OnErr, OnOk};
-ghost use Rattle.std.specs.Prelude.{Option, Some, length, replicate, slice_get, take};
+ghost use Rattle.std.specs.Prelude.{Option, Some, false, length, replicate, slice_get, take, true};
 ghost use Rattle.mp_names.specs.declared.kinds.Kind.TheVariants.{Write};
 ghost use Rattle.mp_names.specs.Logs.{empty_log};
 ghost use Rattle.mp_names.specs.Outlines.{name_count};
 ghost use Rattle.mp_outside.specs.Fault.{Rose};
 ghost use Rattle.mp_outside.specs.Sink.{OnlyAppends};
+ghost use Rattle.mp_job.specs.Runs.{IsRunOf};
 ghost use Rattle.mp_model.specs.Answers.{one_thread_answer};
 ghost use Rattle.mp_model.specs.Tables.{table_of};
 ghost use Rattle.mp_outline.specs.JobOutline.{outline_of};
@@ -28,7 +29,7 @@ use mp_msg::Msg;
 use mp_names::Kind;
 use mp_outside::Sink;
 use mp_stamps::Seen;
-use mp_worker::{Stop, Turn, Worker};
+use mp_worker::{RunPlan, Stop, Turn, Worker, new_workers};
 use std::alloc::{AllocError, Global};
 use std::marker::Model;
 
@@ -62,7 +63,8 @@ impl<'a, Q: Query, J: Naming> Plain<'a, Q, J> {
     /// Workers that have done nothing, with mailboxes that take `depth` messages each. The query's last stage
     /// gives rows alone. `AllocError`: no memory.
     pub fn open(alloc: Global, job: &'a Job<Q>, depth: u32) -> Result<Plain<'a, Q, J>, AllocError>
-        requires job { job.now ≡ J.job }
+        requires job { IsRunOf job.now J.job }
+        requires pace { J.job.paced ≡ false }
         requires rows { GivesRows (table_of Q.facts J.job) }
         ensures start { let o = outline_of (table_of Q.facts J.job) J.job in
             IfOk result (λ p. Refines o depth p.state (start_of_machine o)) }
@@ -71,9 +73,49 @@ impl<'a, Q: Query, J: Naming> Plain<'a, Q, J> {
         ensures nothing_written { let q = table_of Q.facts J.job in
             IfOk result (λ p. written_lines q J.job.events (first_log p.state) ≡ []) }
     {
+        let paced = false;
+        Plain::open_by(alloc, job, RunPlan { depth, paced })
+    }
+
+    /// As [`Plain::open`], with control records that are paced.
+    pub fn open_paced(
+        alloc: Global,
+        job: &'a Job<Q>,
+        depth: u32,
+    ) -> Result<Plain<'a, Q, J>, AllocError>
+        requires job { IsRunOf job.now J.job }
+        requires pace { J.job.paced ≡ true }
+        requires rows { GivesRows (table_of Q.facts J.job) }
+        ensures start { let o = outline_of (table_of Q.facts J.job) J.job in
+            IfOk result (λ p. Refines o depth p.state (start_of_machine o)) }
+        ensures depth { IfOk result (λ p. p.state.post.depth ≡ depth) }
+        ensures made { IfOk result (λ p. p.made ≡ 0) }
+        ensures nothing_written { let q = table_of Q.facts J.job in
+            IfOk result (λ p. written_lines q J.job.events (first_log p.state) ≡ []) }
+    {
+        let paced = true;
+        Plain::open_by(alloc, job, RunPlan { depth, paced })
+    }
+
+    // Workers that have done nothing, for a run by this plan.
+    pub(crate) fn open_by(
+        alloc: Global,
+        job: &'a Job<Q>,
+        plan: RunPlan,
+    ) -> Result<Plain<'a, Q, J>, AllocError>
+        requires job { IsRunOf job.now J.job }
+        requires pace { J.job.paced ≡ plan.paced }
+        requires rows { GivesRows (table_of Q.facts J.job) }
+        ensures start { let o = outline_of (table_of Q.facts J.job) J.job in
+            IfOk result (λ p. Refines o plan.depth p.state (start_of_machine o)) }
+        ensures depth { IfOk result (λ p. p.state.post.depth ≡ plan.depth) }
+        ensures made { IfOk result (λ p. p.made ≡ 0) }
+        ensures nothing_written { let q = table_of Q.facts J.job in
+            IfOk result (λ p. written_lines q J.job.events (first_log p.state) ≡ []) }
+    {
         let board = Board::open(alloc, job)?;
-        let workers = new_workers(alloc, job, board.seen())?;
-        let post = PlainPost::new(alloc, job.shape().workers, depth)?;
+        let workers = new_workers(alloc, job, board.seen(), plan.paced)?;
+        let post = PlainPost::new(alloc, job.shape().workers, plan.depth)?;
         Ok(Plain {
             job,
             workers,
@@ -166,28 +208,4 @@ fn made_in(answered: &Result<Turn, Cause>) -> u64
         Ok(Turn::Did(..) | Turn::Seen(_)) => 1,
         _ => 0,
     }
-}
-
-// A worker for each number, which has done nothing.
-fn new_workers<'a, Q: Query, J: Naming>(
-    alloc: Global,
-    job: &'a Job<Q>,
-    seen: Seen,
-) -> Result<Vec<Worker<'a, Q, J>>, AllocError>
-    requires job { job.now ≡ J.job }
-    requires rows { GivesRows (table_of Q.facts J.job) }
-    requires version { seen.version ≡ 0 }
-    requires opening { let o = outline_of (table_of Q.facts J.job) J.job in
-        ShowsFrontiers o (replicate J.job.shape.workers empty_log) seen }
-    ensures all { IfOk result (λ workers. length workers.items ≡ J.job.shape.workers) }
-    ensures new { let o = outline_of (table_of Q.facts J.job) J.job in
-        IfOk result (λ workers. (w : ℕ) (s : WorkerState)
-        → slice_get workers.items w ≡ Some s → IsNewWorker o w s) }
-{
-    let count = job.shape().workers;
-    let mut workers = Vec::with_capacity(alloc, count as usize)?;
-    for number in 0..count {
-        workers.push_reserved(Worker::new(alloc, job, number, seen)?);
-    }
-    Ok(workers)
 }

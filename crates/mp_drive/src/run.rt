@@ -1,5 +1,6 @@
 //! A whole run on one thread.
 ghost use Rattle.std.specs.Prelude.{◌≡◌, ◌<◌, ℕ, IfOk, Some, length, slice_get};
+ghost use Rattle.mp_job.specs.Runs.{IsRunOf};
 ghost use Rattle.mp_model.specs.Tables.{table_of};
 ghost use Rattle.mp_outline.specs.JobOutline.{outline_of};
 ghost use Rattle.mp_output.specs.Rows.{GivesRows};
@@ -8,7 +9,7 @@ ghost use Rattle.mp_drive.specs.Schedule.{EndsAfter};
 ghost use Rattle.mp_tally.specs.Tallies.{IsTallyOf};
 ghost use Rattle.mp_tally.specs.declared.tally.Tally.{Tally as Told};
 
-use crate::Plain;
+use crate::{Plain, RunPlan};
 use mp_board::Cause;
 use mp_gate::Gate;
 use mp_job::Job;
@@ -17,27 +18,28 @@ use mp_outside::Sink;
 use mp_tally::Tally;
 use std::alloc::Global;
 
-/// Runs a whole job on one thread, by the schedule of a seed, with mailboxes that take `depth` messages each,
-/// and writes the answer: how many steps were made. The query's last stage gives rows alone. `Memory`: no
+/// Runs a whole job on one thread by a plan and by the schedule of a seed, and writes the answer: how many steps
+/// were made. The query's last stage gives rows alone. `Memory`: no
 /// memory, or more steps were made than a u64 counts, which no job that fits into memory has. `Write`: a
 /// write failed; only where the sink's count of faults rose in this call or stands at its last value, 2^64 -
 /// 1, and any other answer leaves that count as it was. With either a beginning of the answer is written.
 pub fn replay<Q: Query, J: Naming, S: Sink, G: Gate>(
     alloc: Global,
     job: &Job<Q>,
-    depth: u32,
+    plan: RunPlan,
     seed: u64,
     gate: &G,
     sink: &mut S,
 ) -> Result<u64, Cause>
-    requires job { job.now ≡ J.job }
+    requires job { IsRunOf job.now J.job }
+    requires pace { J.job.paced ≡ plan.paced }
     requires rows { GivesRows (table_of Q.facts J.job) }
-    requires depth { 0 < depth }
-    ensures made { IfOk result (λ n. EndsAfter (outline_of (table_of Q.facts J.job) J.job) depth seed n) }
+    requires depth { 0 < plan.depth }
+    ensures made { IfOk result (λ n. EndsAfter (outline_of (table_of Q.facts J.job) J.job) plan.depth seed n) }
     ensures leaves { let q = table_of Q.facts J.job in
         RunLeaves q J.job S.written S.faults S.frame result sink.old sink.new }
 {
-    let mut plain = Plain::<Q, J>::open(alloc, job, depth)?;
+    let mut plain = Plain::<Q, J>::open_by(alloc, job, plan)?;
     plain.drive_seed(seed, gate, sink)
 }
 
@@ -50,28 +52,29 @@ pub struct Replayed {
     pub tallies: Vec<Tally>,
 }
 
-/// Runs a whole job as [`replay`] does, and tells what each worker has done. The refusals are those of `replay`; where
-/// there is no memory for the tallies, the whole answer is written.
+/// Runs a whole job as [`replay`] does, and tells what each worker has done: the job's tallies, paced or not. The
+/// refusals are those of `replay`; where there is no memory for the tallies, the whole answer is written.
 pub fn replay_with_tallies<Q: Query, J: Naming, S: Sink, G: Gate>(
     alloc: Global,
     job: &Job<Q>,
-    depth: u32,
+    plan: RunPlan,
     seed: u64,
     gate: &G,
     sink: &mut S,
 ) -> Result<Replayed, Cause>
-    requires job { job.now ≡ J.job }
+    requires job { IsRunOf job.now J.job }
+    requires pace { J.job.paced ≡ plan.paced }
     requires rows { GivesRows (table_of Q.facts J.job) }
-    requires depth { 0 < depth }
+    requires depth { 0 < plan.depth }
     ensures made { let o = outline_of (table_of Q.facts J.job) J.job in
-        IfOk result (λ run. EndsAfter o depth seed run.steps) }
-    ensures all { IfOk result (λ run. length run.tallies.items ≡ J.job.shape.workers) }
+        IfOk result (λ run. EndsAfter o plan.depth seed run.steps) }
+    ensures all { IfOk result (λ run. length run.tallies.items ≡ job.now.shape.workers) }
     ensures tallies { IfOk result (λ run. (w : ℕ) (t : Told) → slice_get run.tallies.items w ≡ Some t
-        → IsTallyOf (table_of Q.facts J.job) J.job w t) }
+        → IsTallyOf (table_of Q.facts job.now) job.now w t) }
     ensures leaves { let q = table_of Q.facts J.job in
         RunLeaves q J.job S.written S.faults S.frame result sink.old sink.new }
 {
-    let mut plain = Plain::<Q, J>::open(alloc, job, depth)?;
+    let mut plain = Plain::<Q, J>::open_by(alloc, job, plan)?;
     let steps = plain.drive_seed(seed, gate, sink)?;
     let tallies = plain.tallies(alloc)?;
     Ok(Replayed { steps, tallies })

@@ -70,7 +70,6 @@ whole_is_legal facts vs events controls shape firsts fresh shapes stages legal f
   controls_count = λ i d l. refl;
   stop = tt;
   saved = tt;
-  paced = refl;
   until = refl;
   from = refl;
 }

@@ -3,4 +3,5 @@ pub mod Laws
 pub mod Legal
 pub mod Parts
 pub mod Records
+pub mod Runs
 pub mod Times

@@ -12,6 +12,7 @@ pub mod Posts
 pub mod Waking
 pub mod Ends
 pub mod Whole
+pub mod Runs
 pub mod Stages
 pub mod Soundness
 pub mod Telling

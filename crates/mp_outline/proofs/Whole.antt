@@ -1,4 +1,4 @@
--- For the time being every job is whole: it isn't paced and has no stop time, its keys begin with fresh cells, and nothing is to be woken.
+-- For the time being every job is whole: it has no stop time, its keys begin with fresh cells, and nothing is to be woken.
 use Rattle.std.proofs.Common.{◌≡◌, ℕ, nat_lt, Bool, true, false, cond, Option, List, [], map, refl, sym, ap, ◌∙◌, subst}
 use Rattle.std.proofs.lemmas.Bool.{false≢true}
 use Rattle.mp_names.specs.declared.names.Name.{Name}
@@ -18,10 +18,6 @@ abbrev pub NothingOpens : {Cell : Type 0} → QueryFacts Cell → JobFacts → T
 NothingOpens q job = (j : ℕ) (x : Name) → In x (opening_names q job j) → ⊥
 
 module _ {Cell : Type 0} (q : QueryFacts Cell) (job : JobFacts) (legal : JobIsLegal q job) where
-  -- control records go out as they stand
-  pub never_paced : job.paced ≡ false
-  never_paced = legal.paced
-
   -- no time is too late
   pub never_stops : (t : ℕ) → IsBeforeStop job.until t
   never_stops t = subst (λ (stop : Option ℕ). IsBeforeStop stop t) (sym legal.until) tt

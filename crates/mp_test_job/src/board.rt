@@ -1,5 +1,6 @@
 //! Of the board: what it tells of the posted logs, and its cause of stopping, each call that takes memory with ample memory.
 ghost use Rattle.std.specs.Prelude.{◌≡◌, IfOk};
+ghost use Rattle.mp_job.specs.Runs.{IsRunOf};
 
 use mp_board::{Board, Cause, Frontier, Hub, HubStop, Job, Loc, Log, Naming, OutlineOf};
 use mp_job::Shape;
@@ -27,7 +28,7 @@ fn empty_log_again<J: Naming>(
     alloc: Global,
     job: &Job<WakingBids>,
 ) -> Result<(), AllocError>
-    requires job { job.now ≡ J.job }
+    requires job { IsRunOf job.now J.job }
     requires shape { job.now.shape ≡ SHAPE }
 {
     let mut board = Board::<OutlineOf<WakingBids, J>>::open(alloc, job)?;
@@ -50,7 +51,7 @@ fn first_cause<J: Naming>(
     alloc: Global,
     job: &Job<WakingBids>,
 ) -> Result<(), AllocError>
-    requires job { job.now ≡ J.job }
+    requires job { IsRunOf job.now J.job }
     requires shape { job.now.shape ≡ SHAPE }
 {
     let mut board = Board::<OutlineOf<WakingBids, J>>::open(alloc, job)?;

@@ -1,10 +1,10 @@
 -- What the groups of a small job give, and the order in which control records are sent to two workers.
 use Rattle.std.specs.Prelude.{◌≡◌, ◌&&◌, ◌||◌, true, false, [], ◌∷◌}
+use Rattle.mp_controller.specs.Cursors.{cursor, is_before, place_after}
 use Rattle.mp_model.specs.declared.value.Value.TheVariants.{Row}
 use Rattle.mp_samples.specs.Bids.{answering_bids, fields_of}
 use Rattle.mp_samples.specs.Jobs.{one_bid}
 use Rattle.mp_worker_invariant.specs.Given.{outputs_given}
-use Rattle.mp_worker_invariant.specs.Parts.{cursor, is_before, place_after}
 
 -- the job's bid is at 5 on auction 7, and its group gives a row of that key. The group that it wakes at 15 has no records and gives none, and neither has any other key
 pub record OneBidGivesARow : Type 0 where

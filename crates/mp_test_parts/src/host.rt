@@ -1,5 +1,6 @@
 //! Of a host: the state of a bin comes and goes, with ample memory.
 ghost use Rattle.std.specs.Prelude.{◌≡◌, ◌≤◌, [], IfOk, length, map};
+ghost use Rattle.mp_job.specs.Runs.{IsRunOf};
 ghost use Rattle.std.specs.Vec.{vec_capacity};
 ghost use Rattle.mp_model.specs.Ascending.{ascending};
 ghost use Rattle.mp_outline.specs.JobOutline.{layout_of};
@@ -38,7 +39,7 @@ fn host_with_room<'a, J: Naming>(
     alloc: Global,
     job: &'a Job<AnsweringBids>,
 ) -> Result<Host<'a, AnsweringBids, J>, AllocError>
-    requires job { job.now ≡ J.job }
+    requires job { IsRunOf job.now J.job }
     requires one_move { J.job ≡ one_move }
     ensures stage { IfOk result (λ h. h.stage ≡ 0) }
     ensures room { IfOk result (λ h. 1 ≤ h.room_for_bins) }
@@ -169,7 +170,7 @@ fn bin_comes_and_leaves<J: Naming>(
     alloc: Global,
     job: &Job<AnsweringBids>,
 ) -> Result<(), AllocError>
-    requires job { job.now ≡ J.job }
+    requires job { IsRunOf job.now J.job }
     requires one_move { J.job ≡ one_move }
 {
     let owners = owners_with_note(alloc, job.shape())?;

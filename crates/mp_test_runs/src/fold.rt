@@ -1,11 +1,12 @@
 //! The reference answer: workers write the bytes that the fold on one thread gives.
-ghost use Rattle.std.specs.Prelude.{◌≡◌, ◌<◌};
+ghost use Rattle.std.specs.Prelude.{◌≡◌, ◌<◌, false};
+ghost use Rattle.mp_job.specs.Runs.{IsRunOf};
 ghost use Rattle.mp_model.specs.Tables.{table_of};
 ghost use Rattle.mp_output.specs.Rows.{GivesRows};
 
 use mp_board::Cause;
 use mp_control::{RuleList, read_settings};
-use mp_drive::replay;
+use mp_drive::{RunPlan, replay};
 use mp_events::read_events;
 use mp_fold::answer_pieces;
 use mp_gate::OpenGate;
@@ -112,12 +113,17 @@ pub fn writes<Q: Query, J: Naming>(
     seed: u64,
     answer: &[u8],
 ) -> Result<(), Cause>
-    requires job { job.now ≡ J.job }
+    requires job { IsRunOf job.now J.job }
+    requires pace { J.job.paced ≡ false }
     requires rows { GivesRows (table_of Q.facts J.job) }
 {
     let mut sink = MemSink::new(alloc);
     assert!(rt; depth > 0);
-    replay::<Q, J, _, _>(alloc, job, depth, seed, &OpenGate, &mut sink)?;
+    let plan = RunPlan {
+        depth,
+        paced: false,
+    };
+    replay::<Q, J, _, _>(alloc, job, plan, seed, &OpenGate, &mut sink)?;
     assert!(rt; sink.bytes() == answer);
     Ok(())
 }

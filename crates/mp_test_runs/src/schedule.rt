@@ -1,9 +1,10 @@
 //! A known schedule: the steps of a seed, computed from the definition of the schedule by another program.
-ghost use Rattle.std.specs.Prelude.{◌≡◌, ◌<◌};
+ghost use Rattle.std.specs.Prelude.{◌≡◌, ◌<◌, false};
+ghost use Rattle.mp_job.specs.Runs.{IsRunOf};
 
 use crate::handing::one_move;
 use mp_board::Cause;
-use mp_drive::{Draws, replay};
+use mp_drive::{Draws, RunPlan, replay};
 use mp_gate::{Gate, OpenGate};
 use mp_job::Job;
 use mp_model::Naming;
@@ -16,6 +17,11 @@ use std::marker::Brand;
 use std::process::Abort;
 
 const ANSWER: &[u8] = b"100|10|60\n";
+
+const PLAN: RunPlan = RunPlan {
+    depth: 64,
+    paced: false,
+};
 
 type Step = (u32, Kind);
 
@@ -160,9 +166,10 @@ fn seed_makes_the_steps<J: Naming>(
     gate: &ListedGate,
     sink: &mut MemSink,
 ) -> Result<(), Cause>
-    requires { job.now ≡ J.job }
+    requires job { IsRunOf job.now J.job }
+    requires pace { J.job.paced ≡ false }
 {
-    let made = replay::<Q4, J, _, _>(alloc, job, 64, 0, gate, sink)?;
+    let made = replay::<Q4, J, _, _>(alloc, job, PLAN, 0, gate, sink)?;
     assert!(rt; made == 42);
     assert!(rt; sink.bytes() == ANSWER);
     Ok(())
@@ -180,10 +187,11 @@ fn the_schedule_of_seed_0(rt: HostRuntime) -> Result<(), Cause> {
 
 // How many steps the schedule of a seed has.
 fn steps_of_seed<J: Naming>(alloc: Global, job: &Job<Q4>, seed: u64) -> Result<u64, Cause>
-    requires { job.now ≡ J.job }
+    requires job { IsRunOf job.now J.job }
+    requires pace { J.job.paced ≡ false }
 {
     let mut sink = MemSink::new(alloc);
-    replay::<Q4, J, _, _>(alloc, job, 64, seed, &OpenGate, &mut sink)
+    replay::<Q4, J, _, _>(alloc, job, PLAN, seed, &OpenGate, &mut sink)
 }
 
 #[test]

@@ -1,5 +1,6 @@
 //! Lists of steps, with what each answers and what is seen after them.
-ghost use Rattle.std.specs.Prelude.{◌≡◌};
+ghost use Rattle.std.specs.Prelude.{◌≡◌, false};
+ghost use Rattle.mp_job.specs.Runs.{IsRunOf};
 ghost use Rattle.mp_output.specs.Rows.{GivesRows};
 ghost use Rattle.mp_model.specs.Tables.{table_of};
 
@@ -85,7 +86,8 @@ pub fn follows<Q: Query, J: Naming>(
     depth: u32,
     parts: &[Part<'_>],
 ) -> Result<(), Cause>
-    requires job { job.now ≡ J.job }
+    requires job { IsRunOf job.now J.job }
+    requires pace { J.job.paced ≡ false }
     requires rows { GivesRows (table_of Q.facts J.job) }
 {
     let mut sink = MemSink::new(alloc);

@@ -1,5 +1,6 @@
 //! Worked examples of q1, step by step.
-ghost use Rattle.std.specs.Prelude.{◌≡◌, ◌≤◌, length};
+ghost use Rattle.std.specs.Prelude.{◌≡◌, ◌≤◌, false, length};
+ghost use Rattle.mp_job.specs.Runs.{IsRunOf};
 ghost use Rattle.mp_model.specs.Legal.{EventIsLegal};
 
 use crate::script::{Line, Part, follows};
@@ -293,7 +294,8 @@ fn starves_and_ends<J: Naming>(
     places: &[(u32, Kind)],
     sink: &mut MemSink,
 ) -> Result<(), Cause>
-    requires job { job.now ≡ J.job }
+    requires job { IsRunOf job.now J.job }
+    requires pace { J.job.paced ≡ false }
 {
     let mut plain = Plain::<Q1, J>::open(alloc, job, 64)?;
     let turns = plain.drive_list(alloc, places, sink)?;

@@ -1,5 +1,6 @@
 //! A crew one of whose workers stops on a thread of its own.
-ghost use Rattle.std.specs.Prelude.{◌≡◌};
+ghost use Rattle.std.specs.Prelude.{◌≡◌, false};
+ghost use Rattle.mp_job.specs.Runs.{IsRunOf};
 
 use mp_board::Cause;
 use mp_gate::OpenGate;
@@ -20,7 +21,8 @@ fn stops<J: Naming + Send + Sync, R: Threads + Wait + Sync + Abort>(
     alloc: Global,
     job: &Job<StarvedBids>,
 ) -> Result<(), AllocError>
-    requires { job.now ≡ J.job }
+    requires job { IsRunOf job.now J.job }
+    requires pace { J.job.paced ≡ false }
 {
     let crew = Crew::<StarvedBids, J, &R>::open(rt, alloc, job, 2)?;
     let mut sink = MemSink::new(alloc);

@@ -1,10 +1,12 @@
 //! The workers of a job, made for threads.
-ghost use Rattle.std.specs.Prelude.{◌≡◌, ◌<◌, ℕ, All, IfOk, length, replicate};
+ghost use Rattle.std.specs.Prelude.{◌≡◌, ◌<◌, ℕ, All, IfOk, Some, false, length, replicate, slice_get, true};
 ghost use Rattle.mp_names.specs.Logs.{empty_log};
+ghost use Rattle.mp_job.specs.Runs.{IsRunOf};
 ghost use Rattle.mp_model.specs.Tables.{table_of};
 ghost use Rattle.mp_outline.specs.JobOutline.{outline_of};
 ghost use Rattle.mp_output.specs.Rows.{GivesRows};
-ghost use Rattle.mp_board.specs.Boards.{ShowsFrontiers};
+ghost use Rattle.mp_worker_refinement.specs.Laws.{IsNewWorker};
+ghost use Rattle.mp_worker_refinement.specs.State.{WorkerState};
 ghost use Rattle.mp_ruled.specs.Posts.{AreLinked, AreNewPosts, StandForNone};
 ghost use Rattle.mp_threads_hub.specs.Hubs.{AreNewHubs, AreOfOneLock};
 ghost use Rattle.mp_threads.specs.Crews.{AreByNumber, HasDoneNothing, posts_of, seats_of};
@@ -14,10 +16,9 @@ use mp_job::Job;
 use mp_model::{Naming, Query};
 use mp_msg::Msg;
 use mp_ruled::{RuledPost, ruled_posts};
-use mp_stamps::Seen;
 use mp_threads_hub::{SeatHub, open_hubs};
 use mp_threads_member::Member;
-use mp_worker::Worker;
+use mp_worker::{RunPlan, Worker, new_workers};
 use std::alloc::{AllocError, Global};
 use std::collections::VecDeque;
 use std::marker::Model;
@@ -50,7 +51,8 @@ impl<'a, Q: Query, J: Naming, R: Copy + Drop> Crew<'a, Q, J, R> {
         job: &'a Job<Q>,
         depth: u32,
     ) -> Result<Crew<'a, Q, J, R>, AllocError>
-        requires job { job.now ≡ J.job }
+        requires job { IsRunOf job.now J.job }
+        requires pace { J.job.paced ≡ false }
         requires rows { GivesRows (table_of Q.facts J.job) }
         requires depth { 0 < depth }
         ensures start { IfOk result (λ crew. All HasDoneNothing crew) }
@@ -58,47 +60,89 @@ impl<'a, Q: Query, J: Naming, R: Copy + Drop> Crew<'a, Q, J, R> {
         ensures linked { IfOk result (λ crew. AreLinked (posts_of crew)) }
         ensures one_lock { IfOk result (λ crew. AreOfOneLock (seats_of crew)) }
     {
-        let workers = job.shape().workers;
+        let paced = false;
+        Crew::open_by(rt, alloc, job, RunPlan { depth, paced })
+    }
+
+    /// As [`Crew::open`], with control records that are paced.
+    pub fn open_paced(
+        rt: R,
+        alloc: Global,
+        job: &'a Job<Q>,
+        depth: u32,
+    ) -> Result<Crew<'a, Q, J, R>, AllocError>
+        requires job { IsRunOf job.now J.job }
+        requires pace { J.job.paced ≡ true }
+        requires rows { GivesRows (table_of Q.facts J.job) }
+        requires depth { 0 < depth }
+        ensures start { IfOk result (λ crew. All HasDoneNothing crew) }
+        ensures depth { IfOk result (λ crew. AreNewPosts J.job.shape.workers depth (posts_of crew)) }
+        ensures linked { IfOk result (λ crew. AreLinked (posts_of crew)) }
+        ensures one_lock { IfOk result (λ crew. AreOfOneLock (seats_of crew)) }
+    {
+        let paced = true;
+        Crew::open_by(rt, alloc, job, RunPlan { depth, paced })
+    }
+
+    // Workers that have done nothing, for a run by this plan.
+    pub(crate) fn open_by(
+        rt: R,
+        alloc: Global,
+        job: &'a Job<Q>,
+        plan: RunPlan,
+    ) -> Result<Crew<'a, Q, J, R>, AllocError>
+        requires job { IsRunOf job.now J.job }
+        requires pace { J.job.paced ≡ plan.paced }
+        requires rows { GivesRows (table_of Q.facts J.job) }
+        requires depth { 0 < plan.depth }
+        ensures start { IfOk result (λ crew. All HasDoneNothing crew) }
+        ensures depth { IfOk result (λ crew. AreNewPosts J.job.shape.workers plan.depth (posts_of crew)) }
+        ensures linked { IfOk result (λ crew. AreLinked (posts_of crew)) }
+        ensures one_lock { IfOk result (λ crew. AreOfOneLock (seats_of crew)) }
+    {
         let board = Board::open(alloc, job)?;
         let seen = board.seen();
-        let hubs = open_hubs(alloc, board, workers)?;
-        let posts = ruled_posts(rt, alloc, workers, depth)?;
-        let members = new_members(alloc, job, seen, hubs, posts)?;
+        let count = job.shape().workers;
+        let hubs = open_hubs(alloc, board, count)?;
+        let posts = ruled_posts(rt, alloc, count, plan.depth)?;
+        let workers = new_workers(alloc, job, seen, plan.paced)?;
+        let members = new_members(alloc, workers, posts, hubs)?;
         Ok(Crew { members })
     }
 }
 
-// A worker for each number, which has done nothing, with the way to the board and the post of its number.
+// Each worker with the post and the way to the board of its number.
 fn new_members<'a, Q: Query, J: Naming, R: Drop>(
     alloc: Global,
-    job: &'a Job<Q>,
-    seen: Seen,
-    hubs: Vec<SeatHub<OutlineOf<Q, J>>>,
+    workers: Vec<Worker<'a, Q, J>>,
     posts: Vec<RuledPost<Msg<Q, J>, R>>,
+    hubs: Vec<SeatHub<OutlineOf<Q, J>>>,
 ) -> Result<Vec<Member<'a, Q, J, R>>, AllocError>
-    requires job { job.now ≡ J.job }
-    requires rows { GivesRows (table_of Q.facts J.job) }
-    requires opening { let o = outline_of (table_of Q.facts J.job) J.job in
-        ShowsFrontiers o (replicate J.job.shape.workers empty_log) seen }
-    requires hubs { (length hubs.items ≡ J.job.shape.workers)
-        × AreNewHubs (replicate J.job.shape.workers empty_log) seen.version hubs.items }
+    requires workers { let o = outline_of (table_of Q.facts J.job) J.job in
+        (length workers.items ≡ J.job.shape.workers)
+        × ((w : ℕ) (s : WorkerState) → slice_get workers.items w ≡ Some s → IsNewWorker o w s) }
     requires posts { (length posts.items ≡ J.job.shape.workers) × StandForNone (λ xs. xs) posts.items }
     requires new_posts { (depth : ℕ) × AreNewPosts J.job.shape.workers depth posts.items }
+    requires hubs { (version : ℕ) × (length hubs.items ≡ J.job.shape.workers)
+        × AreNewHubs (replicate J.job.shape.workers empty_log) version hubs.items }
     ensures numbers { IfOk result (λ members. AreByNumber J.job.shape.workers members.items) }
     ensures new { IfOk result (λ members. All HasDoneNothing members.items) }
     ensures posts { IfOk result (λ members. posts_of members.items ≡ posts.items) }
     ensures seats { IfOk result (λ members. seats_of members.items ≡ hubs.items) }
 {
-    let workers = job.shape().workers;
-    let mut members = Vec::with_capacity(alloc, workers as usize)?;
-    let mut hubs = VecDeque::from_vec(hubs);
+    let count = workers.len();
+    let mut members = Vec::with_capacity(alloc, count)?;
+    let mut workers = VecDeque::from_vec(workers);
     let mut posts = VecDeque::from_vec(posts);
-    for number in 0..workers {
-        let worker = Worker::new(alloc, job, number, seen)?;
-        let Some(hub) = hubs.pop_front() else {
+    let mut hubs = VecDeque::from_vec(hubs);
+    for _number in 0..count {
+        let Some(worker) = workers.pop_front() else {
             unreachable!()
         };
         let Some(post) = posts.pop_front() else {
+            unreachable!()
+        };
+        let Some(hub) = hubs.pop_front() else {
             unreachable!()
         };
         members.push_reserved(Member::new(worker, post, hub));

@@ -12,5 +12,6 @@ mod start;
 mod tallies;
 
 pub use crew::Crew;
+pub use mp_worker::RunPlan;
 pub use run::run_workers;
 pub use tallies::run_with_tallies;

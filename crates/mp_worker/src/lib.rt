@@ -8,12 +8,16 @@ mod exchange;
 mod finished;
 mod kinds;
 mod known;
+mod plan;
 mod start;
 mod step;
 mod tally;
 mod turn;
 mod worker;
+mod workers;
 
 pub use kinds::{count_of_kinds, kind_at};
+pub use plan::RunPlan;
 pub use turn::{Stop, Turn};
 pub use worker::Worker;
+pub use workers::new_workers;

@@ -1,6 +1,7 @@
 //! How a worker begins.
-ghost use Rattle.std.specs.Prelude.{◌≡◌, ◌<◌, IfOk, replicate};
+ghost use Rattle.std.specs.Prelude.{◌≡◌, ◌<◌, true, false, IfOk, replicate};
 ghost use Rattle.mp_names.specs.Logs.{empty_log};
+ghost use Rattle.mp_job.specs.Runs.{IsRunOf};
 ghost use Rattle.mp_board.specs.Boards.{ShowsFrontiers};
 ghost use Rattle.mp_outline.specs.JobOutline.{outline_of};
 ghost use Rattle.mp_output.specs.Rows.{GivesRows};
@@ -14,15 +15,16 @@ use mp_worker_steps::Parts;
 use std::alloc::{AllocError, Global};
 
 impl<'a, Q: Query, J: Naming> Worker<'a, Q, J> {
-    /// A worker that has done nothing. It has seen what the board shows on which every worker posted its empty log.
-    /// `AllocError`: no memory.
+    /// A worker that has done nothing, of a run of the job that isn't paced. It has seen what the board shows on which every
+    /// worker posted its empty log. `AllocError`: no memory.
     pub fn new(
         alloc: Global,
         job: &'a Job<Q>,
         number: u32,
         seen: Seen,
     ) -> Result<Worker<'a, Q, J>, AllocError>
-        requires job { job.now ≡ J.job }
+        requires job { IsRunOf job.now J.job }
+        requires pace { J.job.paced ≡ false }
         requires number { number < J.job.shape.workers }
         requires rows { GivesRows (table_of Q.facts J.job) }
         requires opening { ShowsFrontiers (outline_of (table_of Q.facts J.job) J.job) (replicate J.job.shape.workers empty_log) seen }
@@ -31,7 +33,49 @@ impl<'a, Q: Query, J: Naming> Worker<'a, Q, J> {
         ensures posted { IfOk result (λ worker. worker.posted ≡ empty_log) }
         ensures seen { IfOk result (λ worker. worker.seen ≡ seen) }
     {
-        let parts = Parts::new(alloc, job, number, seen)?;
+        Worker::begin(alloc, job, number, seen, false)
+    }
+
+    /// The same, of a paced run: worker 0 sends the control records of a time once the moves of all earlier times are over.
+    /// `AllocError`: no memory.
+    pub fn new_paced(
+        alloc: Global,
+        job: &'a Job<Q>,
+        number: u32,
+        seen: Seen,
+    ) -> Result<Worker<'a, Q, J>, AllocError>
+        requires job { IsRunOf job.now J.job }
+        requires pace { J.job.paced ≡ true }
+        requires number { number < J.job.shape.workers }
+        requires rows { GivesRows (table_of Q.facts J.job) }
+        requires opening { ShowsFrontiers (outline_of (table_of Q.facts J.job) J.job) (replicate J.job.shape.workers empty_log) seen }
+        ensures number { IfOk result (λ worker. worker.number ≡ number) }
+        ensures log { IfOk result (λ worker. worker.log ≡ empty_log) }
+        ensures posted { IfOk result (λ worker. worker.posted ≡ empty_log) }
+        ensures seen { IfOk result (λ worker. worker.seen ≡ seen) }
+    {
+        Worker::begin(alloc, job, number, seen, true)
+    }
+
+    // A worker that has done nothing, of a run of the job that is paced or isn't.
+    pub(crate) fn begin(
+        alloc: Global,
+        job: &'a Job<Q>,
+        number: u32,
+        seen: Seen,
+        paced: bool,
+    ) -> Result<Worker<'a, Q, J>, AllocError>
+        requires job { IsRunOf job.now J.job }
+        requires pace { J.job.paced ≡ paced }
+        requires number { number < J.job.shape.workers }
+        requires rows { GivesRows (table_of Q.facts J.job) }
+        requires opening { ShowsFrontiers (outline_of (table_of Q.facts J.job) J.job) (replicate J.job.shape.workers empty_log) seen }
+        ensures number { IfOk result (λ worker. worker.number ≡ number) }
+        ensures log { IfOk result (λ worker. worker.log ≡ empty_log) }
+        ensures posted { IfOk result (λ worker. worker.posted ≡ empty_log) }
+        ensures seen { IfOk result (λ worker. worker.seen ≡ seen) }
+    {
+        let parts = Parts::new(alloc, job, number, seen, paced)?;
         Ok(Worker { parts })
     }
 }

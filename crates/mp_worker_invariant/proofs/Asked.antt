@@ -31,7 +31,8 @@ use Rattle.mp_handoff.specs.MoversOf.{KnowsMoves}
 use Rattle.mp_worker_invariant.specs.Kept.{PartsAreAsked, PartsBegin}
 use Rattle.mp_worker_invariant.specs.Parts.{ArePartsOf, HoldsRowsBut, IsHostAt, Parts}
 use Rattle.mp_worker_invariant.proofs.Legal.{packet_legal}
-use Rattle.mp_worker_invariant.proofs.Noted.{none_sent, none_taken}
+use Rattle.mp_controller.proofs.Sending.{controller_begins}
+use Rattle.mp_worker_invariant.proofs.Noted.{none_taken}
 
 -- a row that is still to come is of a time that isn't written
 pub row_not_written : (o : Outline) (w : ℕ) (log : Log) → LogIsLegal o w log → (t : ℕ) (g : Tag) → IsOwedTo o w (Row t g) → has log.took (Row t g) ≡ false → has log.settled (Written t) ≡ false
@@ -128,12 +129,12 @@ module _ {Cell : Type 0} (q : QueryFacts Cell) (job : JobFacts) where
   no_rows_to_write = record { held = λ t g. ((λ i. absurd (false≢true i)), (λ a. absurd (false≢true a.0))); once = tt }
 
   pub parts_begin : PartsBegin q job
-  parts_begin w seen notes routers hosts movers worker done layout none all_routers at_routers all_hosts at_hosts all_movers at_movers = record {
+  parts_begin w seen notes c routers hosts movers worker done layout none new all_routers at_routers all_hosts at_hosts all_movers at_movers = record {
     worker = worker;
     legal = empty_is_legal (outline_of q job) w;
     done = done;
     notes = none_taken job w notes layout none;
-    next = λ first. none_sent job (omega arith);
+    controller = λ first. controller_begins (outline_of q job) job c (new first) refl refl refl (omega arith);
     all_routers = all_routers;
     routers = at_routers;
     all_hosts = all_hosts;

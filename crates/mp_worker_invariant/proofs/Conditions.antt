@@ -1,11 +1,11 @@
 -- The conditions of the machine's steps, as the parts of a worker say them.
-use Rattle.std.proofs.Common.{◌≡◌, ◌⊎◌, ℕ, ◌<◌, ◌≤◌, true, false, [], ◌∷◌, length, refl, sym, ◌∙◌, subst, inl, arith}
-use Rattle.std.proofs.lemmas.Bool.{false≢true, both_ways, eq-eqb, eqb-true}
+use Rattle.std.proofs.Common.{◌≡◌, ℕ, [], ◌∷◌, refl, sym, subst}
+use Rattle.std.proofs.lemmas.Bool.{false≢true, eqb-true}
 use Rattle.mp_names.specs.declared.kinds.Kind.TheVariants.{Apply, Extract, SendControl, Settle, Write}
 use Rattle.mp_names.specs.declared.locations.Loc.TheVariants.{CtlMail, Host, OutMail}
 use Rattle.mp_names.specs.declared.names.Name.{Name}
 use Rattle.mp_names.specs.declared.names.Name.TheVariants.{Ctrl, Packet, Group, Settled, Written}
-use Rattle.mp_names.specs.Names.{has, In, IsLeast, is_ctrl, Less}
+use Rattle.mp_names.specs.Names.{In, IsLeast, is_ctrl}
 use Rattle.mp_names.specs.Outlines.{IsBeforeStop, IsOwedBy, OutlineIsSound, time_of}
 use Rattle.mp_names.specs.Logs.{InHand, InHandBefore}
 use Rattle.mp_names.specs.Frontiers.{HasPassed, HasReached}
@@ -21,42 +21,22 @@ use Rattle.mp_host_laws.specs.HostOf.{IsReadyAt}
 use Rattle.mp_handoff.specs.Due.{IsDueHere}
 use Rattle.mp_worker_invariant.specs.Laws.{CanDo, ConditionsAreTold}
 use Rattle.mp_worker_invariant.specs.Machine.{machine_worker}
-use Rattle.mp_worker_invariant.specs.Parts.{ArePartsOf, AreSentBefore, Parts, cursor, is_before}
+use Rattle.mp_controller.specs.Controlling.{GoesNow}
+use Rattle.mp_controller.proofs.Machine.{can_goes, goes_can}
+use Rattle.mp_worker_invariant.specs.Parts.{ArePartsOf, Parts}
 use Rattle.mp_worker_invariant.proofs.Legal.{packet_legal}
-use Rattle.mp_worker_invariant.proofs.Noted.{is_so_before, place_not_before}
-
--- a control record that is less than another comes before its place
-less_before : (i v n m : ℕ) → Less (Ctrl i v) (Ctrl n m) → is_before (cursor n m) i v ≡ true
-less_before i v n m less = is_so_before (cursor n m) i v before
-  where
-    before : (i < n) ⊎ ((i ≡ n) × (v < m))
-    before = grind arith
 
 module _ {Cell : Type 0} (q : QueryFacts Cell) (job : JobFacts) (sound : OutlineIsSound (outline_of q job)) (p : Parts Cell) (parts : ArePartsOf q job p) where
-  -- of the control records that are held none comes before the place of the next one
-  held_from_next : AreSentBefore job p.log p.next → (y : Name) → IsHeld (outline_of q job) p.number p.log is_ctrl y → Less y (Ctrl p.next.index p.next.receiver) → ⊥
-  held_from_next before (Ctrl i v) held less =
-      both_ways (has p.log.sent (Ctrl i v)) held.3 (before.sent i v held.1.0 held.1.1 ∙ less_before i v p.next.index p.next.receiver less)
-  held_from_next before _ held less = absurd (false≢true held.0)
+  -- the control record that the controller tells, and no other
+  can_send_control : (x : Name) → p.number ≡ 0 → GoesNow p.controller p.seen x → CanDo q job p SendControl x
+  can_send_control x first goes = goes_can (outline_of q job) p.number first p.log p.controller (parts.controller first) (machine_worker p) refl p.seen refl x goes
 
-  can_send_control : job.paced ≡ false → p.number ≡ 0 → p.next.index < length job.controls → CanDo q job p SendControl (Ctrl p.next.index p.next.receiver)
-  can_send_control unpaced first listed =
-      let before = parts.next first in
-      let unsent = before.sent p.next.index p.next.receiver listed before.fits ∙ place_not_before p.next in
-      ((((refl, (listed, before.fits), eq-eqb p.number 0 first, unsent), (λ paced. absurd (both_ways job.paced unpaced paced))), (λ y due. held_from_next before y due.0)), (λ paced. absurd (both_ways job.paced unpaced paced)))
-
-  cant_send_control : (p.number ≡ 0 → length job.controls ≤ p.next.index) → (x : Name) → CanDo q job p SendControl x → ⊥
-  cant_send_control over x can = form x can.0.0.0
+  cant_send_control : (p.number ≡ 0 → (x : Name) → GoesNow p.controller p.seen x → ⊥) → (x : Name) → CanDo q job p SendControl x → ⊥
+  cant_send_control none x can = let first = sender_is x can.0.0.0 in none first x (can_goes (outline_of q job) p.number first p.log p.controller (parts.controller first) (machine_worker p) refl p.seen refl x can.0 can.1)
     where
-      form : (x : Name) → IsHeld (outline_of q job) p.number p.log is_ctrl x → ⊥
-      form (Ctrl i v) held =
-          let first : p.number ≡ 0 = eqb-true p.number 0 held.2 in
-          let end : length job.controls ≤ p.next.index = over first in
-          let listed : i < length job.controls = held.1.0 in
-          let sooner : i < p.next.index = omega arith in
-          let sent = (parts.next first).sent i v held.1.0 held.1.1 in
-          both_ways (has p.log.sent (Ctrl i v)) held.3 (sent ∙ is_so_before p.next i v (inl sooner))
-      form _ held = absurd (false≢true held.0)
+      sender_is : (x : Name) → IsHeld (outline_of q job) p.number p.log is_ctrl x → p.number ≡ 0
+      sender_is (Ctrl i v) held = eqb-true p.number 0 held.2
+      sender_is _ held = absurd (false≢true held.0)
 
   -- a packet that is due by what was seen is due, and the other way round
   due_here : (j : ℕ) (x : Name) → IsDue (outline_of q job) p.number (machine_worker p) j x → IsDueHere (outline_of q job) p.log p.seen p.number j x

@@ -1,5 +1,5 @@
 -- Each step of a worker keeps its parts what its log says.
-use Rattle.std.proofs.Common.{◌≡◌, ℕ, suc, ◌<◌, ◌==◌, true, false, List, [], ◌∷◌, ◌++◌, length, get_or, set, refl, sym, ap, ◌∙◌, subst, ⊎_elim, append_assoc, append-nil, arith}
+use Rattle.std.proofs.Common.{◌≡◌, ℕ, suc, ◌<◌, ◌==◌, true, false, List, [], ◌∷◌, length, get_or, set, refl, sym, ap, ◌∙◌, subst, ⊎_elim, append_assoc, append-nil, arith}
 use Rattle.std.proofs.lemmas.Bool.{false≢true, cases_eq, eqb-true, false_from_ne_true}
 use Rattle.std.proofs.lemmas.List.{length-set, get_or-set_same, get_or-set_other}
 use Rattle.mp_names.specs.declared.kinds.Kind.{Kind}
@@ -32,12 +32,16 @@ use Rattle.mp_handoff.specs.Laws.{MoversStay, is_control_of}
 use Rattle.mp_handoff.specs.MoversState.{MoversState}
 use Rattle.mp_handoff.specs.MoversOf.{IsMoversOf}
 use Rattle.mp_handoff.proofs.Same.{movers_always_stay}
-use Rattle.mp_worker_invariant.specs.Kept.{AreOwedAndNew, StepsKeepParts, with_all_took, with_host, with_movers, with_next, with_notes, with_router}
+use Rattle.mp_worker_invariant.specs.Kept.{AreOwedAndNew, StepsKeepParts, with_all_took, with_controller, with_host, with_movers, with_notes, with_router}
 use Rattle.mp_worker_invariant.specs.Laws.{HostsStay, RoutersStay, StepsStayLegal, UnsentRowsStay, UnwrittenStay}
-use Rattle.mp_worker_invariant.specs.Parts.{AreMoversAt, ArePartsOf, AreSentBefore, AreTaken, AtEach, HoldsRowsBut, IsHostAt, IsRouterAt, Parts, place_after}
+use Rattle.mp_worker_invariant.specs.Parts.{AreMoversAt, ArePartsOf, AreTaken, AtEach, HoldsRowsBut, IsHostAt, IsRouterAt, Parts}
 use Rattle.mp_worker_invariant.specs.Machine.{machine_worker}
 use Rattle.mp_worker_invariant.proofs.Legal.{receive_legal, route_legal, steps_stay_legal}
-use Rattle.mp_worker_invariant.proofs.Noted.{place_not_before, sent_else, sent_more, sent_stays, taken_else, taken_more, taken_stays}
+use Rattle.mp_controller.specs.Controlling.{IsLeft, after_sent, next_index, next_name}
+use Rattle.mp_controller.specs.Telling.{IsControllerOf}
+use Rattle.mp_controller.proofs.Orders.{index_listed}
+use Rattle.mp_controller.proofs.Sending.{controller_sent, controller_stays, place_not_before}
+use Rattle.mp_worker_invariant.proofs.Noted.{controller_else, taken_else, taken_more, taken_stays}
 use Rattle.mp_worker_invariant.proofs.Unheard.{hosts_stay, routers_stay, seen_stays, unsent_rows_stay, unwritten_rows_stay}
 
 -- Items by their places
@@ -140,9 +144,9 @@ module _ {Cell : Type 0} (q : QueryFacts Cell) (job : JobFacts) (sound : Outline
   notes_while : (log : Log) → p.log.took ≡ log.took → AreTaken job p.number log p.notes
   notes_while log e = taken_stays job p.number p.log log p.notes (λ i. ap (λ (xs : List Name). has xs (Ctrl i p.number)) e) parts.notes
 
-  -- where nothing else is sent, the place of the next control record does
-  next_while : (log : Log) → p.log.sent ≡ log.sent → p.number ≡ 0 → AreSentBefore job log p.next
-  next_while log e first = sent_stays job p.log log p.next (λ i v. ap (λ (xs : List Name). has xs (Ctrl i v)) e) (parts.next first)
+  -- where nothing else is sent, the controller does
+  controller_while : (log : Log) → p.log.sent ≡ log.sent → p.number ≡ 0 → IsControllerOf (outline_of q job) log p.controller
+  controller_while log e first = controller_stays (outline_of q job) p.log log p.controller (λ i v. ap (λ (xs : List Name). has xs (Ctrl i v)) e) (parts.controller first)
 
   -- the routers, the hosts and the movers, all or but one
 
@@ -186,17 +190,19 @@ module _ {Cell : Type 0} (q : QueryFacts Cell) (job : JobFacts) (sound : Outline
 
   -- Bins that move
 
-  control_sent : p.number ≡ 0 → p.next.index < length job.controls → ArePartsOf q job (with_next p (with_sent p.log (Ctrl p.next.index p.next.receiver)) (place_after job.shape.workers p.next))
-  control_sent first listed =
-      let x = Ctrl p.next.index p.next.receiver in
+  control_sent : p.number ≡ 0 → IsLeft p.controller → ArePartsOf q job (with_controller p (with_sent p.log (next_name p.controller)) (after_sent p.controller))
+  control_sent first left =
+      let c = p.controller in
+      let x = next_name c in
       let log = with_sent p.log x in
-      let next = parts.next first in
+      let of = parts.controller first in
+      let listed = index_listed job.paced job.controls c.order of.order c.next.index left in
       record {
         worker = parts.worker;
-        legal = legal.send_control p.next.index p.next.receiver first listed next.fits (next.sent p.next.index p.next.receiver listed next.fits ∙ place_not_before p.next);
+        legal = legal.send_control (next_index c) c.next.receiver first listed of.receiver (of.sent c.next.index c.next.receiver left of.receiver ∙ place_not_before c.next);
         done = over SendControl x;
         notes = notes_while log refl;
-        next = λ e. sent_more job p.log p.next next;
+        controller = λ e. controller_sent (outline_of q job) p.log c left of;
         all_routers = parts.all_routers;
         routers = all_routers_stay log (λ s a. (a.0, routers.sent p.log s x refl a.1));
         all_hosts = parts.all_hosts;
@@ -220,7 +226,7 @@ module _ {Cell : Type 0} (q : QueryFacts Cell) (job : JobFacts) (sound : Outline
         legal = legal.receive x owed fresh;
         done = over (Receive 0) x;
         notes = taken_more job p.number p.log p.notes notes i owed.0.0 (ap (λ (n : Notes). n.layout) are) (ap (λ (n : Notes). n.noted) are) parts.notes;
-        next = next_while log refl;
+        controller = controller_while log refl;
         all_routers = parts.all_routers;
         routers = all_routers_stay log (λ s a. (a.0, routers.took p.log s x a.1));
         all_hosts = parts.all_hosts;
@@ -241,7 +247,7 @@ module _ {Cell : Type 0} (q : QueryFacts Cell) (job : JobFacts) (sound : Outline
         legal = legal.receive x owed fresh;
         done = over (Receive 0) x;
         notes = taken_else job p.number p.log p.notes x refl parts.notes;
-        next = next_while log refl;
+        controller = controller_while log refl;
         all_routers = parts.all_routers;
         routers = all_routers_stay log (λ s a. (a.0, routers.took p.log s x a.1));
         all_hosts = length-set p.hosts j h ∙ parts.all_hosts;
@@ -263,7 +269,7 @@ module _ {Cell : Type 0} (q : QueryFacts Cell) (job : JobFacts) (sound : Outline
         legal = legal.extract j b t least reached;
         done = over (Extract j) x;
         notes = notes_while log refl;
-        next = λ first. sent_else job p.log p.next x refl (parts.next first);
+        controller = λ first. controller_else (outline_of q job) p.log p.controller x refl (parts.controller first);
         all_routers = parts.all_routers;
         routers = all_routers_stay log (λ s a. (a.0, routers.sent p.log s x refl a.1));
         all_hosts = length-set p.hosts j h ∙ parts.all_hosts;
@@ -285,7 +291,7 @@ module _ {Cell : Type 0} (q : QueryFacts Cell) (job : JobFacts) (sound : Outline
         legal = legal.settle j t least passed sent;
         done = over (Settle j) x;
         notes = notes_while log refl;
-        next = next_while log refl;
+        controller = controller_while log refl;
         all_routers = parts.all_routers;
         routers = all_routers_stay log (λ s a. (a.0, routers.settled p.log s x a.1));
         all_hosts = parts.all_hosts;
@@ -307,7 +313,7 @@ module _ {Cell : Type 0} (q : QueryFacts Cell) (job : JobFacts) (sound : Outline
         legal = route_legal q job sound p.number parts.worker p.log parts.legal p.seen parts.done j x xs may those;
         done = all_over (Route j) xs;
         notes = notes_while log refl;
-        next = λ first. all_sent (λ l. AreSentBefore job l p.next) (λ y. is_rec j y ≡ true) (λ l y i. sent_else job l p.next y (no_control j y i)) xs is p.log (parts.next first);
+        controller = λ first. all_sent (λ l. IsControllerOf o l p.controller) (λ y. is_rec j y ≡ true) (λ l y i. controller_else o l p.controller y (no_control j y i)) xs is p.log (parts.controller first);
         all_routers = length-set p.routers j r ∙ parts.all_routers;
         routers = router_is_new log j r holds (λ s apart a. (a.0, all_sent (λ l. HoldsUnsent q job p.number l s) (λ y. is_rec j y ≡ true) (λ l y i. routers.sent l s y (no_record_else j s.stage y i apart)) xs is p.log a.1));
         all_hosts = parts.all_hosts;
@@ -328,7 +334,7 @@ module _ {Cell : Type 0} (q : QueryFacts Cell) (job : JobFacts) (sound : Outline
         legal = receive_legal q job sound p.number parts.worker p.log parts.legal p.seen parts.done xs new;
         done = all_over (Receive 0) xs;
         notes = all_took (λ l. AreTaken job p.number l p.notes) (λ y. is_rec j y ≡ true) (λ l y i. taken_else job p.number l p.notes y (no_control j y i)) xs is p.log parts.notes;
-        next = next_while log refl;
+        controller = controller_while log refl;
         all_routers = parts.all_routers;
         routers = all_routers_stay log (λ s a. (a.0, all_took (λ l. HoldsUnsent q job p.number l s) (λ y. is_rec j y ≡ true) (λ l y i. routers.took l s y) xs is p.log a.1));
         all_hosts = length-set p.hosts j h ∙ parts.all_hosts;
@@ -348,7 +354,7 @@ module _ {Cell : Type 0} (q : QueryFacts Cell) (job : JobFacts) (sound : Outline
           legal = legal.ingest x next;
           done = over Ingest x;
           notes = notes_while log refl;
-          next = next_while log refl;
+          controller = controller_while log refl;
           all_routers = length-set p.routers 0 r ∙ parts.all_routers;
           routers = router_is_new log 0 r holds (λ s apart a. (a.0, routers.ingested p.log s x apart a.1));
           all_hosts = parts.all_hosts;
@@ -373,7 +379,7 @@ module _ {Cell : Type 0} (q : QueryFacts Cell) (job : JobFacts) (sound : Outline
           legal = legal.receive x owed fresh;
           done = over (Receive 0) x;
           notes = taken_else job p.number p.log p.notes x refl parts.notes;
-          next = next_while log refl;
+          controller = controller_while log refl;
           all_routers = parts.all_routers;
           routers = all_routers_stay log (λ s a. (a.0, routers.took p.log s x a.1));
           all_hosts = parts.all_hosts;
@@ -390,7 +396,7 @@ module _ {Cell : Type 0} (q : QueryFacts Cell) (job : JobFacts) (sound : Outline
           legal = applied_legal j t k old (omega arith) at ready early;
           done = over (Apply j) (Group j t k);
           notes = notes_while log refl;
-          next = next_while log refl;
+          controller = controller_while log refl;
           all_routers = length-set p.routers (suc j) r ∙ parts.all_routers;
           routers = router_is_new log (suc j) r router (λ s apart a. (a.0, routers.applied p.log s j t k apart a.1));
           all_hosts = length-set p.hosts j new ∙ parts.all_hosts;
@@ -407,7 +413,7 @@ module _ {Cell : Type 0} (q : QueryFacts Cell) (job : JobFacts) (sound : Outline
           legal = applied_legal j t k old (omega arith) at ready early;
           done = over (Apply j) (Group j t k);
           notes = notes_while log refl;
-          next = next_while log refl;
+          controller = controller_while log refl;
           all_routers = parts.all_routers;
           routers = last_routers j t k ends;
           all_hosts = length-set p.hosts j new ∙ parts.all_hosts;
@@ -425,7 +431,7 @@ module _ {Cell : Type 0} (q : QueryFacts Cell) (job : JobFacts) (sound : Outline
           legal = legal.send_row x least;
           done = over SendRow x;
           notes = notes_while log refl;
-          next = λ first. sent_else job p.log p.next x (row_no_control x is) (parts.next first);
+          controller = λ first. controller_else (outline_of q job) p.log p.controller x (row_no_control x is) (parts.controller first);
           all_routers = parts.all_routers;
           routers = all_routers_stay log (λ s a. (a.0, routers.sent p.log s x (row_no_record s.stage x is) a.1));
           all_hosts = parts.all_hosts;
@@ -443,7 +449,7 @@ module _ {Cell : Type 0} (q : QueryFacts Cell) (job : JobFacts) (sound : Outline
           legal = legal.write t first least passed;
           done = over Write x;
           notes = notes_while log refl;
-          next = next_while log refl;
+          controller = controller_while log refl;
           all_routers = parts.all_routers;
           routers = all_routers_stay log (λ s a. (a.0, routers.settled p.log s x a.1));
           all_hosts = parts.all_hosts;
@@ -458,7 +464,7 @@ module _ {Cell : Type 0} (q : QueryFacts Cell) (job : JobFacts) (sound : Outline
       legal = parts.legal;
       done = done;
       notes = parts.notes;
-      next = parts.next;
+      controller = parts.controller;
       all_routers = parts.all_routers;
       routers = parts.routers;
       all_hosts = parts.all_hosts;

@@ -21,7 +21,7 @@ module _ {Cell : Type 0} {q : QueryFacts Cell} {job : JobFacts} {p : Parts Cell}
     legal = are.legal;
     done = are.done;
     notes = taken;
-    next = are.next;
+    controller = are.controller;
     all_routers = all_routers ∙ are.all_routers;
     routers = at_routers;
     all_hosts = all_hosts ∙ are.all_hosts;

@@ -1,5 +1,5 @@
 -- The router of a stage while records that travel together are sent.
-use Rattle.std.proofs.Common.{◌≡◌, ◌++◌, ◌+◌, ◌<◌, ◌≤◌, ◌∷◌, ℕ, List, [], get_or, length, All, arith, refl, sym, ap, ◌∙◌, subst}
+use Rattle.std.proofs.Common.{◌≡◌, ◌++◌, ◌∷◌, ℕ, List, [], get_or, sym, ap, ◌∙◌, subst}
 use Rattle.std.proofs.lemmas.List.{append-nil}
 use Rattle.mp_names.specs.declared.controls.Shape.{Shape}
 use Rattle.mp_names.specs.declared.names.Name.{Name}
@@ -12,7 +12,6 @@ use Rattle.mp_model.specs.declared.record.Rec.{Rec as Record}
 use Rattle.mp_model.specs.Facts.{JobFacts, QueryFacts}
 use Rattle.mp_outline.specs.JobOutline.{name_of_record, outline_of}
 use Rattle.mp_msg.specs.Bundles.{Bundled, IsBundle, names_in}
-use Rattle.mp_msg.specs.Contents.{IsRecordOf}
 use Rattle.mp_msg.proofs.Telling.{bundles_follow_names}
 use Rattle.mp_route.specs.Routed.{Routed}
 use Rattle.mp_route.specs.Sending.{IsBundleOf}

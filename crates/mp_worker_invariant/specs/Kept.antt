@@ -4,7 +4,6 @@ use Rattle.mp_names.specs.declared.locations.Loc.TheVariants.{CtlMail, Host, Out
 use Rattle.mp_names.specs.declared.names.Name.{Name}
 use Rattle.mp_names.specs.declared.names.Name.TheVariants.{Ctrl, Packet, Row, Group, Settled, Written}
 use Rattle.mp_names.specs.declared.names.Tag.{Tag}
-use Rattle.mp_names.specs.declared.pointstamps.ControlCursor.{ControlCursor}
 use Rattle.mp_names.specs.Controls.{control_of}
 use Rattle.mp_names.specs.Names.{Distinct, has, In, IsLeast, IsPrefix, is_rec, is_row}
 use Rattle.mp_names.specs.Outlines.{IsBeforeStop, IsOwedBy, IsOwedTo, Outline, share}
@@ -18,6 +17,7 @@ use Rattle.mp_bins.specs.Notes.{Notes, with_note}
 use Rattle.mp_model.specs.declared.record.Output.{Output}
 use Rattle.mp_model.specs.Facts.{JobFacts, QueryFacts}
 use Rattle.mp_outline.specs.JobOutline.{layout_of, outline_of}
+use Rattle.mp_controller.specs.Controlling.{Controlling, IsLeft, IsNew, after_sent, next_name}
 use Rattle.mp_route.specs.Routed.{Routed}
 use Rattle.mp_route.specs.Unsent.{MayGo, with_all_sent}
 use Rattle.mp_output.specs.Holding.{HoldsUnwritten}
@@ -27,7 +27,7 @@ use Rattle.mp_host_laws.specs.Laws.{MayLeaveNow}
 use Rattle.mp_handoff.specs.MoversState.{MoversState}
 use Rattle.mp_handoff.specs.Due.{IsDueHere}
 use Rattle.mp_handoff.specs.MoversOf.{KnowsMoves}
-use Rattle.mp_worker_invariant.specs.Parts.{AreMoversAt, ArePartsOf, AtEach, HoldsRowsBut, IsHostAt, IsRouterAt, Parts, cursor, place_after}
+use Rattle.mp_worker_invariant.specs.Parts.{AreMoversAt, ArePartsOf, AtEach, HoldsRowsBut, IsHostAt, IsRouterAt, Parts}
 
 -- the worker's log and its router of a stage are new
 abbrev pub with_router : {Cell : Type 0} → Parts Cell → Log → ℕ → Routed → Parts Cell
@@ -41,9 +41,9 @@ with_host p log j h = record p { log = log; hosts = set p.hosts j h }
 abbrev pub with_movers : {Cell : Type 0} → Parts Cell → Log → ℕ → MoversState → Parts Cell
 with_movers p log j m = record p { log = log; movers = set p.movers j m }
 
--- its log and the place of the next control record to be sent are
-abbrev pub with_next : {Cell : Type 0} → Parts Cell → Log → ControlCursor → Parts Cell
-with_next p log next = record p { log = log; next = next }
+-- its log and its controller are
+abbrev pub with_controller : {Cell : Type 0} → Parts Cell → Log → Controlling → Parts Cell
+with_controller p log c = record p { log = log; controller = c }
 
 -- its log and what it noted are
 abbrev pub with_notes : {Cell : Type 0} → Parts Cell → Log → Notes → Parts Cell
@@ -71,9 +71,8 @@ module _ {Cell : Type 0} (q : QueryFacts Cell) (job : JobFacts) where
     -- the next record of the share is ingested
     pub ingest : (x : Name) (r : Routed) → IsPrefix (p.log.ingested ++ x ∷ []) (share (outline_of q job) p.number)
         → IsRouterAt q job p.number (with_ingested p.log x) 0 r → ArePartsOf q job (with_router p (with_ingested p.log x) 0 r)
-    -- a control record is sent
-    pub send_control : p.number ≡ 0 → p.next.index < length job.controls
-        → ArePartsOf q job (with_next p (with_sent p.log (Ctrl p.next.index p.next.receiver)) (place_after job.shape.workers p.next))
+    -- the next control record is sent
+    pub send_control : p.number ≡ 0 → IsLeft p.controller → ArePartsOf q job (with_controller p (with_sent p.log (next_name p.controller)) (after_sent p.controller))
     -- the least record of a stage is sent, with those that go with it
     pub route : (j : ℕ) (x : Name) (xs : List Name) (r : Routed) → MayGo q job p.number p.log j p.seen x → xs ≡ bundle_of (outline_of q job) p.number p.log j x
         → IsRouterAt q job p.number (with_all_sent p.log xs) j r → ArePartsOf q job (with_router p (with_all_sent p.log xs) j r)
@@ -131,15 +130,16 @@ module _ {Cell : Type 0} (q : QueryFacts Cell) (job : JobFacts) where
   -- a worker begins with the empty log: nothing is noted, and no routers, hosts, movers and rows hold anything
   abbrev pub PartsBegin : Type 0
   PartsBegin =
-      (w : ℕ) (seen : Seen) (notes : Notes) (routers : List Routed) (hosts : List (Hosted Cell)) (movers : List MoversState)
+      (w : ℕ) (seen : Seen) (notes : Notes) (c : Controlling) (routers : List Routed) (hosts : List (Hosted Cell)) (movers : List MoversState)
       → w < job.shape.workers
       → SeenIsDone (outline_of q job) w empty_log seen
       → notes.layout ≡ layout_of job
       → notes.noted ≡ []
+      → (w ≡ 0 → IsNew job.paced job c)
       → length routers ≡ job.shape.stages
       → AtEach routers (IsRouterAt q job w empty_log)
       → length hosts ≡ job.shape.stages
       → AtEach hosts (IsHostAt q job w empty_log)
       → length movers ≡ job.shape.stages
       → AtEach movers (AreMoversAt q job w empty_log)
-      → ArePartsOf q job (record { number = w; log = empty_log; posted = empty_log; seen = seen; notes = notes; next = cursor 0 0; routers = routers; hosts = hosts; movers = movers; unsent = []; unwritten = [] })
+      → ArePartsOf q job (record { number = w; log = empty_log; posted = empty_log; seen = seen; notes = notes; controller = c; routers = routers; hosts = hosts; movers = movers; unsent = []; unwritten = [] })

@@ -26,6 +26,7 @@ use Rattle.mp_job.specs.Records.{record_at, share_of}
 use Rattle.mp_ordered.specs.InOrder.{IsInOrder, put_in_order}
 use Rattle.mp_outline.specs.JobOutline.{name_of_record, name_of_row, outline_of}
 use Rattle.mp_msg.specs.Contents.{IsRecordOf}
+use Rattle.mp_controller.specs.Controlling.{GoesNow}
 use Rattle.mp_route.specs.Routed.{Routed}
 use Rattle.mp_route.specs.Unsent.{HoldsAllBut, HoldsOneMore, HoldsUnsent, MayGo}
 use Rattle.mp_output.specs.Holding.{HoldsUnwritten}
@@ -139,8 +140,8 @@ module _ {Cell : Type 0} (q : QueryFacts Cell) (job : JobFacts) where
   pub record ConditionsAreTold (p : Parts Cell) : Type 0 where
     pub ingest : (x : Name) → IsPrefix (p.log.ingested ++ x ∷ []) (share (outline_of q job) p.number) → CanDo p Ingest x
     pub no_ingest : ((x : Name) → IsPrefix (p.log.ingested ++ x ∷ []) (share (outline_of q job) p.number) → ⊥) → (x : Name) → CanDo p Ingest x → ⊥
-    pub send_control : job.paced ≡ false → p.number ≡ 0 → p.next.index < length job.controls → CanDo p SendControl (Ctrl p.next.index p.next.receiver)
-    pub no_send_control : (p.number ≡ 0 → length job.controls ≤ p.next.index) → (x : Name) → CanDo p SendControl x → ⊥
+    pub send_control : (x : Name) → p.number ≡ 0 → GoesNow p.controller p.seen x → CanDo p SendControl x
+    pub no_send_control : (p.number ≡ 0 → (x : Name) → GoesNow p.controller p.seen x → ⊥) → (x : Name) → CanDo p SendControl x → ⊥
     pub extract : (j b t : ℕ) → j < job.shape.stages → IsLeast (IsDueHere (outline_of q job) p.log p.seen p.number j) (Packet j b t) → HasReached (seen_at p.seen (HostLoc j)) t → CanDo p (Extract j) (Packet j b t)
     pub no_extract : (j : ℕ) → ((b t : ℕ) → IsLeast (IsDueHere (outline_of q job) p.log p.seen p.number j) (Packet j b t) → HasReached (seen_at p.seen (HostLoc j)) t → ⊥) → (x : Name) → CanDo p (Extract j) x → ⊥
     pub settle : (j t : ℕ) → IsLeast (IsUnsettled (outline_of q job) p.log j) (Settled j t) → HasPassed (seen_at p.seen CtlMail) t → ((b : ℕ) → IsOwedBy (outline_of q job) p.number (Packet j b t) → In (Packet j b t) p.log.sent) → CanDo p (Settle j) (Settled j t)

@@ -1,8 +1,7 @@
 -- What the parts of a worker hold, and that they hold what its log says.
-use Rattle.std.specs.Prelude.{◌≡◌, ◌↔◌, ℕ, suc, ◌<◌, ◌==◌, ◌||◌, ◌&&◌, Bool, nat_lt, List, [], ◌++◌, get_or, length, map, if◌then◌else◌}
+use Rattle.std.specs.Prelude.{◌≡◌, ◌↔◌, ℕ, ◌<◌, List, [], ◌++◌, get_or, length, map}
 use Rattle.mp_names.specs.declared.names.Name.{Name}
 use Rattle.mp_names.specs.declared.names.Name.TheVariants.{Ctrl}
-use Rattle.mp_names.specs.declared.pointstamps.ControlCursor.{ControlCursor}
 use Rattle.mp_names.specs.Keeping.{IsHeld}
 use Rattle.mp_names.specs.Logs.{Log, LogIsLegal}
 use Rattle.mp_names.specs.Names.{Distinct, has, In, is_row}
@@ -13,6 +12,8 @@ use Rattle.mp_bins.specs.Notes.{Notes, is_noted}
 use Rattle.mp_model.specs.declared.record.Output.{Output}
 use Rattle.mp_model.specs.Facts.{JobFacts, QueryFacts}
 use Rattle.mp_outline.specs.JobOutline.{layout_of, name_of_row, outline_of}
+use Rattle.mp_controller.specs.Controlling.{Controlling}
+use Rattle.mp_controller.specs.Telling.{IsControllerOf}
 use Rattle.mp_route.specs.Routed.{Routed}
 use Rattle.mp_route.specs.Unsent.{HoldsUnsent}
 use Rattle.mp_output.specs.Holding.{HoldsUnwritten}
@@ -21,14 +22,14 @@ use Rattle.mp_host_laws.specs.HostOf.{IsHostOf}
 use Rattle.mp_handoff.specs.MoversState.{MoversState}
 use Rattle.mp_handoff.specs.MoversOf.{IsMoversOf}
 
--- a worker's number, its log, the log that it posted last, and what it saw; the control records that it noted, and the first that it has to send; by stage its routers, hosts and movers; the answer rows that it has to send, and those that it has to write
+-- a worker's number, its log, the log that it posted last, and what it saw; the control records that it noted, and on worker 0 what it knows of those that it has to send; by stage its routers, hosts and movers; the answer rows that it has to send, and those that it has to write
 pub record Parts (Cell : Type 0) : Type 0 where
   pub number : ℕ
   pub log : Log
   pub posted : Log
   pub seen : Seen
   pub notes : Notes
-  pub next : ControlCursor
+  pub controller : Controlling
   pub routers : List Routed
   pub hosts : List (Hosted Cell)
   pub movers : List MoversState
@@ -38,23 +39,6 @@ pub record Parts (Cell : Type 0) : Type 0 where
 -- P holds of each item and its place
 abbrev pub AtEach : {X : Type 0} → List X → (ℕ → X → Type 0) → Type 0
 AtEach {X} xs P = (j : ℕ) (d : X) → j < length xs → P j (get_or xs j d)
-
--- the control record of this index, as it goes to this receiver
-abbrev pub cursor : ℕ → ℕ → ControlCursor
-cursor i v = record { index = i; receiver = v }
-
--- by index and then by receiver, the control record comes before the place
-abbrev pub is_before : ControlCursor → ℕ → ℕ → Bool
-is_before next i v = nat_lt i next.index || i == next.index && nat_lt v next.receiver
-
--- the place after it: the next receiver, or the first one of the next record
-abbrev pub place_after : ℕ → ControlCursor → ControlCursor
-place_after workers next = if suc next.receiver == workers then cursor (suc next.index) 0 else cursor next.index (suc next.receiver)
-
--- Of the control records that worker 0 has to send those before the place are sent, and no others
-pub record AreSentBefore (job : JobFacts) (log : Log) (next : ControlCursor) : Type 0 where
-  pub fits : next.receiver < job.shape.workers
-  pub sent : (i v : ℕ) → i < length job.controls → v < job.shape.workers → has log.sent (Ctrl i v) ≡ is_before next i v
 
 -- Just the control records that the worker took are noted
 pub record AreTaken (job : JobFacts) (w : ℕ) (log : Log) (notes : Notes) : Type 0 where
@@ -86,7 +70,7 @@ module _ {Cell : Type 0} (q : QueryFacts Cell) (job : JobFacts) where
     pub legal : LogIsLegal (outline_of q job) p.number p.log
     pub done : SeenIsDone (outline_of q job) p.number p.log p.seen
     pub notes : AreTaken job p.number p.log p.notes
-    pub next : p.number ≡ 0 → AreSentBefore job p.log p.next
+    pub controller : p.number ≡ 0 → IsControllerOf (outline_of q job) p.log p.controller
     pub all_routers : length p.routers ≡ job.shape.stages
     pub routers : AtEach p.routers (IsRouterAt p.number p.log)
     pub all_hosts : length p.hosts ≡ job.shape.stages

@@ -71,7 +71,7 @@ module _ {Cell : Type 0} {q : QueryFacts Cell} {job its : JobFacts} {p : Parts C
       receiver_is {shape} {bin} {n} same at owns =
           let o = outline_of q job in
           let may = subst (λ (y : Name). MayGo q job p.number p.log j p.seen y) (sym named) given.may in
-          owner_is kept.sound kept.parts j r may shape bin n (same ∙ ap (λ (f : JobFacts). f.shape) kept.same) at owns ∙ ap (receiver o) named ∙ ap (receiver_of o) (sym given.of.1.1)
+          owner_is kept.sound kept.parts j r may shape bin n (same ∙ ap (λ (f : JobFacts). f.shape) kept.run) at owns ∙ ap (receiver o) named ∙ ap (receiver_of o) (sym given.of.1.1)
 
       -- and the counts change by so many
       pub bundle_changes : AreChanges (outline_of q job) p.number p.log (with_all_sent p.log (names_in b))

@@ -5,19 +5,18 @@ ghost use Rattle.mp_worker_refinement.specs.Served.{IsAtPost, PostFollows};
 ghost use Rattle.mp_worker_refinement.specs.Steps.{StepsByMail};
 ghost use Rattle.mp_model.specs.Tables.{table_of};
 
-use crate::cursor::place_after;
 use crate::push::send;
 use mp_mailbox::Post;
 use mp_model::{Naming, Query};
 use mp_msg::{Msg, Names};
-use mp_names::{ControlCursor, Loc, Name};
+use mp_names::{Loc, Name};
 use mp_rows::NewNames;
 use mp_worker_steps::{Parts, one_less, one_more};
 use std::alloc::AllocError;
 
-/// Worker 0 sends the first control record that isn't sent, by index and then by receiver, itself among them: its name,
-/// or `None` exactly where all are sent, the mailbox was full, or this is another worker. `AllocError`: no memory, and
-/// nothing changes.
+/// Worker 0 sends the next control record to its next receiver, itself among them: its name, or `None` exactly where all
+/// are sent, the run is paced and moves of earlier times aren't over, the mailbox was full, or this is another worker.
+/// `AllocError`: no memory, and nothing changes.
 #[tactic(auto, using(crate::proofs::Kept::messages_stay))]
 pub fn send_control<'a, Q: Query, J: Naming, P: Post<Msg<Q, J>>>(
     parts: &mut Parts<'a, Q, J>,
@@ -30,26 +29,26 @@ pub fn send_control<'a, Q: Query, J: Naming, P: Post<Msg<Q, J>>>(
     ensures mail { let o = outline_of (table_of Q.facts J.job) J.job in
         PostFollows P.workers P.depth P.serves P.denotes P.waits o parts.old.worker.number parts.old.worker.log parts.new.worker.log post.old post.new }
 {
-    let ControlCursor { index, receiver } = parts.next;
+    parts.log.make_room(2)?;
     if parts.log.worker() != 0 {
         return Ok(None);
     }
-    let Some(control) = parts.job.controls().get(index as usize) else {
+    let Some(name) = parts.controller.next(&parts.seen) else {
         return Ok(None);
     };
-    parts.log.make_room(2)?;
+    let Name::Ctrl { index, to } = name else {
+        unreachable!()
+    };
+    let control = parts.job.controls()[index as usize];
     let changes = [
         one_less(Loc::Ctl, control.time),
         one_more(Loc::CtlMail, control.time),
     ];
-    let message = Msg::control(index, receiver, *control);
-    let names = NewNames::one(Name::Ctrl {
-        index,
-        to: receiver,
-    });
-    let Ok(told) = send(&mut parts.log, post, receiver, message, names, &changes) else {
+    let message = Msg::control(index, to, control);
+    let names = NewNames::one(name);
+    let Ok(told) = send(&mut parts.log, post, to, message, names, &changes) else {
         return Ok(None);
     };
-    parts.next = place_after(parts.job.shape().workers, parts.next);
+    parts.controller.sent();
     Ok(Some(told))
 }

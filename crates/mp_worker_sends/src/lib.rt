@@ -5,7 +5,6 @@
 
 mod bins;
 mod controls;
-mod cursor;
 mod leaving;
 mod push;
 mod records;

@@ -15,7 +15,6 @@ use Rattle.mp_bins.specs.Notes.{IsWithin, Layout, Notes, is_noted as has_note}
 use Rattle.mp_model.specs.Facts.{JobFacts, QueryFacts}
 use Rattle.mp_job.specs.Legal.{JobIsLegal}
 use Rattle.mp_outline.specs.JobOutline.{outline_of}
-use Rattle.mp_outline.proofs.Whole.{never_paced}
 use Rattle.mp_rows.specs.Entries.{AreChanges}
 use Rattle.mp_rows_laws.specs.Changes.{control_sent_at, control_taken_at}
 use Rattle.mp_rows_laws.proofs.Sent.{control_sent}
@@ -23,8 +22,9 @@ use Rattle.mp_rows_laws.proofs.Took.{control_taken}
 use Rattle.mp_msg.specs.Contents.{IsControlOf}
 use Rattle.mp_handoff.specs.MoversState.{MoversState}
 use Rattle.mp_handoff.specs.MoversOf.{IsMoversOf, IsNewControl}
+use Rattle.mp_controller.specs.Controlling.{GoesNow, after_sent}
 use Rattle.mp_worker_invariant.specs.Laws.{CanDo}
-use Rattle.mp_worker_invariant.specs.Parts.{AreMoversAt, ArePartsOf, AreTaken, Parts, place_after}
+use Rattle.mp_worker_invariant.specs.Parts.{AreMoversAt, ArePartsOf, AreTaken, Parts}
 use Rattle.mp_worker_invariant.proofs.Standing.{steps, told}
 
 -- A job
@@ -40,30 +40,29 @@ module _ {Cell : Type 0} (q : QueryFacts Cell) (job : JobFacts) (legal : JobIsLe
 
 -- Sending
 
-module _ {Cell : Type 0} {q : QueryFacts Cell} {job : JobFacts} {p : Parts Cell} (sound : OutlineIsSound (outline_of q job)) (legal : JobIsLegal q job) (are : ArePartsOf q job p) where
-  -- another worker than the first sends none, and neither does the first where all are sent
-  pub no_control_of_others : (p.number ≡ 0 → length job.controls ≤ p.next.index) → (x : Name) → CanDo q job p SendControl x → ⊥
-  no_control_of_others = (told sound are).no_send_control
+module _ {Cell : Type 0} {q : QueryFacts Cell} {job : JobFacts} {p : Parts Cell} (sound : OutlineIsSound (outline_of q job)) (are : ArePartsOf q job p) where
+  -- another worker than the first sends none, and neither does the first where none goes now
+  pub no_control_goes : (p.number ≡ 0 → (x : Name) → GoesNow p.controller p.seen x → ⊥) → (x : Name) → CanDo q job p SendControl x → ⊥
+  no_control_goes = (told sound are).no_send_control
 
-  module _ (first : p.number ≡ 0) where
-    pub receiver_fits : p.next.receiver < job.shape.workers
-    receiver_fits = (are.next first).fits
+  module _ (first : p.number ≡ 0) (i v : ℕ) (goes : GoesNow p.controller p.seen (Ctrl i v)) where
+    pub can_send_control : CanDo q job p SendControl (Ctrl i v)
+    can_send_control = (told sound are).send_control (Ctrl i v) first goes
 
-    module _ (listed : p.next.index < length job.controls) where
-      -- the job isn't paced
-      pub can_send_control : CanDo q job p SendControl (Ctrl p.next.index p.next.receiver)
-      can_send_control = (told sound are).send_control (never_paced q job legal) first listed
+    -- it is a control record of the job, to one of its workers
+    pub control_owed : (i < length job.controls) × (v < job.shape.workers)
+    control_owed = can_send_control.0.0.0.1
 
-      pub control_counted : AreChanges (outline_of q job) p.number p.log (with_sent p.log (Ctrl p.next.index p.next.receiver)) (control_sent_at (control_of job.controls p.next.index).time)
-      control_counted = control_sent (outline_of q job) p.number p.log sound p.next.index p.next.receiver can_send_control.0.0.0
+    pub control_counted : AreChanges (outline_of q job) p.number p.log (with_sent p.log (Ctrl i v)) (control_sent_at (control_of job.controls i).time)
+    control_counted = control_sent (outline_of q job) p.number p.log sound i v can_send_control.0.0.0
 
-      -- no other is next
-      pub one_control : (x : Name) → CanDo q job p SendControl x → Ctrl p.next.index p.next.receiver ≡ x
-      one_control x can = least_unique (IsControlDue (outline_of q job) p.number p.log) (Ctrl p.next.index p.next.receiver) x can_send_control.0 can.0
+    -- no other is next
+    pub one_control : (x : Name) → CanDo q job p SendControl x → Ctrl i v ≡ x
+    one_control x can = least_unique (IsControlDue (outline_of q job) p.number p.log) (Ctrl i v) x can_send_control.0 can.0
 
-      -- it was sent
-      pub control_kept : ArePartsOf q job (record p { log = with_sent p.log (Ctrl p.next.index p.next.receiver); next = place_after job.shape.workers p.next })
-      control_kept = (steps sound are).send_control first listed
+    -- it was sent
+    pub control_kept : ArePartsOf q job (record p { log = with_sent p.log (Ctrl i v); controller = after_sent p.controller })
+    control_kept = subst (λ (x : Name). ArePartsOf q job (record p { log = with_sent p.log x; controller = after_sent p.controller })) (sym goes.next) ((steps sound are).send_control first goes.left)
 
 -- Taking
 

@@ -8,6 +8,9 @@ use Rattle.mp_names.specs.Names.{In}
 use Rattle.mp_names.specs.Outlines.{Outline, sender}
 use Rattle.mp_machine.specs.Steps.{AreNamesOf, KindFits, logged}
 use Rattle.mp_model.specs.Facts.{JobFacts, QueryFacts}
+use Rattle.mp_names.specs.declared.controls.Control.{Control}
+use Rattle.mp_names.specs.declared.controls.Shape.{Shape}
+use Rattle.mp_job.proofs.Runs.{run_controls, run_shape}
 use Rattle.mp_outline.specs.JobOutline.{outline_of}
 use Rattle.mp_rows.specs.WorkerLog.{WorkerLog}
 use Rattle.mp_msg.specs.declared.names.Names.{Names}
@@ -21,9 +24,16 @@ use Rattle.mp_worker_steps.specs.Contents.{Contents, with_taken}
 use Rattle.mp_worker_steps.specs.Kept.{IsKept}
 
 module _ {Cell : Type 0} {q : QueryFacts Cell} {job its : JobFacts} {p : Parts Cell} (kept : IsKept q job its p) where
+  -- its job has the shape and the control records of the run
+  pub its_shape : its.shape ≡ job.shape
+  its_shape = run_shape its job kept.run
+
+  pub its_controls : its.controls ≡ job.controls
+  its_controls = run_controls its job kept.run
+
   -- a worker with other parts that hold what its log says
   pub kept_as : {made : Parts Cell} → ArePartsOf q job made → IsKept q job its made
-  kept_as are = record { same = kept.same; legal = kept.legal; rows = kept.rows; sound = kept.sound; hands_on = kept.hands_on; parts = are }
+  kept_as are = record { run = kept.run; legal = kept.legal; rows = kept.rows; sound = kept.sound; hands_on = kept.hands_on; parts = are }
 
   -- where the parts hold what these names say, a worker whose log has them keeps to what it is to
   pub kept_by : (new : WorkerLog) {made : Parts Cell} → new.worker ≡ made.number → new.log ≡ made.log → ArePartsOf q job made → IsKept q job its (record made { number = new.worker; log = new.log })

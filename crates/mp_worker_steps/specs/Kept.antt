@@ -2,13 +2,14 @@
 use Rattle.std.specs.Prelude.{◌≡◌, List}
 use Rattle.mp_names.specs.Logs.{Log}
 use Rattle.mp_names.specs.Outlines.{OutlineIsSound}
-use Rattle.mp_names.specs.declared.pointstamps.ControlCursor.{ControlCursor}
 use Rattle.mp_stamps.specs.declared.seen.Seen.{Seen}
 use Rattle.mp_bins.specs.Notes.{Notes}
 use Rattle.mp_model.specs.Facts.{JobFacts, QueryFacts}
 use Rattle.mp_job.specs.Legal.{JobIsLegal}
+use Rattle.mp_job.specs.Runs.{IsRunOf}
 use Rattle.mp_outline.specs.JobOutline.{outline_of}
 use Rattle.mp_rows.specs.WorkerLog.{WorkerLog}
+use Rattle.mp_controller.specs.Controlling.{Controlling}
 use Rattle.mp_route.specs.Routed.{Routed}
 use Rattle.mp_host_laws.specs.Hosted.{Hosted}
 use Rattle.mp_handoff.specs.MoversState.{MoversState}
@@ -18,15 +19,15 @@ use Rattle.mp_worker_invariant.specs.Parts.{ArePartsOf, Parts}
 use Rattle.mp_worker_steps.specs.Applied.{HandsOn}
 
 -- the parts of a worker
-abbrev pub parts_with : {Cell : Type 0} → WorkerLog → Log → Seen → Notes → ControlCursor → List Routed → List (Hosted Cell) → List MoversState → Unwritten → Unwritten → Parts Cell
-parts_with log posted seen notes next routers hosts movers unsent unwritten =
+abbrev pub parts_with : {Cell : Type 0} → WorkerLog → Log → Seen → Notes → Controlling → List Routed → List (Hosted Cell) → List MoversState → Unwritten → Unwritten → Parts Cell
+parts_with log posted seen notes controller routers hosts movers unsent unwritten =
     record {
       number = log.worker;
       log = log.log;
       posted = posted;
       seen = seen;
       notes = notes;
-      next = next;
+      controller = controller;
       routers = routers;
       hosts = hosts;
       movers = movers;
@@ -34,9 +35,9 @@ parts_with log posted seen notes next routers hosts movers unsent unwritten =
       unwritten = unwritten.rows;
     }
 
--- It is of the job that it was made for, which is legal and whose last stage gives rows; and its parts hold what its log says
+-- It is of a run of the job that it was made for, which is legal and whose last stage gives rows; and its parts hold what its log says
 pub record IsKept {Cell : Type 0} (q : QueryFacts Cell) (job its : JobFacts) (p : Parts Cell) : Type 0 where
-  pub same : its ≡ job
+  pub run : IsRunOf its job
   pub legal : JobIsLegal q job
   pub rows : GivesRows q
   pub sound : OutlineIsSound (outline_of q job)

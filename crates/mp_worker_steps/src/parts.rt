@@ -4,11 +4,11 @@ ghost use Rattle.mp_model.specs.Tables.{table_of};
 
 use crate::lists::ChangeLists;
 use mp_bins::Owners;
+use mp_controller::Controller;
 use mp_handoff::Movers;
 use mp_host::Host;
 use mp_job::Job;
 use mp_model::{Naming, Query};
-use mp_names::ControlCursor;
 use mp_output::{Rows, Unsent};
 use mp_route::Router;
 use mp_rows::{Log, OutlineOf};
@@ -17,7 +17,7 @@ use std::alloc::Global;
 use std::marker::Model;
 use std::snapshot::Snapshot;
 
-/// The parts of a worker of the job J of the query Q, with its log and what it saw: what a step may change. Contracts see
+/// The parts of a worker of a run J of a job of the query Q, with its log and what it saw: what a step may change. Contracts see
 /// `Contents`: the worker as its own contracts have it, and what the parts hold and have room for. By its invariant they
 /// hold what the log says, so a step's contract says what becomes of the log. The query's last stage gives rows alone.
 /// Fields are public for the steps of `mp_worker_sends`: whoever changes one has to prove the invariant again.
@@ -25,7 +25,7 @@ use std::snapshot::Snapshot;
 pub struct Parts<'a, Q: Query, J: Naming> {
     /// Where its memory comes from.
     pub alloc: Global,
-    /// The job J.
+    /// The job that J is a run of.
     pub job: &'a Job<Q>,
     /// The worker's log.
     pub log: Log<OutlineOf<Q, J>>,
@@ -35,8 +35,8 @@ pub struct Parts<'a, Q: Query, J: Naming> {
     pub seen: Seen,
     /// The control records that it took.
     pub owners: Owners,
-    /// On worker 0 the first control record that isn't sent.
-    pub next: ControlCursor,
+    /// On worker 0 the control records that it has to send.
+    pub controller: Controller<'a>,
     /// The records that it has to send, by stage.
     pub routers: Vec<Router<Q, J>>,
     /// What it hosts, by stage.
@@ -74,5 +74,5 @@ impl<'a, Q: Query, J: Naming> Model for Parts<'a, Q, J> {
 
     ghost invariant = { λ p.
         IsKept (table_of Q.facts J.job) J.job p.job.now
-        (parts_with p.log p.posted.value.log p.seen p.owners p.next p.routers.items p.hosts.items p.movers.items p.unsent p.rows) };
+        (parts_with p.log p.posted.value.log p.seen p.owners p.controller p.routers.items p.hosts.items p.movers.items p.unsent p.rows) };
 }

@@ -1,6 +1,8 @@
 //! The parts of a worker that begins.
 ghost use Rattle.std.specs.Prelude.{◌≡◌, ◌<◌, ℕ, [], IfOk, length, replicate};
 ghost use Rattle.mp_names.specs.Logs.{empty_log};
+ghost use Rattle.mp_job.specs.Runs.{IsRunOf};
+ghost use Rattle.mp_controller.specs.Controlling.{IsNew};
 ghost use Rattle.mp_board.specs.Boards.{ShowsFrontiers};
 ghost use Rattle.mp_outline.specs.JobOutline.{outline_of};
 ghost use Rattle.mp_output.specs.Rows.{GivesRows};
@@ -11,11 +13,11 @@ ghost use Rattle.mp_model.specs.Tables.{table_of};
 use crate::Parts;
 use crate::lists::ChangeLists;
 use mp_bins::Owners;
+use mp_controller::Controller;
 use mp_handoff::Movers;
 use mp_host::Host;
 use mp_job::Job;
 use mp_model::{Naming, Query};
-use mp_names::ControlCursor;
 use mp_output::{Rows, Unsent};
 use mp_route::Router;
 use mp_rows::Log;
@@ -24,15 +26,17 @@ use std::alloc::{AllocError, Global};
 use std::snapshot::Snapshot;
 
 impl<'a, Q: Query, J: Naming> Parts<'a, Q, J> {
-    /// The parts of a worker that has done nothing. It has seen what the board shows on which every worker posted its empty
-    /// log. `AllocError`: no memory.
+    /// The parts of a worker that has done nothing, of a run of the job that is paced or not. It has seen what the board shows
+    /// on which every worker posted its empty log. `AllocError`: no memory.
     pub fn new(
         alloc: Global,
         job: &'a Job<Q>,
         number: u32,
         seen: Seen,
+        paced: bool,
     ) -> Result<Parts<'a, Q, J>, AllocError>
-        requires job { job.now ≡ J.job }
+        requires job { IsRunOf job.now J.job }
+        requires pace { J.job.paced ≡ paced }
         requires number { number < J.job.shape.workers }
         requires rows { GivesRows (table_of Q.facts J.job) }
         requires opening { ShowsFrontiers (outline_of (table_of Q.facts J.job) J.job) (replicate J.job.shape.workers empty_log) seen }
@@ -42,6 +46,7 @@ impl<'a, Q: Query, J: Naming> Parts<'a, Q, J> {
         let log = Log::open(alloc, number);
         let posted = Snapshot::of(&log);
         let owners = Owners::with_firsts(alloc, shape, job.firsts())?;
+        let controller = new_controller(alloc, job, number, paced)?;
         let routers = new_routers(alloc, shape.stages)?;
         let hosts = new_hosts(alloc, job, number)?;
         let movers = new_movers(alloc, shape.stages, number)?;
@@ -52,10 +57,7 @@ impl<'a, Q: Query, J: Naming> Parts<'a, Q, J> {
             posted,
             seen,
             owners,
-            next: ControlCursor {
-                index: 0,
-                receiver: 0,
-            },
+            controller,
             routers,
             hosts,
             movers,
@@ -64,6 +66,25 @@ impl<'a, Q: Query, J: Naming> Parts<'a, Q, J> {
             lists: ChangeLists::new(alloc),
         };
         Ok(parts)
+    }
+}
+
+// The controller of a worker, which has sent nothing: on worker 0 of the job's control records, else of none.
+fn new_controller<'a, Q: Query>(
+    alloc: Global,
+    job: &'a Job<Q>,
+    worker: u32,
+    paced: bool,
+) -> Result<Controller<'a>, AllocError>
+    ensures { IfOk result (λ c. worker ≡ 0 → IsNew paced job.now c) }
+{
+    if worker != 0 {
+        return Ok(Controller::idle(alloc, job));
+    }
+    if paced {
+        Controller::new(alloc, job)
+    } else {
+        Controller::in_list_order(alloc, job)
     }
 }
 
@@ -89,7 +110,7 @@ fn new_hosts<'a, Q: Query, J: Naming>(
     job: &'a Job<Q>,
     worker: u32,
 ) -> Result<Vec<Host<'a, Q, J>>, AllocError>
-    requires job { job.now ≡ J.job }
+    requires job { IsRunOf job.now J.job }
     requires worker { worker < J.job.shape.workers }
     ensures all { IfOk result (λ v. length v.items ≡ J.job.shape.stages) }
     ensures each { IfOk result (λ v. AtEach v.items (IsHostAt (table_of Q.facts J.job) J.job worker empty_log)) }

@@ -7,6 +7,6 @@ use Rattle.mp_model.specs.Tables.{table_of}
 
 abbrev pub invariant-loop-worker : goal.invariant-loop-worker
 invariant-loop-worker g l = record {
-  opened : AreOpened (outline_of (table_of g.Q.Query.facts l.job) l.job) l.worker l.counts;
+  opened : AreOpened (outline_of (table_of g.Q.Query.facts g.J.Naming.job) g.J.Naming.job) l.worker l.counts;
   same : SamePlaces l.initial.counts l.counts;
 }

@@ -24,4 +24,4 @@ returns-clause-leaves g c =
 pub returns-clause-made : goal.returns-clause-made
 returns-clause-made g c =
     let o = outline_of (table_of g.Q.Query.facts g.J.Naming.job) g.J.Naming.job in
-    ends_after o c.args.depth c.args.seed c.in_ok-plain.plain.state c.drive_seed.new.self.state c.drive_seed.result c.in_ok-plain.ensures.start c.in_ok-plain.ensures.depth c.drive_seed.ensures.made c.drive_seed.ensures.finished
+    ends_after o c.args.plan.depth c.args.seed c.in_ok-plain.plain.state c.drive_seed.new.self.state c.drive_seed.result c.in_ok-plain.ensures.start c.in_ok-plain.ensures.depth c.drive_seed.ensures.made c.drive_seed.ensures.finished

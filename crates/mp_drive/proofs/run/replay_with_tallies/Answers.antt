@@ -1,7 +1,9 @@
 -- A run begins with nothing written, so what stands in the sink at its end is what the schedule wrote.
-use Rattle.std.proofs.Common.{Ok, Err, refl}
+use Rattle.std.proofs.Common.{Ok, Err, ap, refl, sym, ◌∙◌}
 use Rattle.std.proofs.lemmas.Result.{err_from_is_err_and}
+use Rattle.mp_job.proofs.Runs.{run_shape}
 use Rattle.mp_model.specs.Tables.{table_of}
+use Rattle.mp_worker.proofs.Paced.{tally_of_job}
 use Rattle.mp_outline.specs.JobOutline.{outline_of}
 use Rattle.mp_answer_laws.proofs.Runs.{handed_on, nothing_begun, told, untold}
 use Rattle.mp_drive.proofs.Ended.{seed_leaves}
@@ -47,9 +49,12 @@ returns-clause-leaves g c =
     (seed_leaves q job s.written s.faults s.frame c.in_ok-plain.plain.state c.args.sink.now c.drive_seed.new.sink (Ok c.in_ok-steps.steps) c.in_ok-plain.ensures.nothing_written e.answer e.part e.failed e.no_fault e.appends_only)
 
 pub returns-clause-tallies : goal.returns-clause-tallies
-returns-clause-tallies g c = λ w t same. c.in_ok-tallies.ensures.at_the_end w t c.in_ok-steps.ensures.finished same
+returns-clause-tallies g c = λ w t same. tally_of_job g.Q.Query.facts c.args.job.now g.J.Naming.job c.requires.job w t (c.in_ok-tallies.ensures.at_the_end w t c.in_ok-steps.ensures.finished same)
+
+pub returns-clause-all : goal.returns-clause-all
+returns-clause-all g c = c.in_ok-tallies.ensures.all ∙ sym (ap (λ s. s.workers) (run_shape c.args.job.now g.J.Naming.job c.requires.job))
 
 pub returns-clause-made : goal.returns-clause-made
 returns-clause-made g c =
     let o = outline_of (table_of g.Q.Query.facts g.J.Naming.job) g.J.Naming.job in
-    ends_after o c.args.depth c.args.seed c.in_ok-plain.plain.state c.drive_seed.new.self.state (Ok c.in_ok-steps.steps) c.in_ok-plain.ensures.start c.in_ok-plain.ensures.depth c.in_ok-steps.ensures.made c.in_ok-steps.ensures.finished
+    ends_after o c.args.plan.depth c.args.seed c.in_ok-plain.plain.state c.drive_seed.new.self.state (Ok c.in_ok-steps.steps) c.in_ok-plain.ensures.start c.in_ok-plain.ensures.depth c.in_ok-steps.ensures.made c.in_ok-steps.ensures.finished

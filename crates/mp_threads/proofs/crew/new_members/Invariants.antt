@@ -7,12 +7,13 @@ use Rattle.mp_threads.proofs.crew.new_members.Given as goal
 
 abbrev pub invariant-loop-number : goal.invariant-loop-number
 invariant-loop-number g l = record {
-  room : l.workers ≤ vec_capacity l.members;
-  many : length l.members.items ≡ l.number;
+  room : l.count ≤ vec_capacity l.members;
+  many : length l.members.items ≡ l._number;
   numbers : (k : ℕ) (m : MemberState) → slice_get l.members.items k ≡ Some m → m.worker.number ≡ k;
   new : All HasDoneNothing l.members.items;
-  hubs : l.hubs.items ≡ drop l.number l.fn.hubs.items;
-  posts : l.posts.items ≡ drop l.number l.fn.posts.items;
+  workers : l.workers.items ≡ drop l._number l.fn.workers.items;
+  hubs : l.hubs.items ≡ drop l._number l.fn.hubs.items;
+  posts : l.posts.items ≡ drop l._number l.fn.posts.items;
   seats_are : seats_of l.members.items ++ l.hubs.items ≡ l.fn.hubs.items;
   posts_are : posts_of l.members.items ++ l.posts.items ≡ l.fn.posts.items;
 }

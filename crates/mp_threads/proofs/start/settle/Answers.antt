@@ -1,6 +1,6 @@
 use denote.Param.Send.{sendable}
 use Rattle.std.proofs.Crossing.{crosses}
-use Rattle.mp_threads.proofs.Crossing.{member_send, worker_send}
+use Rattle.mp_threads_member.proofs.Crossing.{member_send, worker_send}
 use Rattle.mp_threads.proofs.start.settle.Goals as goal
 
 pub spawn_with-started-requires-send-F : goal.spawn_with-started-requires-send-F

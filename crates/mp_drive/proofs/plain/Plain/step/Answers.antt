@@ -74,7 +74,7 @@ invariant_of-self g c =
     let ok = sound g kept.legal in
     let next = together (slice_set c.self.inside.workers.items c.args.worker c.step.new.self) c.step.new.hub c.step.new.post in
     record {
-      same = kept.same;
+      run = kept.run;
       legal = kept.legal;
       reached = still_reached o ok t c.args.worker c.args.kind s c.step.new.self c.step.new.hub c.step.new.post (was g c.before) c.step.result (told g c.before) kept.reached;
       counted = subst (λ (n : ℕ). AreReachedBy o next (c.self.inside.made + n)) (sym c.made_in.ensures)

@@ -8,7 +8,7 @@ use Rattle.mp_host_laws.specs.Hosted.{Hosted}
 use Rattle.mp_worker_invariant.proofs.Items.{again_there}
 use Rattle.mp_worker_invariant.proofs.Standing.{host_at, informed, knows, router_at}
 use Rattle.mp_worker_steps.specs.Contents.{worker_of}
-use Rattle.mp_worker_steps.proofs.Keeping.{kept_by, makes}
+use Rattle.mp_worker_steps.proofs.Keeping.{its_shape, kept_by, makes}
 use Rattle.mp_worker_steps.proofs.Stepping.{group_fits}
 use Rattle.mp_worker_steps.proofs.parts.Parts.apply_ready.Goals as goal
 use Rattle.mp_worker_steps.proofs.parts.Parts.apply_ready.Goals.{then-stage-stages+in_ok-hold_records, else-stage-stages+in_ok-hold_rows}
@@ -33,7 +33,7 @@ invariant_of-self g c = rw (again_there c.self.inside.hosts.items c.args.stage c
 pub push-requires : goal.push-requires
 push-requires g c =
     let told = c.in_ok-applied.ensures.told _ _ c.self.invariant c.index_mut-host.ensures.value refl refl in
-    let to = rw (c.shape-stages.ensures.shape, c.self.invariant.same) at c.location_after-onward.ensures in
+    let to = rw (c.shape-stages.ensures.shape ∙ its_shape c.self.invariant) at c.location_after-onward.ensures in
     record { changes = rw (c.as_slice.ensures.value, c.in_ok-push_changes.ensures.changes) (told.changes c.location_after-onward.result to c.number_onward-number.result c.number_onward-number.ensures.onward) }
 
 pub number_onward-number-requires-clause-time : goal.number_onward-number-requires-clause-time
@@ -55,38 +55,38 @@ hold_records-requires-clause-time g c κs within = (c.in_ok-applied.ensures.told
 
 pub hold_records-requires-clause-stage : goal.hold_records-requires-clause-stage
 hold_records-requires-clause-stage g c κs within =
-    let next = rw (c.shape-stages.ensures.shape, c.self.invariant.same) at c.if-stage-stages.true in
+    let next = rw (c.shape-stages.ensures.shape ∙ its_shape c.self.invariant) at c.if-stage-stages.true in
     (router_at c.self.invariant.parts (c.args.stage + 1) next c.index_mut-router.result.now c.index_mut-router.ensures.value).0
 
 pub hold_records-requires-clause-records : goal.hold_records-requires-clause-records
 hold_records-requires-clause-records g c κs within =
-    (c.in_ok-applied.ensures.told _ _ c.self.invariant c.index_mut-host.ensures.value refl refl).records (rw (c.shape-stages.ensures.shape, c.self.invariant.same) at c.if-stage-stages.true)
+    (c.in_ok-applied.ensures.told _ _ c.self.invariant c.index_mut-host.ensures.value refl refl).records (rw (c.shape-stages.ensures.shape ∙ its_shape c.self.invariant) at c.if-stage-stages.true)
 
 pub hold_records-requires-clause-room : goal.hold_records-requires-clause-room
 hold_records-requires-clause-room g c κs within =
     let told = c.in_ok-applied.ensures.told _ _ c.self.invariant c.index_mut-host.ensures.value refl refl in
-    let next = rw (c.shape-stages.ensures.shape, c.self.invariant.same) at c.if-stage-stages.true in
+    let next = rw (c.shape-stages.ensures.shape ∙ its_shape c.self.invariant) at c.if-stage-stages.true in
     (group_fits c.self.invariant c.self.view_is told c.requires.room).router next c.index_mut-router.result.now c.index_mut-router.ensures.value
 
 pub invariant_of-self-in-Continue-branch-4 : goal.invariant_of-self-in-Continue-branch-4
 invariant_of-self-in-Continue-branch-4 g c =
     let told = c.in_ok-applied.ensures.told _ _ c.self.invariant c.index_mut-host.ensures.value refl refl in
-    let next = rw (c.shape-stages.ensures.shape, c.self.invariant.same) at c.if-stage-stages.true in
+    let next = rw (c.shape-stages.ensures.shape ∙ its_shape c.self.invariant) at c.if-stage-stages.true in
     kept_by c.self.invariant c.push.new.self (ap (λ (l : WorkerLog). l.worker) c.in_ok-push.ensures.pushed) (ap (λ (l : WorkerLog). l.log) c.in_ok-push.ensures.pushed)
     (told.next next c.index_mut-router.result.now c.hold_records.new.router c.index_mut-router.ensures.value c.in_ok-hold_records.ensures.stage c.in_ok-hold_records.ensures.held)
 
 pub hold_rows-requires-clause-rows : goal.hold_rows-requires-clause-rows
 hold_rows-requires-clause-rows g c κs within =
-    (c.in_ok-applied.ensures.told _ _ c.self.invariant c.index_mut-host.ensures.value refl refl).rows (rw (c.shape-stages.ensures.shape, c.self.invariant.same) at c.if-stage-stages.false)
+    (c.in_ok-applied.ensures.told _ _ c.self.invariant c.index_mut-host.ensures.value refl refl).rows (rw (c.shape-stages.ensures.shape ∙ its_shape c.self.invariant) at c.if-stage-stages.false)
 
 pub hold_rows-requires-clause-room : goal.hold_rows-requires-clause-room
 hold_rows-requires-clause-room g c κs within =
     let told = c.in_ok-applied.ensures.told _ _ c.self.invariant c.index_mut-host.ensures.value refl refl in
-    (group_fits c.self.invariant c.self.view_is told c.requires.room).unsent (rw (c.shape-stages.ensures.shape, c.self.invariant.same) at c.if-stage-stages.false)
+    (group_fits c.self.invariant c.self.view_is told c.requires.room).unsent (rw (c.shape-stages.ensures.shape ∙ its_shape c.self.invariant) at c.if-stage-stages.false)
 
 pub invariant_of-self-in-Continue-branch-5 : goal.invariant_of-self-in-Continue-branch-5
 invariant_of-self-in-Continue-branch-5 g c =
-    let ends = rw (c.shape-stages.ensures.shape, c.self.invariant.same) at c.if-stage-stages.false in
+    let ends = rw (c.shape-stages.ensures.shape ∙ its_shape c.self.invariant) at c.if-stage-stages.false in
     kept_by c.self.invariant c.push.new.self (ap (λ (l : WorkerLog). l.worker) c.in_ok-push.ensures.pushed) (ap (λ (l : WorkerLog). l.log) c.in_ok-push.ensures.pushed)
     ((c.in_ok-applied.ensures.told _ _ c.self.invariant c.index_mut-host.ensures.value refl refl).last ends c.hold_rows.new.unsent.rows c.in_ok-hold_rows.ensures.held)
 

@@ -11,13 +11,13 @@ use Rattle.mp_worker_steps.proofs.parts.Parts.make_room_to_take.Goals as goal
 pub make_room-requires : goal.make_room-requires
 make_room-requires g c =
     let few = times_fit c.self.invariant in
-    let times = c.count_of_post_times-times.ensures ∙ ap (λ (f : JobFacts). number_of_post_times (table_of g.Q.Query.facts f) f) c.self.invariant.same in
+    let times = c.count_of_post_times-times.ensures ∙ ap (λ (f : JobFacts). number_of_post_times (table_of g.Q.Query.facts f) f) c.self.invariant.run in
     omega (arith, few, times)
 
 pub make_room_to_take-requires-clause-few : goal.make_room_to_take-requires-clause-few
 make_room_to_take-requires-clause-few g c κs within =
     let few = times_fit c.self.invariant in
-    let times = c.count_of_post_times-times.ensures ∙ ap (λ (f : JobFacts). number_of_post_times (table_of g.Q.Query.facts f) f) c.self.invariant.same in
+    let times = c.count_of_post_times-times.ensures ∙ ap (λ (f : JobFacts). number_of_post_times (table_of g.Q.Query.facts f) f) c.self.invariant.run in
     omega (arith, few, times)
 
 pub invariant_of-self-in_err-make_room_to_take : goal.invariant_of-self-in_err-make_room_to_take
@@ -43,7 +43,7 @@ returns-clause-room g c =
     let i = c.self.inside in
     let ok = c.in_ok-make_room_to_take.ensures in
     let lists = c.in_ok-make_room.ensures in
-    let times = c.count_of_post_times-times.ensures ∙ ap (λ (f : JobFacts). number_of_post_times (table_of g.Q.Query.facts f) f) c.self.invariant.same in
+    let times = c.count_of_post_times-times.ensures ∙ ap (λ (f : JobFacts). number_of_post_times (table_of g.Q.Query.facts f) f) c.self.invariant.run in
     let hosts = written_back without_room i.hosts.items c.deref_mut.result.now c.make_room_in_hosts.new.hosts i.hosts.len c.deref_mut.ensures.len c.make_room_in_hosts.ensures.same in
     let movers = written_back roomless i.movers.items c.deref_mut-2.result.now c.make_room_in_movers.new.movers i.movers.len c.deref_mut-2.ensures.len c.make_room_in_movers.ensures.same in
     rw (hosts, movers)

@@ -1,3 +1,6 @@
+use Rattle.std.proofs.Common.{◌∙◌, ap, sym}
+use Rattle.mp_model.specs.Facts.{JobFacts}
+use Rattle.mp_job.specs.Records.{record_at, share_of}
 use Rattle.mp_names.specs.declared.kinds.Kind.TheVariants.{Ingest}
 use Rattle.mp_worker_steps.proofs.Ingested.{has_record, next_record, none_to_ingest}
 use Rattle.mp_worker_steps.proofs.Keeping.{can_do}
@@ -6,7 +9,7 @@ use Rattle.mp_model.specs.Tables.{table_of}
 
 pub returns-in_default-clause-none : goal.returns-in_default-clause-none
 returns-in_default-clause-none g c =
-    let share = rw (c.self.invariant.same, c.worker.ensures) at c.share.ensures in
+    let share = rw c.worker.ensures at (c.share.ensures ∙ ap (λ (f : JobFacts). share_of (table_of g.Q.Query.facts f) f.events f.shape.workers c.worker.result) c.self.invariant.run) in
     let past = rw c.ingested-next.ensures at c.in_default.ensures.lookup.3 in
     rw (← c.self.view_is) (λ x can. none_to_ingest c.self.invariant.sound c.self.invariant.parts _ share past x (can_do c.self.invariant Ingest x can))
 
@@ -16,6 +19,6 @@ rec_at-requires-after_bounds g c κs within =
 
 pub returns-clause-next : goal.returns-clause-next
 returns-clause-next g c =
-    let share = rw (c.self.invariant.same, c.worker.ensures) at c.share.ensures in
+    let share = rw c.worker.ensures at (c.share.ensures ∙ ap (λ (f : JobFacts). share_of (table_of g.Q.Query.facts f) f.events f.shape.workers c.worker.result) c.self.invariant.run) in
     let found = rw c.ingested-next.ensures at c.in-Some.ensures.lookup.3 in
-    rw (← c.self.view_is) (next_record c.self.invariant.sound c.self.invariant.parts _ share _ _ found.0 (found.1 _) (rw c.self.invariant.same at c.in_ok-rec_at.ensures))
+    rw (← c.self.view_is) (next_record c.self.invariant.sound c.self.invariant.parts _ share _ _ found.0 (found.1 _) (sym (ap (λ (f : JobFacts). record_at (table_of g.Q.Query.facts f) f.events c.in-Some.index.now) c.self.invariant.run) ∙ c.in_ok-rec_at.ensures))

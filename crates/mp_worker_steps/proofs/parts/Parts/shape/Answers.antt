@@ -3,4 +3,4 @@ use Rattle.mp_model.specs.Facts.{JobFacts}
 use Rattle.mp_worker_steps.proofs.parts.Parts.shape.Goals as goal
 
 pub returns : goal.returns
-returns g c = c.shape.ensures.shape ∙ ap (λ (j : JobFacts). j.shape) c.self.invariant.same
+returns g c = c.shape.ensures.shape ∙ ap (λ (j : JobFacts). j.shape) c.self.invariant.run

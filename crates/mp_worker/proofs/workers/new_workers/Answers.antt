@@ -1,7 +1,7 @@
 use Rattle.std.proofs.Common.{[], ◌∷◌, length, ap, arith, length-append}
 use Rattle.mp_outline.specs.JobOutline.{outline_of}
-use Rattle.mp_drive.proofs.Opened.{is_new, one_more_new}
-use Rattle.mp_drive.proofs.plain.new_workers.Goals as goal
+use Rattle.mp_worker.proofs.New.{is_new, one_more_new}
+use Rattle.mp_worker.proofs.workers.new_workers.Goals as goal
 use Rattle.mp_model.specs.Tables.{table_of}
 
 pub loop-number-preserved : goal.loop-number-preserved
@@ -10,8 +10,8 @@ loop-number-preserved g c =
     let i = c.loop-number.invariant in
     let number = c.loop-number.number in
     let workers = c.loop-number.workers.items in
-    let worker = c.in_ok-new.field-0 in
-    let made = c.in_ok-new.ensures in
+    let worker = c.in_ok-begin.field-0 in
+    let made = c.in_ok-begin.ensures in
     let pushed = c.push_reserved.ensures in
     let is = is_new o number worker c.args.seen made.number made.log made.posted made.seen c.requires.version c.requires.opening in
     record {

@@ -1,6 +1,6 @@
-//! The order in which worker 0 sends control records.
+//! The cursor over the control records.
 ghost use Rattle.std.specs.Prelude.{◌≡◌, ◌<◌, ◌-◌, ◌^◌};
-ghost use Rattle.mp_worker_invariant.specs.Parts.{place_after};
+ghost use Rattle.mp_controller.specs.Cursors.{place_after};
 
 use mp_names::ControlCursor;
 

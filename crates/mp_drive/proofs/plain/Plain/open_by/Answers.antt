@@ -3,6 +3,7 @@ use Rattle.mp_names.specs.Logs.{Log}
 use Rattle.mp_names.specs.Outlines.{OutlineIsSound}
 use Rattle.mp_board.specs.Boards.{ShowsFrontiers}
 use Rattle.mp_job.specs.Legal.{JobIsLegal}
+use Rattle.mp_job.proofs.Runs.{run_is_legal}
 use Rattle.mp_mailbox.specs.Queues.{empty_queues}
 use Rattle.mp_model.specs.Facts.{JobFacts}
 use Rattle.mp_model.specs.Tables.{table_of}
@@ -11,8 +12,8 @@ use Rattle.mp_outline.proofs.Soundness.{outline_is_sound}
 use Rattle.mp_drive.specs.Kept.{together}
 use Rattle.mp_answer_laws.specs.Lines.{written_lines}
 use Rattle.mp_drive.proofs.Opened.{are_at_start, begin_counted, begin_reached, first_is_empty}
-use Rattle.mp_drive.proofs.plain.Plain.open.Given as given
-use Rattle.mp_drive.proofs.plain.Plain.open.Goals as goal
+use Rattle.mp_drive.proofs.plain.Plain.open_by.Given as given
+use Rattle.mp_drive.proofs.plain.Plain.open_by.Goals as goal
 
 pub new_workers-requires-clause-opening : goal.new_workers-requires-clause-opening
 new_workers-requires-clause-opening g c κs within =
@@ -20,7 +21,7 @@ new_workers-requires-clause-opening g c κs within =
     subst (λ (logs : List Log). ShowsFrontiers o logs c.seen.result) c.in_ok-board.ensures.logs c.seen.ensures.frontiers
 
 legal : (g : given.Over) (c : goal.In_ok-post g) → let job = g.J.Naming.job in JobIsLegal (table_of g.Q.Query.facts job) job
-legal g c = subst (λ (job : JobFacts). JobIsLegal (table_of g.Q.Query.facts job) job) c.requires.job c.shape.ensures.legal
+legal g c = run_is_legal _ _ c.requires.job g.Q.Query.facts c.shape.ensures.legal
 
 sound : (g : given.Over) (c : goal.In_ok-post g) → let job = g.J.Naming.job in OutlineIsSound (outline_of (table_of g.Q.Query.facts job) job)
 sound g c =
@@ -28,10 +29,10 @@ sound g c =
     let job = g.J.Naming.job in
     outline_is_sound (table_of g.Q.Query.facts job) (laws.has_stages job.values) (laws.posts_are_later job.values) (laws.later_stages_post_nothing job.values) job (legal g c)
 
-empty : (g : given.Over) (c : goal.In_ok-post g) → c.in_ok-post.post ≡ empty_queues g.J.Naming.job.shape.workers c.args.depth
+empty : (g : given.Over) (c : goal.In_ok-post g) → c.in_ok-post.post ≡ empty_queues g.J.Naming.job.shape.workers c.args.plan.depth
 empty g c =
     let count = ap (λ s. s.workers) c.shape.ensures.shape ∙ ap (λ (job : JobFacts). job.shape.workers) c.requires.job in
-    subst (λ (n : ℕ). c.in_ok-post.post ≡ empty_queues n c.args.depth) count c.in_ok-post.ensures.empty
+    subst (λ (n : ℕ). c.in_ok-post.post ≡ empty_queues n c.args.plan.depth) count c.in_ok-post.ensures.empty
 
 pub invariant_of-result : goal.invariant_of-result
 invariant_of-result g c =
@@ -40,10 +41,10 @@ invariant_of-result g c =
     let workers = c.in_ok-workers.ensures in
     let t = together c.in_ok-workers.workers.items c.in_ok-board.board c.in_ok-post.post in
     record {
-      same = c.requires.job;
+      run = c.requires.job;
       legal = legal g c;
-      reached = begin_reached o (sound g c) t c.args.depth workers.all workers.new board.logs board.version (empty g c);
-      counted = begin_counted o (sound g c) t c.args.depth workers.all workers.new board.logs board.version (empty g c);
+      reached = begin_reached o (sound g c) t c.args.plan.depth workers.all workers.new board.logs board.version (empty g c);
+      counted = begin_counted o (sound g c) t c.args.plan.depth workers.all workers.new board.logs board.version (empty g c);
       goes_on = board.cause;
     }
 
@@ -53,7 +54,7 @@ returns-clause-start g c =
     let board = c.in_ok-board.ensures in
     let workers = c.in_ok-workers.ensures in
     let t = together c.in_ok-workers.workers.items c.in_ok-board.board c.in_ok-post.post in
-    are_at_start o (sound g c) t c.args.depth workers.all workers.new board.logs board.version (empty g c)
+    are_at_start o (sound g c) t c.args.plan.depth workers.all workers.new board.logs board.version (empty g c)
 
 pub returns-clause-nothing_written : goal.returns-clause-nothing_written
 returns-clause-nothing_written g c =
