@@ -1,3 +1,4 @@
 -- What the contracts of this crate cite.
+pub mod Jobs
 pub mod Running
 pub mod Stopped

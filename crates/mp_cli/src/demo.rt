@@ -6,7 +6,7 @@ ghost use Rattle.mp_command.specs.Outcome.{NoMemory};
 ghost use Rattle.mp_command.specs.Refused.{outcome_of};
 
 use crate::writing::write_answer;
-use mp_command::{ANSWER, Flow, Inputs, Refusal, demo_settings, run_in_memory};
+use mp_command::{ANSWER, Flow, Inputs, JobParts, Refusal, demo_settings, run_in_memory};
 use mp_gate::Gate;
 use mp_make::{make_events, summary};
 use mp_outside::NeverFails;
@@ -28,9 +28,11 @@ pub fn demo<'a, G: Gate + Sync, R: Threads + Wait + Sync + AllocGlobal>(
     let alloc = rt.alloc();
     let events = make_events(alloc, options.count, options.seed)?;
     let asked = run_in_memory(options);
-    let settings = demo_settings(alloc, Flow::of_run(&asked))?;
+    let flow = Flow::of_demo(options);
+    let settings = demo_settings(alloc, &flow)?;
+    let parts = JobParts { events, settings };
     let mut memory = NeverFails::new(alloc);
-    write_answer(rt, &mut memory, &asked, Inputs { events, settings }, gate)?;
+    write_answer(rt, &mut memory, &asked, Inputs { flow, parts }, gate)?;
     match memory.get(ANSWER) {
         Some(answer) => Ok(summary(alloc, u64::from(options.count), answer)?),
         None => unreachable!(),

@@ -12,12 +12,13 @@ ghost use Rattle.mp_report.specs.Report.{AreTalliesOf};
 ghost use Rattle.mp_words.specs.Limits.{AreWithinLimits};
 ghost use Rattle.mp_command.specs.Calls.{StopsAnswer};
 ghost use Rattle.mp_command.specs.Refused.{EndsAs, outcome_of};
+ghost use Rattle.mp_cli.specs.Jobs.{run_of};
 ghost use Rattle.mp_cli.specs.Running.{TellsSteps};
 ghost use Rattle.mp_command.specs.Writing.{IsTextOfJob, WritesSome, answer_at};
 
 use crate::causes::refused_after;
 use mp_command::Refusal;
-use mp_drive::{Replayed, replay_with_tallies};
+use mp_drive::{Replayed, RunPlan, replay_with_tallies};
 use mp_gate::Gate;
 use mp_job::Job;
 use mp_model::Query;
@@ -38,7 +39,7 @@ pub struct Ran {
     pub tallies: Vec<Tally>,
 }
 
-/// Runs a job as the command asks, at its depth, and makes the file hold the answer: what the run came to.
+/// Runs a job as the command asks, at its depth, paced or not, and makes the file hold the answer: what the run came to.
 /// `WriteFault`: the file couldn't be begun or appended to; `NoMemory`: no memory.
 pub fn answer_to<
     'a,
@@ -55,7 +56,7 @@ pub fn answer_to<
 ) -> Result<Ran, Refusal<'a>>
     requires options { AreWithinLimits options.now }
     requires rows { GivesRows (table_of Q.facts job.now) }
-    ensures made { let o = outline_of (table_of Q.facts job.now) job.now in
+    ensures made { let o = outline_of (table_of Q.facts job.now) (run_of options.now.paced job.now) in
         IfOk result (λ run. TellsSteps o options.now.depth options.now.schedule run.steps) }
     ensures tallies { IfOk result (λ run.
         AreTalliesOf (table_of Q.facts job.now) job.now run.tallies.items) }
@@ -74,7 +75,7 @@ pub fn answer_to<
     run_into(rt, options, job, gate, &mut sink)
 }
 
-/// Runs a job as the command asks, at its depth, and writes the answer: what the run came to. `WriteFault`: a write
+/// Runs a job as the command asks, at its depth, paced or not, and writes the answer: what the run came to. `WriteFault`: a write
 /// failed; `NoMemory`: no memory. With either a beginning of the answer is written.
 fn run_into<'a, Q: Query + Send, G: Gate + Sync, S: Sink, R: Threads + Wait + Sync + AllocGlobal>(
     rt: &R,
@@ -85,7 +86,7 @@ fn run_into<'a, Q: Query + Send, G: Gate + Sync, S: Sink, R: Threads + Wait + Sy
 ) -> Result<Ran, Refusal<'a>>
     requires depth { 0 < options.now.depth }
     requires rows { GivesRows (table_of Q.facts job.now) }
-    ensures made { let o = outline_of (table_of Q.facts job.now) job.now in
+    ensures made { let o = outline_of (table_of Q.facts job.now) (run_of options.now.paced job.now) in
         IfOk result (λ run. TellsSteps o options.now.depth options.now.schedule run.steps) }
     ensures tallies { IfOk result (λ run.
         AreTalliesOf (table_of Q.facts job.now) job.now run.tallies.items) }
@@ -98,16 +99,13 @@ fn run_into<'a, Q: Query + Send, G: Gate + Sync, S: Sink, R: Threads + Wait + Sy
     ensures failed { IfErr result (λ r. EndsAs r 7 → Rose (S.faults sink.old) (S.faults sink.new)) }
     ensures appends_only { OnlyAppends S.frame S.faults sink.old sink.new }
 {
+    let plan = RunPlan {
+        depth: options.depth,
+        paced: options.paced,
+    };
     match options.schedule {
         Schedule::Threads => {
-            match run_with_tallies::<Q, Brand, _, _, _>(
-                rt,
-                rt.alloc(),
-                job,
-                options.depth,
-                gate,
-                sink,
-            ) {
+            match run_with_tallies::<Q, Brand, _, _, _>(rt, rt.alloc(), job, plan, gate, sink) {
                 Ok(tallies) => Ok(Ran {
                     steps: None,
                     tallies,
@@ -116,14 +114,7 @@ fn run_into<'a, Q: Query + Send, G: Gate + Sync, S: Sink, R: Threads + Wait + Sy
             }
         }
         Schedule::Seeded(seed) => {
-            match replay_with_tallies::<Q, Brand, _, _>(
-                rt.alloc(),
-                job,
-                options.depth,
-                seed,
-                gate,
-                sink,
-            ) {
+            match replay_with_tallies::<Q, Brand, _, _>(rt.alloc(), job, plan, seed, gate, sink) {
                 Ok(run) => Ok(Ran {
                     steps: Some(run.steps),
                     tallies: run.tallies,

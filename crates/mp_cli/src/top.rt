@@ -19,16 +19,17 @@ use std::thread::Threads;
 /// Does what the words of the command line ask for, on the files of a depot. `words` begins with the
 /// program's name. A refusal says one line on `said`; `check` and `demo` say theirs there.
 ///
-/// The command is `run` or `replay` with `--query` (`q1` to `q8`), `--events`, `--config` and `--out`, and
-/// perhaps `--report`, `--workers` (1, up to 64), `--bins` (16, a power of two up to 4096) and `--depth` (64, up
-/// to 1024); `replay` also takes `--seed` (0, up to 2^48). The report is begun where the whole answer is
-/// written. `check` reads what these read; `make` writes events that are made from `--seed`, so many as
+/// The command is `run` or `replay` with `--query` (`q1` to `q8`, or `pipe` with `--pipe`), `--events`, `--config` and
+/// `--out`, and perhaps `--report`, `--workers` (1, up to 64), `--bins` (16, a power of two up to 4096),
+/// `--depth` (64, up to 1024) and the flag `--paced`; `replay` also takes `--seed` (0, up to 2^48). In a paced run
+/// control records of a time wait until the moves of earlier times have arrived; the answer is the same. The report
+/// is begun where the whole answer is written. `check` reads what these read; `make` writes events that are made from `--seed`, so many as
 /// `--count` says (up to 1,000,000), to `--out`; `demo` makes events, runs them in memory and says a summary of
 /// the answer. The statuses are this project's profile: 0 all is done; 2 the words are no command; 3 the event
 /// file has a bad line; 4 the configuration has a bad line; 5 a file isn't there; 6 a find or a read failed; 7
 /// a begin or an append failed, or a write to `said` of what is its answer; 8 an allocation failed; 9 a file
-/// has more than 2^28 bytes. The refusals 3 and 4 say the number of the first bad line and the first check that
-/// it fails.
+/// has more than 2^28 bytes; 12 the pipeline's file has a bad line, or ends without a stage. The refusals 3, 4 and 12
+/// say the number of the first bad line and the first check that it fails.
 ///
 /// `run` and `demo` work on threads, one for each worker: this one drives worker 0, and each worker for which no thread
 /// could be made. They wait for these threads, and for each other. `replay` works on this thread alone, where the
@@ -61,9 +62,9 @@ pub fn run<D: Depot, S: Sink, G: Gate + Sync, R: Threads + Wait + Sync + AllocGl
         → (result.code ≡ 0) ⊎ (result.code ≡ 8) }
 
     // The answer theorem: what a run that answers 0 wrote is exactly the query's one-thread answer to the events, with the
-    // values that the configuration gives to the query's rules; and the report, where one is asked for, of the job with its first
-    // owners and control records. `check` has then found both files well-formed, and `make` has written the lines of the events
-    // that are made.
+    // values that the configuration gives to the query's rules, or that of the pipeline that its file says; and the report,
+    // where one is asked for, of the job with its first owners and control records. `check` has then found its files
+    // well-formed, and `make` has written the lines of the events that are made.
     ensures answer { result.code ≡ 0
         → IsCommandAnswered (command_in words.now) (D.files depot.old) (D.files depot.new) }
     ensures untouched { IsRefusal result.code → SameFiles (D.files depot.old) (D.files depot.new) }

@@ -1,8 +1,8 @@
 //! The answer's way into its file, and the report's after it.
-ghost use Rattle.std.specs.Prelude.{◌≡◌, ℕ, List, IfErr, IfOk, OnErr, OnOk};
+ghost use Rattle.std.specs.Prelude.{◌≡◌, ℕ, List, IfErr, IfOk};
 ghost use Rattle.mp_control.specs.Settings.{settings_in};
 ghost use Rattle.mp_model.specs.Legal.{EventsAreLegal};
-ghost use Rattle.mp_model.specs.Rules.{given_values};
+ghost use Rattle.mp_model.specs.Rules.{numbers_with};
 ghost use Rattle.mp_model.specs.Tables.{table_of};
 ghost use Rattle.mp_output.specs.Rows.{GivesRows};
 ghost use Rattle.mp_outside.specs.Fault.{Rose};
@@ -11,19 +11,21 @@ ghost use Rattle.mp_report.specs.Report.{AreTalliesOf};
 ghost use Rattle.mp_words.specs.Limits.{AreWithinLimits};
 ghost use Rattle.mp_words.specs.Values.{options_in};
 ghost use Rattle.mp_words.specs.Words.{Run};
+ghost use Rattle.mp_command.specs.declared.flow.FlowQuery.TheVariants.{Named};
 ghost use Rattle.mp_command.specs.Calls.{StopsAnswer};
-ghost use Rattle.mp_command.specs.Config.{SettingsFit, flow_of, job_asked};
+ghost use Rattle.mp_command.specs.Config.{SettingsFit, SettingsFitFlow, flow_of, flow_with};
 ghost use Rattle.mp_command.specs.InputFiles.{found_in};
-ghost use Rattle.mp_command.specs.Queries.{rules_of, stages_of};
+ghost use Rattle.mp_command.specs.Queries.{IsSound};
 ghost use Rattle.mp_command.specs.Refused.{EndsAs, outcome_of};
-ghost use Rattle.mp_command.specs.Writing.{IsTextOf, IsTextOfJob, WritesAll, WritesSome, targets_of};
+ghost use Rattle.mp_command.specs.Writing.{IsTextOf, IsTextOfFlow, IsTextOfJob, targets_of};
+ghost use Rattle.mp_cli.specs.Jobs.{Wrote, flow_for, job_for, run_of, shape_for};
 ghost use Rattle.mp_cli.specs.Running.{TellsSteps};
 
 use crate::running::{Ran, answer_to};
-use mp_command::{Flow, Inputs, Refusal, report_to};
+use mp_command::{FlowQuery, Inputs, JobParts, Refusal, report_to};
 use mp_control::Settings;
 use mp_gate::Gate;
-use mp_job::Job;
+use mp_job::{Job, Shape};
 use mp_model::Query;
 use mp_outside::Depot;
 use mp_q_auction::{Q4, Q6};
@@ -45,75 +47,107 @@ pub fn write_answer<'a, D: Depot, G: Gate + Sync, R: Threads + Wait + Sync + All
     gate: &G,
 ) -> Result<Ran, Refusal<'a>>
     requires options { AreWithinLimits options.now }
-    requires events { EventsAreLegal read.events.items }
-    requires settings { SettingsFit (flow_of (options_in options.now)) (settings_in read.settings) }
-    ensures whole { let asked = Run (options_in options.now) in OnOk result
-        (WritesAll (IsTextOf asked (found_in read)) (targets_of asked) (D.files depot.old) (D.files depot.new)) }
-    ensures part { let asked = Run (options_in options.now) in OnErr result
-        (WritesSome (IsTextOf asked (found_in read)) (targets_of asked) (D.files depot.old) (D.files depot.new)) }
+    requires flow { read.flow ≡ flow_with (flow_of (options_in options.now)) (found_in read).pipe }
+    requires sound { IsSound read.flow.query }
+    requires events { EventsAreLegal read.parts.events.items }
+    requires settings { SettingsFitFlow read.flow (settings_in read.parts.settings) }
+    ensures wrote { let asked = Run (options_in options.now) in
+        Wrote (IsTextOf asked (found_in read)) (targets_of asked) result (D.files depot.old) (D.files depot.new) }
     ensures refused { IfErr result (λ r. StopsAnswer (outcome_of r)) }
 
     ensures failed { IfErr result (λ r. EndsAs r 7
         → Rose (D.write_faults depot.old) (D.write_faults depot.new)) }
 {
-    match options.query {
-        QueryName::Q1 => run_asked(rt, depot, Q1::given(), options, read, gate),
-        QueryName::Q2 => run_asked(rt, depot, Q2::given(), options, read, gate),
-        QueryName::Q3 => run_asked(rt, depot, Q3::given(), options, read, gate),
-        QueryName::Q4 => run_asked(rt, depot, Q4::given(), options, read, gate),
-        QueryName::Q5 => run_asked(rt, depot, Q5::given(), options, read, gate),
-        QueryName::Q6 => run_asked(rt, depot, Q6::given(), options, read, gate),
-        QueryName::Q7 => run_asked(rt, depot, Q7::given(), options, read, gate),
-        QueryName::Q8 => run_asked(rt, depot, Q8::given(), options, read, gate),
+    let Inputs { flow, parts } = read;
+    match flow.query {
+        FlowQuery::Named(name) => write_named(rt, depot, name, options, parts, gate),
+        FlowQuery::Piped(pipe) => run_asked(rt, depot, pipe, options, parts, gate),
+    }
+}
+
+/// The same for the query of a name.
+fn write_named<'a, D: Depot, G: Gate + Sync, R: Threads + Wait + Sync + AllocGlobal>(
+    rt: &R,
+    depot: &mut D,
+    name: QueryName,
+    options: &RunOptions<'a>,
+    parts: JobParts,
+    gate: &G,
+) -> Result<Ran, Refusal<'a>>
+    requires options { AreWithinLimits options.now }
+    requires events { EventsAreLegal parts.events.items }
+    requires settings { SettingsFitFlow (flow_for (options_in options.now) (Named name)) (settings_in parts.settings) }
+    ensures wrote { let asked = options_in options.now in
+        let IsText = IsTextOfFlow (flow_for asked (Named name)) parts.events.items (settings_in parts.settings) in
+        Wrote IsText (targets_of (Run asked)) result (D.files depot.old) (D.files depot.new) }
+    ensures refused { IfErr result (λ r. StopsAnswer (outcome_of r)) }
+
+    ensures failed { IfErr result (λ r. EndsAs r 7
+        → Rose (D.write_faults depot.old) (D.write_faults depot.new)) }
+{
+    match name {
+        QueryName::Q1 => run_asked(rt, depot, Q1::given(), options, parts, gate),
+        QueryName::Q2 => run_asked(rt, depot, Q2::given(), options, parts, gate),
+        QueryName::Q3 => run_asked(rt, depot, Q3::given(), options, parts, gate),
+        QueryName::Q4 => run_asked(rt, depot, Q4::given(), options, parts, gate),
+        QueryName::Q5 => run_asked(rt, depot, Q5::given(), options, parts, gate),
+        QueryName::Q6 => run_asked(rt, depot, Q6::given(), options, parts, gate),
+        QueryName::Q7 => run_asked(rt, depot, Q7::given(), options, parts, gate),
+        QueryName::Q8 => run_asked(rt, depot, Q8::given(), options, parts, gate),
     }
 }
 
 /// Runs a query with the values that were read on the events that were read, with first owners and control records
 /// that were read, and makes the files hold its answer and its report: how many steps the workers made by the schedule of the
-/// command's seed, at its depth, `None` on threads; and what each worker of the command's number has done of that job.
+/// command's seed, at its depth and paced where that is asked for, `None` on threads; and what each worker of the command's
+/// number has done of that job.
 fn run_asked<'a, D: Depot, Q: Query + Send, G: Gate + Sync, R: Threads + Wait + Sync + AllocGlobal>(
     rt: &R,
     depot: &mut D,
     given: Q,
     options: &RunOptions<'a>,
-    read: Inputs,
+    parts: JobParts,
     gate: &G,
 ) -> Result<Ran, Refusal<'a>>
     requires options { AreWithinLimits options.now }
-    requires events { EventsAreLegal read.events.items }
-    requires settings { SettingsFit (flow_of (options_in options.now)) (settings_in read.settings) }
-    requires rules { Q.rules given ≡ rules_of options.now.query }
-    requires values { Q.values given ≡ given_values (rules_of options.now.query) }
-    requires stages { stages_of options.now.query ≡ (Q.facts (Q.values given)).stages }
-    requires rows { (values : List ℕ) → GivesRows (Q.facts values) }
+    requires events { EventsAreLegal parts.events.items }
+    requires settings { let stages = (Q.facts (Q.values given)).stages in
+        SettingsFit (shape_for (options_in options.now) stages) (Q.rules given) (settings_in parts.settings) }
+    requires rows { (numbers : List ℕ) → GivesRows (Q.facts numbers) }
     ensures made { let asked = options_in options.now in
-        let q = Q.facts read.settings.values in
-        let job = job_asked (flow_of asked) read.events.items (settings_in read.settings) in
-        IfOk result (λ run. TellsSteps (outline_of q job) asked.depth asked.schedule run.steps) }
-    ensures tallies { let q = Q.facts read.settings.values in
-        let job = job_asked (flow_of (options_in options.now)) read.events.items (settings_in read.settings) in
-        IfOk result (λ run. AreTalliesOf q job run.tallies.items) }
-    ensures whole { let asked = options_in options.now in
-        let q = Q.facts read.settings.values in
-        let job = job_asked (flow_of asked) read.events.items (settings_in read.settings) in
-        OnOk result (WritesAll (IsTextOfJob q job) (targets_of (Run asked)) (D.files depot.old) (D.files depot.new)) }
-    ensures part { let asked = options_in options.now in
-        let q = Q.facts read.settings.values in
-        let job = job_asked (flow_of asked) read.events.items (settings_in read.settings) in
-        OnErr result (WritesSome (IsTextOfJob q job) (targets_of (Run asked)) (D.files depot.old) (D.files depot.new)) }
+        let numbers = numbers_with (Q.rules given) (Q.values given) parts.settings.values in
+        let stages = (Q.facts (Q.values given)).stages in
+        let job = job_for asked stages numbers parts.events.items (settings_in parts.settings) in
+        let o = outline_of (Q.facts numbers) (run_of asked.paced job) in
+        IfOk result (λ run. TellsSteps o asked.depth asked.schedule run.steps) }
+    ensures tallies { let asked = options_in options.now in
+        let numbers = numbers_with (Q.rules given) (Q.values given) parts.settings.values in
+        let stages = (Q.facts (Q.values given)).stages in
+        let job = job_for asked stages numbers parts.events.items (settings_in parts.settings) in
+        IfOk result (λ run. AreTalliesOf (Q.facts numbers) job run.tallies.items) }
+    ensures wrote { let asked = options_in options.now in
+        let numbers = numbers_with (Q.rules given) (Q.values given) parts.settings.values in
+        let stages = (Q.facts (Q.values given)).stages in
+        let job = job_for asked stages numbers parts.events.items (settings_in parts.settings) in
+        Wrote (IsTextOfJob (Q.facts numbers) job) (targets_of (Run asked)) result
+        (D.files depot.old) (D.files depot.new) }
     ensures refused { IfErr result (λ r. StopsAnswer (outcome_of r)) }
 
     ensures failed { IfErr result (λ r. EndsAs r 7
         → Rose (D.write_faults depot.old) (D.write_faults depot.new)) }
 {
-    let Inputs { events, settings } = read;
+    let JobParts { events, settings } = parts;
     let Settings {
         firsts,
         values,
         controls,
     } = settings;
     let query = given.with(values.as_slice());
-    let shape = Flow::of_run(options).shape();
+    let shape = Shape {
+        workers: options.workers,
+        bins: options.bins,
+        stages: query.stages(),
+    };
     let job = Job::with_firsts(rt.alloc(), query, events, controls, shape, firsts)?;
     write_both(rt, depot, options, &job, gate)
 }
@@ -134,15 +168,12 @@ fn write_both<
 ) -> Result<Ran, Refusal<'a>>
     requires options { AreWithinLimits options.now }
     requires rows { GivesRows (table_of Q.facts job.now) }
-    ensures made { let o = outline_of (table_of Q.facts job.now) job.now in
+    ensures made { let o = outline_of (table_of Q.facts job.now) (run_of options.now.paced job.now) in
         IfOk result (λ run. TellsSteps o options.now.depth options.now.schedule run.steps) }
     ensures tallies { IfOk result (λ run. AreTalliesOf (table_of Q.facts job.now) job.now run.tallies.items) }
-    ensures whole { let asked = Run (options_in options.now) in
-        OnOk result (WritesAll (IsTextOfJob (table_of Q.facts job.now) job.now) (targets_of asked)
-        (D.files depot.old) (D.files depot.new)) }
-    ensures part { let asked = Run (options_in options.now) in
-        OnErr result (WritesSome (IsTextOfJob (table_of Q.facts job.now) job.now) (targets_of asked)
-        (D.files depot.old) (D.files depot.new)) }
+    ensures wrote { let asked = Run (options_in options.now) in
+        Wrote (IsTextOfJob (table_of Q.facts job.now) job.now) (targets_of asked) result
+        (D.files depot.old) (D.files depot.new) }
     ensures refused { IfErr result (λ r. StopsAnswer (outcome_of r)) }
 
     ensures failed { IfErr result (λ r. EndsAs r 7

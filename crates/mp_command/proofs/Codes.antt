@@ -9,7 +9,7 @@ use Rattle.mp_outside.specs.Sink.{grown}
 use Rattle.mp_words.specs.Words.{Asked, Run, Check, Make, Demo}
 use Rattle.mp_command.specs.Calls.{ComesOf, IsRefusalOf, MayCome, MayEnd, MayFail, called_for, files_call_for, unless_refused, with_text}
 use Rattle.mp_command.specs.Ends.{ComesWhere, EndsWith, IsCommandAnsweredInPart, IsRefusal, IsStop, SaysAnswer, SaysLine, WritesFile, status_at_fault}
-use Rattle.mp_command.specs.Inputs.{ConfigFile, EventFile, Found, Input, inputs_of, nothing_found, read_as}
+use Rattle.mp_command.specs.Inputs.{ConfigFile, EventFile, Found, Input, PipeFile, inputs_of, nothing_found, read_as}
 use Rattle.mp_command.specs.Lines.{line_after}
 use Rattle.mp_command.specs.Outcome.{Outcome, Answered, NoMemory, TooLarge, WriteFault, line_said, status_of}
 use Rattle.mp_command.proofs.Coming.{may_lack_memory, refusal_of_text}
@@ -19,17 +19,18 @@ use Rattle.mp_command.proofs.Leaving.{no_both, no_stop, status_is, stopped_alone
 
 -- a status that no file that is read gives
 abbrev IsNoFileStatus : ℕ → Type 0
-IsNoFileStatus n = (n ≡ 3 → ⊥) × (n ≡ 4 → ⊥) × (n ≡ 5 → ⊥) × (n ≡ 6 → ⊥) × (n ≡ 9 → ⊥)
+IsNoFileStatus n = (n ≡ 3 → ⊥) × (n ≡ 4 → ⊥) × (n ≡ 5 → ⊥) × (n ≡ 6 → ⊥) × (n ≡ 9 → ⊥) × (n ≡ 12 → ⊥)
 
 done_is : IsNoFileStatus 0
-done_is = ((λ e. omega (arith, e)), (λ e. omega (arith, e)), (λ e. omega (arith, e)), (λ e. omega (arith, e)), (λ e. omega (arith, e)))
+done_is = ((λ e. omega (arith, e)), (λ e. omega (arith, e)), (λ e. omega (arith, e)), (λ e. omega (arith, e)), (λ e. omega (arith, e)), (λ e. omega (arith, e)))
 
 usage_is : IsNoFileStatus 2
-usage_is = ((λ e. omega (arith, e)), (λ e. omega (arith, e)), (λ e. omega (arith, e)), (λ e. omega (arith, e)), (λ e. omega (arith, e)))
+usage_is = ((λ e. omega (arith, e)), (λ e. omega (arith, e)), (λ e. omega (arith, e)), (λ e. omega (arith, e)), (λ e. omega (arith, e)), (λ e. omega (arith, e)))
 
 module _ (n : ℕ) (no_file : IsNoFileStatus n) where
   text_refused : (input : Input) (o : Outcome) → IsRefusalOf input o → status_of o ≡ n → ⊥
   text_refused EventFile o (line, why, is) at = no_file.0 (sym at ∙ ap status_of is)
+  text_refused PipeFile o (line, why, is) at = no_file.5 (sym at ∙ ap status_of is)
   text_refused (ConfigFile flow) o (line, why, is) at = no_file.1 (sym at ∙ ap status_of is)
 
   comes_otherwise : (inputs : List (Input × List ℕ)) (o : Outcome) → ComesOf inputs o → status_of o ≡ n → ⊥

@@ -9,12 +9,16 @@ use Rattle.mp_events.specs.Events.{events_of}
 use Rattle.mp_model.specs.declared.record.Event.{Event}
 use Rattle.mp_names.specs.Limits.{most_bytes}
 use Rattle.mp_outside.specs.Files.{Files, file_at, IsThereWith}
+use Rattle.mp_pipe_file.specs.declared.refused.PipeReason.{PipeReason}
+use Rattle.mp_pipe_file.specs.Pipes.{pipe_of}
+use Rattle.mp_pipeline.specs.Pipes.{PipeFacts}
 use Rattle.mp_words.specs.Words.{Asked}
 use Rattle.mp_command.specs.Calls.{ComesOf, IsOfCommand, IsRefusalOf, MayCome, MayEnd, StopsAnswer, files_call_for, unless_refused, with_text}
-use Rattle.mp_command.specs.Config.{shape_of}
+use Rattle.mp_command.specs.declared.flow.Flow.{Flow}
+use Rattle.mp_command.specs.Config.{flow_with, shape_of}
 use Rattle.mp_command.specs.Ends.{IsRefusal}
-use Rattle.mp_command.specs.Inputs.{ConfigFile, EventFile, Found, Input, nothing_found, read_as, with_events, with_settings}
-use Rattle.mp_command.specs.Outcome.{Outcome, Answered, ConfigRefused, EventsRefused, NoMemory, ReadFault, status_of}
+use Rattle.mp_command.specs.Inputs.{ConfigFile, EventFile, Found, Input, PipeFile, nothing_found, read_as, with_events, with_pipe, with_settings}
+use Rattle.mp_command.specs.Outcome.{Outcome, Answered, ConfigRefused, EventsRefused, NoMemory, PipeRefused, ReadFault, status_of}
 use Rattle.mp_command.specs.Queries.{rules_of}
 use Rattle.mp_command.specs.Reading.{CannotRead, IsRead, ReadsAll, ReadsAs, RefusesAs, RefusesOne, absent, failed, large, no_memory}
 
@@ -41,9 +45,16 @@ refusal_of_text EventFile found text o e = either (events_of text) e
     either (Ok events) h = cc
     either (Err bad) h =
         let is : EventsRefused bad.0 bad.1 ≡ o = cc in (bad.0, bad.1, sym is)
-refusal_of_text (ConfigFile flow) found text o e = either (settings_of text (shape_of flow) (rules_of flow.query)) e
+refusal_of_text PipeFile found text o e = either (pipe_of text) e
   where
-    either : (settings : Result SettingsFacts (ℕ × ControlReason)) → with_settings found settings ≡ Err o → IsRefusalOf (ConfigFile flow) o
+    either : (pipe : Result PipeFacts (ℕ × PipeReason)) → with_pipe found pipe ≡ Err o → IsRefusalOf PipeFile o
+    either (Ok pipe) h = cc
+    either (Err bad) h =
+        let is : PipeRefused bad.0 bad.1 ≡ o = cc in (bad.0, bad.1, sym is)
+refusal_of_text (ConfigFile asked) found text o e =
+    let flow : Flow = flow_with asked found.pipe in either (settings_of text (shape_of flow) (rules_of flow.query)) e
+  where
+    either : (settings : Result SettingsFacts (ℕ × ControlReason)) → with_settings found settings ≡ Err o → IsRefusalOf (ConfigFile asked) o
     either (Ok settings) h = cc
     either (Err bad) h =
         let is : ConfigRefused bad.0 bad.1 ≡ o = cc in (bad.0, bad.1, sym is)
@@ -51,7 +62,8 @@ refusal_of_text (ConfigFile flow) found text o e = either (settings_of text (sha
 -- such a refusal has the status of one
 status_of_text : (input : Input) (o : Outcome) → IsRefusalOf input o → IsRefusal (status_of o)
 status_of_text EventFile o (line, why, is) = inr (inl (ap status_of is))
-status_of_text (ConfigFile flow) o (line, why, is) = inr (inr (inl (ap status_of is)))
+status_of_text PipeFile o (line, why, is) = inr (inr (inr (inr (inr (inr (ap status_of is))))))
+status_of_text (ConfigFile asked) o (line, why, is) = inr (inr (inl (ap status_of is)))
 
 -- files that can't be read, or are refused, end the call with a refusal, or for want of memory
 pub refuses_as_refusal : (told : Option Files) (inputs : List (Input × List ℕ)) (before : Found) (o : Outcome) → RefusesOne told inputs before o → IsRefusal (status_of o) ⊎ (o ≡ NoMemory)
@@ -60,7 +72,7 @@ refuses_as_refusal told (input ∷ more) before o (inl (inl cannot)) = go o cann
   where
     go : (o : Outcome) → CannotRead told input.1 o → IsRefusal (status_of o) ⊎ (o ≡ NoMemory)
     go o (absent none) = inl (inr (inr (inr (inl refl))))
-    go o (large bytes) = inl (inr (inr (inr (inr (inr refl)))))
+    go o (large bytes) = inl (inr (inr (inr (inr (inr (inl refl))))))
     go o failed = inl (inr (inr (inr (inr (inl refl)))))
     go o no_memory = inr refl
 refuses_as_refusal told (input ∷ more) before o (inl (inr bad)) = inl (status_of_text input.0 o (refusal_of_text input.0 before bad.0 o bad.2))

@@ -1,6 +1,7 @@
--- The last stage of q1, q2, q3 and q5 gives rows alone.
+-- The last stage of q1, q2, q3 and q5, and of each pipeline, gives rows alone.
 use Rattle.std.specs.Prelude.{ℕ, ◌==◌, ◌%◌, map, Bool, true, false, Option, Some, None, List, [], ◌∷◌, All, IfSome, get_or, if◌then◌else◌}
 use Rattle.std.specs.Option.{is_some, option_map, option_to_list}
+use Rattle.std.proofs.Common.{subst, sym}
 use Rattle.std.proofs.lemmas.List.Elements.{All-append, All-cons, All-map, All-nil}
 use Rattle.mp_model.proofs.Lists.{All-filter_map}
 use Rattle.mp_model.specs.declared.record.Rec.{Rec}
@@ -8,6 +9,8 @@ use Rattle.mp_model.specs.declared.value.Value.{Value}
 use Rattle.mp_model.specs.declared.value.Value.TheVariants.{Person, Auction, Bid, Sale, Count, Row}
 use Rattle.mp_model.specs.Rules.{settled}
 use Rattle.mp_output.specs.Rows.{GivesRows, IsRow}
+use Rattle.mp_pipeline.specs.Laws.{outputs_are_rows}
+use Rattle.mp_pipeline.specs.Pipes.{IsRowOf, pipe_facts, pipe_in}
 use Rattle.mp_q_simple.specs.Bids.{RowFacts, bids_by}
 use Rattle.mp_q_simple.specs.Q1.{q1_facts, q1_rules, row as row_of_q1, rows_with as rows_of_q1}
 use Rattle.mp_q_simple.specs.Q2.{q2_facts, q2_rules, row as row_of_q2, rows_with as rows_of_q2}
@@ -100,3 +103,11 @@ one_of_q5 m (Row fields) = tt
 
 pub q5_gives_rows : (values : List ℕ) → GivesRows (q5_facts values)
 q5_gives_rows values cell e = All-filter_map IsRow (λ r. row_at (greatest_of e.recs) r.value) e.recs (each_of (row_at (greatest_of e.recs)) (one_of_q5 (greatest_of e.recs)) e.recs)
+
+-- pipelines
+
+row_of_pipe : (key : ℕ) (v : Value) → IsRowOf key v → IsRow v
+row_of_pipe key v (value, is) = subst IsRow (sym is) tt
+
+pub pipes_give_rows : (values : List ℕ) → GivesRows (pipe_facts values)
+pipes_give_rows values cell e = λ i d low. row_of_pipe e.key _ (outputs_are_rows (pipe_in values) _ cell e i d low)

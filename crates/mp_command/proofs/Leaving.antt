@@ -1,21 +1,24 @@
 -- What a command has written, and what the files then hold.
-use Rattle.std.proofs.Common.{ℕ, zero, suc, true, ◌≡◌, ◌⊎◌, inl, inr, Option, Some, None, List, [], ◌∷◌, take, refl, sym, ap, ◌∙◌, arith}
-use Rattle.std.specs.Prelude.{All, IfSome, OnSome, is_some, option_map, slice_index_or, ◌≢◌}
+use Rattle.std.proofs.Common.{ℕ, zero, suc, true, ◌≡◌, ◌⊎◌, inl, inr, Option, Some, None, List, [], ◌∷◌, ◌++◌, take, refl, sym, ap, ◌∙◌, arith}
+use Rattle.std.specs.Prelude.{All, IfSome, OnSome, is_some, not, slice_index_or, ◌≢◌}
 use Rattle.std.proofs.lemmas.List.Elements.{All-cons, All-head, All-nil, All-tail}
 use Rattle.std.proofs.lemmas.List.Kept.{AllPairs-cons}
-use denote.Bor.{Bor}
+use Rattle.std.specs.Option.{option_to_list}
+use Rattle.std.specs.Str.{bytes_eq}
+use Rattle.std.proofs.lemmas.Bool.{and_parts, false≢true}
+use Rattle.std.proofs.lemmas.Slice.Eq.{bytes_eq-Decides}
 use Rattle.mp_outside.specs.Files.{Files, file_at, with_file}
 use Rattle.mp_outside.proofs.FileLemmas.{file_at-with_file, file_at-with_file-other, told-with_file}
-use Rattle.mp_words.specs.Limits.{AreWithinLimits, IsApart, IsWithinLimits}
-use Rattle.mp_words.specs.Values.{options_in}
+use Rattle.mp_words.specs.Limits.{AreWithinLimits, IsWithinLimits}
+use Rattle.mp_words.specs.Values.{Options, are_apart, is_among, options_in, read_names}
 use Rattle.mp_words.specs.Words.{Asked, Run, asked_in}
 use Rattle.mp_words.specs.declared.options.Command.{Command}
 use Rattle.mp_words.specs.declared.options.Command.TheVariants as read
 use Rattle.mp_words.specs.declared.options.RunOptions.{RunOptions}
 use Rattle.mp_command.specs.Calls.{StopsAnswer}
 use Rattle.mp_command.specs.Ends.{AreInPart, EndsWith, IsCommandAnsweredInPart, IsDone, IsDoneInPart, IsLeft, IsRefusal, IsSame, IsStop, IsWhole, Leaves}
-use Rattle.mp_command.specs.Outcome.{Outcome, Answered, ConfigRefused, EventsRefused, NoFile, NoMemory, ReadFault, TooLarge, Usage, WriteFault, status_of}
-use Rattle.mp_command.specs.Writing.{AreApart, IsTextOf, Purpose, Report, Target, WritesAll, WritesPart, WritesSome, WritesWhole, report_in, targets_of}
+use Rattle.mp_command.specs.Outcome.{Outcome, Answered, ConfigRefused, EventsRefused, NoFile, NoMemory, PipeRefused, ReadFault, TooLarge, Usage, WriteFault, status_of}
+use Rattle.mp_command.specs.Writing.{AreApart, IsTextOf, Purpose, Report, Target, WritesAll, WritesPart, WritesSome, WritesWhole, answer_at, report_in, targets_of}
 
 -- a target is behind the first of a list, so it has another name; and so is the rest apart
 later : (one : Target) (more : List Target) → AreApart (one ∷ more) → All (λ other. other.name ≢ one.name) more
@@ -89,6 +92,13 @@ module _ (IsText : Purpose → List ℕ → Type 0) where
 makes_apart : (target : Target) → AreApart (target ∷ [])
 makes_apart target = λ i j d less low. absurd (omega (arith, less, low))
 
+-- of names that are apart the second isn't the first
+second_apart : (one other : List ℕ) (more read : List (List ℕ)) → are_apart (one ∷ other ∷ more) read ≡ true → other ≢ one
+second_apart one other more read apart same =
+    let hit : bytes_eq one other ≡ true = (bytes_eq-Decides one other).1 (sym same) in
+    let missed = (and_parts (not (is_among one (other ∷ (more ++ read)))) (are_apart (other ∷ more) read) apart).0 in
+    false≢true (rw hit at missed)
+
 run_apart : (out : Target) (report : Option (List ℕ)) → IfSome report (λ name. name ≢ out.name) → AreApart (out ∷ report_in report)
 run_apart out None apart = makes_apart out
 run_apart out (Some name) apart =
@@ -97,11 +107,13 @@ run_apart out (Some name) apart =
     AllPairs-cons Differs out (report ∷ []) (All-cons (Differs out) report [] apart (All-nil (Differs out))) (makes_apart report)
 
 run_is_apart : (options : RunOptions) → AreWithinLimits options → AreApart (targets_of (Run (options_in options)))
-run_is_apart options within = run_apart _ (options_in options).report (go options.report within.report)
+run_is_apart options within =
+    let asked : Options = options_in options in
+    run_apart (answer_at asked.out) asked.report (go asked.report within.names)
   where
-    go : (report : Option (Bor (List ℕ))) → IfSome report (λ name. IsApart options name.now) → IfSome (option_map (λ name. name.now) report) (λ name. name ≢ options.out.now)
+    go : (report : Option (List ℕ)) → are_apart (options.out.now ∷ option_to_list report) (read_names (options_in options)) ≡ true → IfSome report (λ name. name ≢ options.out.now)
     go None apart = tt
-    go (Some name) apart = apart.out
+    go (Some name) apart = second_apart options.out.now name [] (read_names (options_in options)) apart
 
 pub command_is_apart : (command : Command) → IsWithinLimits command → AreApart (targets_of (asked_in command))
 command_is_apart (read.Run options) within = run_is_apart options within
@@ -119,7 +131,8 @@ status_is (NoFile name) = inr (inr (inr (inr (inr (inl refl)))))
 status_is ReadFault = inr (inr (inr (inr (inr (inr (inl refl))))))
 status_is WriteFault = inr (inl (inl refl))
 status_is NoMemory = inr (inl (inr refl))
-status_is (TooLarge name) = inr (inr (inr (inr (inr (inr (inr refl))))))
+status_is (TooLarge name) = inr (inr (inr (inr (inr (inr (inr (inl refl)))))))
+status_is (PipeRefused line why) = inr (inr (inr (inr (inr (inr (inr (inr refl)))))))
 
 -- a stop is no end and no refusal
 pub no_stop : (code : ℕ) → IsStop code → code ≡ 0 → ⊥
@@ -132,7 +145,8 @@ no_refusal code (inr (inl e)) done = omega (arith, e, done)
 no_refusal code (inr (inr (inl e))) done = omega (arith, e, done)
 no_refusal code (inr (inr (inr (inl e)))) done = omega (arith, e, done)
 no_refusal code (inr (inr (inr (inr (inl e))))) done = omega (arith, e, done)
-no_refusal code (inr (inr (inr (inr (inr e))))) done = omega (arith, e, done)
+no_refusal code (inr (inr (inr (inr (inr (inl e)))))) done = omega (arith, e, done)
+no_refusal code (inr (inr (inr (inr (inr (inr e)))))) done = omega (arith, e, done)
 
 other : (code n : ℕ) → IsStop code → code ≡ n → (n ≡ 7 → ⊥) → (n ≡ 8 → ⊥) → ⊥
 other code n (inl e) is no_seven no_eight = no_seven (sym is ∙ e)
@@ -144,7 +158,8 @@ no_both code stop (inr (inl e)) = other code 3 stop e (λ h. omega (arith, h)) (
 no_both code stop (inr (inr (inl e))) = other code 4 stop e (λ h. omega (arith, h)) (λ h. omega (arith, h))
 no_both code stop (inr (inr (inr (inl e)))) = other code 5 stop e (λ h. omega (arith, h)) (λ h. omega (arith, h))
 no_both code stop (inr (inr (inr (inr (inl e))))) = other code 6 stop e (λ h. omega (arith, h)) (λ h. omega (arith, h))
-no_both code stop (inr (inr (inr (inr (inr e))))) = other code 9 stop e (λ h. omega (arith, h)) (λ h. omega (arith, h))
+no_both code stop (inr (inr (inr (inr (inr (inl e)))))) = other code 9 stop e (λ h. omega (arith, h)) (λ h. omega (arith, h))
+no_both code stop (inr (inr (inr (inr (inr (inr e)))))) = other code 12 stop e (λ h. omega (arith, h)) (λ h. omega (arith, h))
 
 -- What a command leaves
 

@@ -1,3 +1,4 @@
+mod Behind
 pub mod Came
 pub mod Codes
 pub mod Coming

@@ -1,10 +1,12 @@
 -- The control records and the memory of a demo.
-use Rattle.std.proofs.Common.{◌≡◌, ◌+◌, ◌*◌, ◌<◌, ◌≤◌, ◌++◌, ℕ, zero, suc, Option, Some, None, List, [], inl, inr, map, ap, sym, ◌∙◌, arith}
+use Rattle.std.proofs.Common.{◌≡◌, ◌+◌, ◌*◌, ◌<◌, ◌≤◌, ◌++◌, ℕ, zero, suc, Option, Some, None, List, [], length, inl, inr, map, ap, sym, ◌∙◌, arith}
 use Rattle.std.specs.Prelude.{All}
 use Rattle.std.specs.List.{range_with_len}
 use Rattle.std.specs.Option.{option_copied}
 use denote.Bor.{Bor}
+use Rattle.std.specs.Prelude.{nat_lt}
 use Rattle.std.proofs.Math.Nat.{mod-lt}
+use Rattle.std.proofs.lemmas.Bool.{and_parts, ltb-true}
 use Rattle.std.proofs.lemmas.List.Elements.{All-append, All-cons, All-nil}
 use Rattle.mp_job.specs.Legal.{ControlFits}
 use Rattle.mp_model.specs.declared.record.Event.{Event}
@@ -14,12 +16,15 @@ use Rattle.mp_names.specs.Limits.{greatest_time}
 use Rattle.mp_outside.specs.Fault.{Rose}
 use Rattle.mp_outside.specs.Files.{Files, file_at, with_file}
 use Rattle.mp_outside.proofs.FileLemmas.{file_at-with_file}
+use Rattle.mp_pipeline.specs.Pipes.{may_stand}
 use Rattle.mp_plans.specs.Plans.{all_at_once_records, fluid_records, planned}
 use Rattle.mp_words.specs.declared.options.QueryName.{QueryName}
 use Rattle.mp_words.specs.declared.options.QueryName.TheVariants.{Q1, Q2, Q3, Q4, Q5, Q6, Q7, Q8}
 use Rattle.mp_command.specs.Calls.{StopsAnswer}
 use Rattle.mp_command.specs.Outcome.{Outcome, NoMemory, status_of}
-use Rattle.mp_command.specs.Queries.{answer_of, rules_of, stages_of}
+use Rattle.mp_command.specs.declared.flow.FlowQuery.{FlowQuery}
+use Rattle.mp_command.specs.declared.flow.FlowQuery.TheVariants.{Named, Piped}
+use Rattle.mp_command.specs.Queries.{IsSound, answer_of, rules_of, stages_of}
 
 -- a fact of the item of each index below a bound is one of each item of a list made from these
 all_made : {X : Type 0} (P : X → Type 0) (f : ℕ → X) (a n : ℕ) → ((k : ℕ) → a ≤ k → k < a + n → P (f k)) → All P (map f (range_with_len a n))
@@ -44,15 +49,19 @@ two_moves_fit shape some few stages =
     (planned_fit shape 2 (λ bin. 1200 + bin * 30) some stages (λ bin low. omega (arith, low, few)))
 
 -- each query has a stage
-pub some_stages : (query : QueryName) → 0 < stages_of query
-some_stages Q1 = omega arith
-some_stages Q2 = omega arith
-some_stages Q3 = omega arith
-some_stages Q4 = omega arith
-some_stages Q5 = omega arith
-some_stages Q6 = omega arith
-some_stages Q7 = omega arith
-some_stages Q8 = omega arith
+stages_of_name : (name : QueryName) → 0 < stages_of (Named name)
+stages_of_name Q1 = omega arith
+stages_of_name Q2 = omega arith
+stages_of_name Q3 = omega arith
+stages_of_name Q4 = omega arith
+stages_of_name Q5 = omega arith
+stages_of_name Q6 = omega arith
+stages_of_name Q7 = omega arith
+stages_of_name Q8 = omega arith
+
+pub some_stages : (query : FlowQuery) → IsSound query → 0 < stages_of query
+some_stages (Named name) sound = stages_of_name name
+some_stages (Piped pipe) sound = ltb-true _ _ (and_parts (nat_lt 0 (length pipe.lines)) (may_stand pipe.lines) sound).0
 
 -- where no write is counted as failed, none failed
 pub only_memory : (o : Outcome) → StopsAnswer o → (status_of o ≡ 7 → Rose 0 0) → o ≡ NoMemory
@@ -74,9 +83,9 @@ copied_some o x text is held =
     cc
 
 -- the text of a demo's answer
-pub demo_text : (query asked : QueryName) (values text : List ℕ) (events made : List Event) → text ≡ answer_of query values events → values ≡ given_values (rules_of query) → query ≡ asked → events ≡ made
+pub demo_text : (query asked : FlowQuery) (values text : List ℕ) (events made : List Event) → text ≡ answer_of query values events → values ≡ given_values (rules_of query) → query ≡ asked → events ≡ made
     → text ≡ answer_of asked (given_values (rules_of asked)) made
 demo_text query asked values text events made is given same all =
     is ∙ ap (λ (vs : List ℕ). answer_of query vs events) given
-    ∙ ap (λ (q : QueryName). answer_of q (given_values (rules_of q)) events) same
+    ∙ ap (λ (q : FlowQuery). answer_of q (given_values (rules_of q)) events) same
     ∙ ap (λ (es : List Event). answer_of asked (given_values (rules_of asked)) es) all

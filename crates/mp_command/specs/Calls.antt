@@ -3,11 +3,12 @@ use Rattle.std.specs.Prelude.{ℕ, ◌≡◌, ◌≢◌, ◌⊎◌, Option, Some
 use Rattle.mp_control.specs.declared.refused.ControlReason.{ControlReason}
 use Rattle.mp_events.specs.declared.refused.EventsReason.{EventsReason}
 use Rattle.mp_names.specs.Limits.{most_bytes}
+use Rattle.mp_pipe_file.specs.declared.refused.PipeReason.{PipeReason}
 use Rattle.mp_outside.specs.Files.{Files, file_at}
 use Rattle.mp_words.specs.Words.{Asked}
-use Rattle.mp_command.specs.Inputs.{Found, Input, ConfigFile, EventFile, inputs_of, nothing_found, read_as}
+use Rattle.mp_command.specs.Inputs.{Found, Input, ConfigFile, EventFile, PipeFile, inputs_of, nothing_found, read_as}
 use Rattle.mp_command.specs.Lines.{line_after}
-use Rattle.mp_command.specs.Outcome.{Outcome, Answered, ConfigRefused, EventsRefused, NoFile, NoMemory, ReadFault, TooLarge, Usage, WriteFault, status_of}
+use Rattle.mp_command.specs.Outcome.{Outcome, Answered, ConfigRefused, EventsRefused, NoFile, NoMemory, PipeRefused, ReadFault, TooLarge, Usage, WriteFault, status_of}
 
 -- what comes of a named file: it isn't there, it is larger than is allowed, or it has a text
 abbrev pub with_text : List ℕ → Option (List ℕ) → (List ℕ → Outcome) → Outcome
@@ -48,6 +49,7 @@ StopsAnswer outcome = (outcome ≡ WriteFault) ⊎ (outcome ≡ NoMemory)
 -- the text of an input is refused so
 abbrev pub IsRefusalOf : Input → Outcome → Type 0
 IsRefusalOf EventFile outcome = (line : ℕ) × (why : EventsReason) × (outcome ≡ EventsRefused line why)
+IsRefusalOf PipeFile outcome = (line : ℕ) × (why : PipeReason) × (outcome ≡ PipeRefused line why)
 IsRefusalOf (ConfigFile flow) outcome = (line : ℕ) × (why : ControlReason) × (outcome ≡ ConfigRefused line why)
 
 -- what may come of one of the files that are read, whatever they hold, in place of a line

@@ -1,39 +1,61 @@
 -- The dataflow and the job that a command asks for.
-use Rattle.std.specs.Prelude.{◌≡◌, ◌++◌, true, List, []}
+use Rattle.std.specs.Prelude.{ℕ, ◌≡◌, ◌++◌, true, List, []}
 use Rattle.mp_control.specs.Settings.{SettingsFacts}
 use Rattle.mp_job.specs.Legal.{ControlsFit, FirstsFit}
 use Rattle.mp_job.specs.Parts.{job_of}
 use Rattle.mp_model.specs.declared.record.Event.{Event}
 use Rattle.mp_model.specs.Facts.{JobFacts}
-use Rattle.mp_model.specs.Rules.{are_within, given_values}
+use Rattle.mp_model.specs.Rules.{RuleFacts, are_within, given_values}
 use Rattle.mp_names.specs.declared.controls.Control.{Control}
 use Rattle.mp_names.specs.declared.controls.Shape.{Shape}
+use Rattle.mp_pipeline.specs.Pipes.{PipeFacts}
 use Rattle.mp_plans.specs.Plans.{all_at_once_records, fluid_records}
-use Rattle.mp_words.specs.Values.{CheckAsked, Options}
+use Rattle.mp_words.specs.declared.options.DemoOptions.{DemoOptions}
+use Rattle.mp_words.specs.Values.{CheckAsked, Options, QueryAsked}
 use Rattle.mp_command.specs.declared.flow.Flow.{Flow}
-use Rattle.mp_command.specs.Queries.{rules_of, stages_of}
+use Rattle.mp_command.specs.declared.flow.FlowQuery.TheVariants.{Named}
+use Rattle.mp_command.specs.Queries.{query_numbers, query_with, rules_of, stages_of}
 
 -- the shape of a dataflow's jobs
 abbrev pub shape_of : Flow → Shape
 shape_of flow = record { workers = flow.workers; bins = flow.bins; stages = stages_of flow.query }
 
--- the dataflow that `run` or `replay` asks for
-abbrev pub flow_of : Options → Flow
+-- a dataflow that is asked for, before the file of a pipeline is read
+pub record FlowAsked : Type 0 where
+  pub query : QueryAsked
+  pub workers : ℕ
+  pub bins : ℕ
+
+-- the one that `run` or `replay` asks for
+abbrev pub flow_of : Options → FlowAsked
 flow_of asked = record { query = asked.query; workers = asked.workers; bins = asked.bins }
 
 -- that which `check` asks for
-abbrev pub flow_to_check : CheckAsked → Flow
+abbrev pub flow_to_check : CheckAsked → FlowAsked
 flow_to_check asked = record { query = asked.query; workers = asked.workers; bins = asked.bins }
 
--- the first owners are of different bins, the values within their rules, and the control records of its shape
-pub record SettingsFit (flow : Flow) (settings : SettingsFacts) : Type 0 where
-  pub firsts : FirstsFit (shape_of flow) settings.firsts
-  pub values : are_within (rules_of flow.query) settings.values ≡ true
-  pub controls : ControlsFit (shape_of flow) settings.controls
+-- the dataflow with the pipeline that was read, where it asks for one
+abbrev pub flow_with : FlowAsked → PipeFacts → Flow
+flow_with asked pipe = record { query = query_with asked.query pipe; workers = asked.workers; bins = asked.bins }
+
+-- the dataflow that a demo asks for
+abbrev pub flow_to_show : DemoOptions → Flow
+flow_to_show asked = record { query = Named asked.query; workers = asked.workers; bins = asked.bins }
+
+-- the first owners are of different bins of the shape, the values within the rules, and the control records of the shape
+pub record SettingsFit (shape : Shape) (rules : List RuleFacts) (settings : SettingsFacts) : Type 0 where
+  pub firsts : FirstsFit shape settings.firsts
+  pub values : are_within rules settings.values ≡ true
+  pub controls : ControlsFit shape settings.controls
+
+-- the same of the shape and the rules of a dataflow
+abbrev pub SettingsFitFlow : Flow → SettingsFacts → Type 0
+SettingsFitFlow flow settings = SettingsFit (shape_of flow) (rules_of flow.query) settings
 
 -- the job of a dataflow with these events and settings
 abbrev pub job_asked : Flow → List Event → SettingsFacts → JobFacts
-job_asked flow events settings = job_of settings.values events settings.controls (shape_of flow) settings.firsts
+job_asked flow events settings =
+    job_of (query_numbers flow.query settings.values) events settings.controls (shape_of flow) settings.firsts
 
 -- the control records of a demo: every bin of the first stage moves at 600, and then one after the other from 1200 on
 abbrev pub demo_controls : Shape → List Control

@@ -46,7 +46,7 @@ IsDoneInPart old new asked =
 -- the statuses at which the files are as they were
 abbrev pub IsRefusal : ℕ → Type 0
 IsRefusal code =
-    (code ≡ 2) ⊎ ((code ≡ 3) ⊎ ((code ≡ 4) ⊎ ((code ≡ 5) ⊎ ((code ≡ 6) ⊎ (code ≡ 9)))))
+    (code ≡ 2) ⊎ ((code ≡ 3) ⊎ ((code ≡ 4) ⊎ ((code ≡ 5) ⊎ ((code ≡ 6) ⊎ ((code ≡ 9) ⊎ (code ≡ 12))))))
 
 -- the statuses at which a part may be written
 abbrev pub IsStop : ℕ → Type 0

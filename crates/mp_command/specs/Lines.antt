@@ -6,6 +6,7 @@ use Rattle.mp_make.specs.Summary.{summary_of}
 use Rattle.mp_model.specs.Rules.{given_values}
 use Rattle.mp_words.specs.declared.options.DemoOptions.{DemoOptions}
 use Rattle.mp_words.specs.Words.{Asked, Run, Check, Make, Demo}
+use Rattle.mp_command.specs.declared.flow.FlowQuery.TheVariants.{Named}
 use Rattle.mp_command.specs.Inputs.{Found}
 use Rattle.mp_command.specs.Queries.{answer_of, rules_of}
 
@@ -19,7 +20,9 @@ answer_name = codes "answer"
 
 -- the summary of the one-thread answer to the events that a demo makes, with the given values of the query's rules
 abbrev pub demo_line : DemoOptions → List ℕ
-demo_line asked = summary_of asked.count (answer_of asked.query (given_values (rules_of asked.query)) (made_events asked.count asked.seed))
+demo_line asked =
+    let query = Named asked.query in
+    summary_of asked.count (answer_of query (given_values (rules_of query)) (made_events asked.count asked.seed))
 
 -- the line that is said where all is done, by what was read; `run`, `replay` and `make` say nothing
 abbrev pub line_after : Asked → Found → List ℕ

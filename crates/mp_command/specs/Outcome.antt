@@ -5,6 +5,8 @@ use Rattle.mp_control.specs.declared.refused.ControlReason.{ControlReason}
 use Rattle.mp_control.specs.Reasons.{reason_text as text_of_control}
 use Rattle.mp_events.specs.declared.refused.EventsReason.{EventsReason}
 use Rattle.mp_events.specs.Reasons.{reason_text}
+use Rattle.mp_pipe_file.specs.declared.refused.PipeReason.{PipeReason}
+use Rattle.mp_pipe_file.specs.Reasons.{reason_text as text_of_pipe}
 
 -- how a call can end: all is done, and this line is said; or a refusal
 pub data Outcome : Type 0 where
@@ -17,6 +19,7 @@ pub data Outcome : Type 0 where
   WriteFault : Outcome
   NoMemory : Outcome
   TooLarge : (name : List ℕ) → Outcome
+  PipeRefused : (line : ℕ) (why : PipeReason) → Outcome
 
 -- the status of the process
 abbrev pub status_of : Outcome → ℕ
@@ -29,6 +32,7 @@ status_of ReadFault = 6
 status_of WriteFault = 7
 status_of NoMemory = 8
 status_of (TooLarge name) = 9
+status_of (PipeRefused line why) = 12
 
 -- the line that is said, with its line feed
 abbrev pub line_said : Outcome → List ℕ
@@ -43,9 +47,12 @@ line_said ReadFault = codes "read fault\n"
 line_said WriteFault = codes "write fault\n"
 line_said NoMemory = codes "no memory\n"
 line_said (TooLarge name) = codes "too large: " ++ (name ++ codes "\n")
+line_said (PipeRefused line why) =
+    codes "pipe line " ++ (decimal line ++ (codes ": " ++ (text_of_pipe why ++ codes "\n")))
 
 -- the number of the line that is spoken of, and 0 where none is
 abbrev pub number_in : Outcome → ℕ
 number_in (EventsRefused line why) = line
 number_in (ConfigRefused line why) = line
+number_in (PipeRefused line why) = line
 number_in _ = 0

@@ -1,9 +1,10 @@
--- The queries that the command line names.
-use Rattle.std.specs.Prelude.{ℕ, Option, List, []}
+-- The queries that the command line names, and pipelines as their files say them.
+use Rattle.std.specs.Prelude.{ℕ, ◌≡◌, true, Option, List, []}
 use Rattle.mp_model.specs.declared.record.Event.{Event}
 use Rattle.mp_model.specs.Answers.{one_thread_answer}
 use Rattle.mp_model.specs.Facts.{QueryFacts}
 use Rattle.mp_model.specs.Rules.{RuleFacts, given_values}
+use Rattle.mp_pipeline.specs.Pipes.{PipeFacts, are_sound, numbers_of, pipe_table}
 use Rattle.mp_q_simple.specs.declared.bids.Nothing.{Nothing}
 use Rattle.mp_q_simple.specs.Q1.{q1_facts, q1_rules}
 use Rattle.mp_q_simple.specs.Q2.{q2_facts, q2_rules}
@@ -19,6 +20,10 @@ use Rattle.mp_q_window.specs.Q5.{q5_facts, q5_rules}
 use Rattle.mp_q_window.specs.Q7.{q7_facts, q7_rules}
 use Rattle.mp_words.specs.declared.options.QueryName.{QueryName}
 use Rattle.mp_words.specs.declared.options.QueryName.TheVariants.{Q1, Q2, Q3, Q4, Q5, Q6, Q7, Q8}
+use Rattle.mp_words.specs.Values.{QueryAsked}
+use Rattle.mp_words.specs.Values as asked
+use Rattle.mp_command.specs.declared.flow.FlowQuery.{FlowQuery}
+use Rattle.mp_command.specs.declared.flow.FlowQuery.TheVariants.{Named, Piped}
 
 -- a query: what it keeps of a key, the rules that a configuration may set, and its table by their values
 pub record SomeQuery : Type 1 where
@@ -27,24 +32,44 @@ pub record SomeQuery : Type 1 where
   pub facts : List ℕ → QueryFacts Cell
 
 -- the query of a name
-abbrev pub query_of : QueryName → SomeQuery
-query_of Q1 = record { Cell = Nothing; rules = q1_rules; facts = q1_facts }
-query_of Q2 = record { Cell = Nothing; rules = q2_rules; facts = q2_facts }
-query_of Q3 = record { Cell = PersonCell; rules = q3_rules; facts = q3_facts }
-query_of Q4 = record { Cell = AuctionCell PriceSum; rules = []; facts = q4_facts }
-query_of Q5 = record { Cell = List ℕ; rules = q5_rules; facts = q5_facts }
-query_of Q6 = record { Cell = AuctionCell (List ℕ); rules = q6_rules; facts = q6_facts }
-query_of Q7 = record { Cell = Option Offer; rules = q7_rules; facts = q7_facts }
-query_of Q8 = record { Cell = Selling; rules = q8_rules; facts = q8_facts }
+abbrev pub query_named : QueryName → SomeQuery
+query_named Q1 = record { Cell = Nothing; rules = q1_rules; facts = q1_facts }
+query_named Q2 = record { Cell = Nothing; rules = q2_rules; facts = q2_facts }
+query_named Q3 = record { Cell = PersonCell; rules = q3_rules; facts = q3_facts }
+query_named Q4 = record { Cell = AuctionCell PriceSum; rules = []; facts = q4_facts }
+query_named Q5 = record { Cell = List ℕ; rules = q5_rules; facts = q5_facts }
+query_named Q6 = record { Cell = AuctionCell (List ℕ); rules = q6_rules; facts = q6_facts }
+query_named Q7 = record { Cell = Option Offer; rules = q7_rules; facts = q7_facts }
+query_named Q8 = record { Cell = Selling; rules = q8_rules; facts = q8_facts }
 
--- its rules
-abbrev pub rules_of : QueryName → List RuleFacts
-rules_of name = (query_of name).rules
+-- the query of a dataflow: that of a name, or a pipeline, which has no rules, with the table of its own lines
+abbrev pub query_of : FlowQuery → SomeQuery
+query_of (Named name) = query_named name
+query_of (Piped pipe) = record { Cell = Option ℕ; rules = []; facts = λ values. pipe_table pipe }
+
+-- the query that is asked for; where that is a pipeline, the one that its file says
+abbrev pub query_with : QueryAsked → PipeFacts → FlowQuery
+query_with (asked.Named name) pipe = Named name
+query_with (asked.Piped file) pipe = Piped pipe
+
+-- the lines of a pipeline may stand so
+abbrev pub IsSound : FlowQuery → Type 0
+IsSound (Named name) = Unit {0}
+IsSound (Piped pipe) = are_sound pipe.lines ≡ true
+
+-- the rules of a query
+abbrev pub rules_of : FlowQuery → List RuleFacts
+rules_of query = (query_of query).rules
+
+-- the numbers that tell it apart from others of its type: the values of its rules, or those of a pipeline's lines
+abbrev pub query_numbers : FlowQuery → List ℕ → List ℕ
+query_numbers (Named name) values = values
+query_numbers (Piped pipe) values = numbers_of pipe
 
 -- how many stages it has, whatever the values of its rules
-abbrev pub stages_of : QueryName → ℕ
-stages_of name = let query = query_of name in (query.facts (given_values query.rules)).stages
+abbrev pub stages_of : FlowQuery → ℕ
+stages_of query = let some = query_of query in (some.facts (given_values some.rules)).stages
 
--- the one-thread answer to events of the query of this name, with these values of its rules
-abbrev pub answer_of : QueryName → List ℕ → List Event → List ℕ
-answer_of name values events = let query = query_of name in one_thread_answer (query.facts values) events
+-- its one-thread answer to events, with these values of its rules
+abbrev pub answer_of : FlowQuery → List ℕ → List Event → List ℕ
+answer_of query values events = let some = query_of query in one_thread_answer (some.facts values) events

@@ -9,7 +9,7 @@ use Rattle.mp_outside.specs.declared.fault.Fault.TheVariants as fault
 use Rattle.mp_command.specs.declared.refusal.Refusal.{Refusal}
 use Rattle.mp_command.specs.declared.refusal.Refusal.TheVariants as refusal
 use Rattle.mp_command.specs.Outcome.{Outcome, Answered, Usage, EventsRefused, ConfigRefused, NoFile, ReadFault}
-use Rattle.mp_command.specs.Outcome.{WriteFault, NoMemory, TooLarge, line_said, status_of}
+use Rattle.mp_command.specs.Outcome.{WriteFault, NoMemory, PipeRefused, TooLarge, line_said, status_of}
 
 -- how a call ends with this refusal
 abbrev pub outcome_of : Refusal → Outcome
@@ -21,6 +21,7 @@ outcome_of refusal.ReadFault = ReadFault
 outcome_of refusal.WriteFault = WriteFault
 outcome_of refusal.NoMemory = NoMemory
 outcome_of (refusal.TooLarge name) = TooLarge name.now
+outcome_of (refusal.PipeRefused line why) = PipeRefused line why
 
 -- how a call ends with this line, or with this refusal
 abbrev pub outcome_in : Result (Vec ℕ Global) Refusal → Outcome

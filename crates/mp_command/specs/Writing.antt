@@ -10,7 +10,9 @@ use Rattle.mp_outside.specs.Files.{Files, with_file}
 use Rattle.mp_report.specs.Report.{IsReport}
 use Rattle.mp_words.specs.Values.{MakeAsked}
 use Rattle.mp_words.specs.Words.{Asked, Run, Check, Make, Demo}
-use Rattle.mp_command.specs.Config.{flow_of, job_asked}
+use Rattle.mp_control.specs.Settings.{SettingsFacts}
+use Rattle.mp_command.specs.declared.flow.Flow.{Flow}
+use Rattle.mp_command.specs.Config.{flow_of, flow_with, job_asked}
 use Rattle.mp_command.specs.Inputs.{Found, inputs_of, nothing_found}
 use Rattle.mp_command.specs.Queries.{query_of}
 use Rattle.mp_command.specs.Reading.{ReadsAll}
@@ -60,12 +62,15 @@ IsTextOfJob q job Answer text = text ≡ one_thread_answer q job.events
 IsTextOfJob q job Report text = IsReport q job text
 IsTextOfJob q job MadeEvents text = ⊥
 
--- the text that a command writes for a purpose, by what it has read: a run writes that of the job of the events and the settings, by the
--- query's table with the values of the configuration
+-- the text that a run of a dataflow writes for a purpose: that of the job of the events and the settings, by the query's table with the values
+-- of the configuration
+abbrev pub IsTextOfFlow : Flow → List Event → SettingsFacts → Purpose → List ℕ → Type 0
+IsTextOfFlow flow events settings purpose text =
+    IsTextOfJob ((query_of flow.query).facts settings.values) (job_asked flow events settings) purpose text
+
+-- the text that a command writes for a purpose, by what it has read
 abbrev pub IsTextOf : Asked → Found → Purpose → List ℕ → Type 0
-IsTextOf (Run asked) found purpose text =
-    let query = query_of asked.query in
-    IsTextOfJob (query.facts found.settings.values) (job_asked (flow_of asked) found.events found.settings) purpose text
+IsTextOf (Run asked) found purpose text = IsTextOfFlow (flow_with (flow_of asked) found.pipe) found.events found.settings purpose text
 IsTextOf (Make asked) found MadeEvents text = text ≡ made_file asked
 IsTextOf _ found purpose text = ⊥
 

@@ -14,7 +14,7 @@ use mp_text::put_number;
 use mp_words::CheckOptions;
 use std::alloc::{AllocError, Global};
 
-/// Reads an event file and a configuration: the line that says how many events and control records they have.
+/// Reads an event file, a pipeline where one is asked for, and a configuration: the line that says how many events and control records they have.
 /// The refusals are those of a run; no write can fail.
 pub fn check<'a, D: Depot>(
     alloc: Global,
@@ -28,7 +28,8 @@ pub fn check<'a, D: Depot>(
         (D.files depot.old) (D.files depot.new) }
 {
     let read = read_inputs(alloc, depot, &InputFiles::of_check(options))?;
-    Ok(ok_line(alloc, read.events.len(), read.settings.controls.len())?)
+    let parts = read.parts;
+    Ok(ok_line(alloc, parts.events.len(), parts.settings.controls.len())?)
 }
 
 /// The line of files that have so many events and control records.

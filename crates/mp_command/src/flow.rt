@@ -1,22 +1,32 @@
-//! The dataflow that a command asks for: its shape and the rules of its query.
+//! The dataflow that a command asks for: its query, its shape and the rules of the query.
 ghost use Rattle.std.specs.Prelude.{◌≡◌};
-ghost use Rattle.mp_words.specs.Values.{check_in, options_in};
-ghost use Rattle.mp_command.specs.Config.{flow_of, flow_to_check, shape_of};
-ghost use Rattle.mp_command.specs.Queries.{rules_of, stages_of};
+ghost use Rattle.mp_command.specs.Config.{flow_to_show, shape_of};
+ghost use Rattle.mp_command.specs.Queries.{IsSound, query_named, rules_of, stages_of};
+ghost use Rattle.mp_model.specs.Rules.{given_values};
 
 use mp_job::Shape;
 use mp_model::{Query, RuleList};
+use mp_pipe_file::Pipe;
 use mp_q_auction::{Q4, Q6};
 use mp_q_join::{Q3, Q8};
 use mp_q_simple::{Q1, Q2};
 use mp_q_window::{Q5, Q7};
-use mp_words::{CheckOptions, QueryName, RunOptions};
+use mp_words::{DemoOptions, QueryName};
+
+/// The query of a dataflow.
+#[derive(Drop)]
+pub enum FlowQuery {
+    /// That of a name.
+    Named(QueryName),
+    /// A pipeline, as its file says it.
+    Piped(Pipe),
+}
 
 /// A dataflow that is asked for.
-#[derive(Clone, Copy)]
+#[derive(Drop)]
 pub struct Flow {
     /// Its query.
-    pub query: QueryName,
+    pub query: FlowQuery,
     /// How many workers run it.
     pub workers: u32,
     /// Into how many bins the keys of a stage are cut.
@@ -24,44 +34,35 @@ pub struct Flow {
 }
 
 impl Flow {
-    /// That of `run` or `replay`.
-    pub fn of_run(options: &RunOptions) -> Flow
-        ensures { result ≡ flow_of (options_in options.now) }
+    /// That of `demo`.
+    pub fn of_demo(options: &DemoOptions) -> Flow
+        ensures { result ≡ flow_to_show options.now }
     {
         Flow {
-            query: options.query,
+            query: FlowQuery::Named(options.query),
             workers: options.workers,
             bins: options.bins,
         }
     }
 
-    /// That of `check`.
-    pub fn of_check(options: &CheckOptions) -> Flow
-        ensures { result ≡ flow_to_check (check_in options.now) }
-    {
-        Flow {
-            query: options.query,
-            workers: options.workers,
-            bins: options.bins,
-        }
-    }
-
-    /// The shape of its jobs.
-    pub fn shape(self) -> Shape
-        ensures { result ≡ shape_of self }
+    /// The shape of its jobs. A pipeline has one to four stages, with windows in the first alone.
+    pub fn shape(&self) -> Shape
+        requires { IsSound self.now.query }
+        ensures { result ≡ shape_of self.now }
     {
         Shape {
             workers: self.workers,
             bins: self.bins,
-            stages: plan_of(self.query).stages,
+            stages: self.query.plan().stages,
         }
     }
 
-    /// The rules of its query.
-    pub fn rules(self) -> RuleList
-        ensures { result ≡ rules_of self.query }
+    /// The rules of its query. A pipeline is as above.
+    pub fn rules(&self) -> RuleList
+        requires { IsSound self.now.query }
+        ensures { result ≡ rules_of self.now.query }
     {
-        plan_of(self.query).rules
+        self.query.plan().rules
     }
 }
 
@@ -72,10 +73,24 @@ struct QueryPlan {
     rules: RuleList,
 }
 
+impl FlowQuery {
+    // Its plan.
+    fn plan(&self) -> QueryPlan
+        requires { IsSound self.now }
+        ensures stages { result.stages ≡ stages_of self.now }
+        ensures rules { result.rules ≡ rules_of self.now }
+    {
+        match self {
+            FlowQuery::Named(name) => plan_of(*name),
+            FlowQuery::Piped(pipe) => plan_for(pipe),
+        }
+    }
+}
+
 /// The plan of the query of this name.
 fn plan_of(name: QueryName) -> QueryPlan
-    ensures stages { result.stages ≡ stages_of name }
-    ensures rules { result.rules ≡ rules_of name }
+    ensures stages { let query = query_named name in result.stages ≡ (query.facts (given_values query.rules)).stages }
+    ensures rules { result.rules ≡ (query_named name).rules }
 {
     match name {
         QueryName::Q1 => plan_for(&Q1::given()),

@@ -15,9 +15,9 @@ mod samples;
 mod status;
 
 pub use checking::check;
-pub use flow::Flow;
+pub use flow::{Flow, FlowQuery};
 pub use making::make;
-pub use reading::{InputFiles, Inputs, read_inputs};
+pub use reading::{InputFiles, Inputs, JobParts, read_inputs};
 pub use refusal::Refusal;
 pub use reporting::report_to;
 pub use samples::{ANSWER, demo_settings, run_in_memory};

@@ -10,6 +10,7 @@ ghost use Rattle.mp_command.specs.Refused.{line_of, outcome_of};
 use mp_control::ControlReason;
 use mp_events::EventsReason;
 use mp_outside::{Fault, Sink, write_piece};
+use mp_pipe_file::PipeReason;
 
 /// Why a command gives no answer.
 #[derive(Clone, Copy)]
@@ -30,6 +31,8 @@ pub enum Refusal<'a> {
     NoMemory,
     /// The file of this name has more bytes than are allowed.
     TooLarge(&'a str),
+    /// The pipeline's file has a first bad line, or ends without a stage.
+    PipeRefused { line: u64, why: PipeReason },
 }
 
 impl<'a> Refusal<'a> {
@@ -46,6 +49,7 @@ impl<'a> Refusal<'a> {
             Refusal::WriteFault => 7,
             Refusal::NoMemory => 8,
             Refusal::TooLarge(_) => 9,
+            Refusal::PipeRefused { .. } => 12,
         }
     }
 
@@ -56,6 +60,7 @@ impl<'a> Refusal<'a> {
         match self {
             Refusal::EventsRefused { line, .. } => *line,
             Refusal::ConfigRefused { line, .. } => *line,
+            Refusal::PipeRefused { line, .. } => *line,
             _ => 0,
         }
     }
@@ -75,6 +80,7 @@ impl<'a> Refusal<'a> {
             Refusal::WriteFault => ("write fault", "", "", ""),
             Refusal::NoMemory => ("no memory", "", "", ""),
             Refusal::TooLarge(name) => ("too large: ", *name, "", ""),
+            Refusal::PipeRefused { why, .. } => ("pipe line ", digits, ": ", why.text()),
         }
     }
 

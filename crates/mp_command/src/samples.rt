@@ -1,8 +1,9 @@
 //! What a demo runs: its options and its settings.
-ghost use Rattle.std.specs.Prelude.{◌≡◌, ◌<◌, ◌≤◌, IfErr, IfOk, None};
+ghost use Rattle.std.specs.Prelude.{◌≡◌, ◌<◌, ◌≤◌, false, IfErr, IfOk, None};
 ghost use Rattle.mp_control.specs.Settings.{settings_in};
 ghost use Rattle.mp_job.specs.Legal.{ControlsFit};
-ghost use Rattle.mp_command.specs.Config.{SettingsFit, demo_controls, demo_settings};
+ghost use Rattle.mp_command.specs.Config.{SettingsFitFlow, demo_controls, demo_settings};
+ghost use Rattle.mp_command.specs.Queries.{IsSound};
 ghost use Rattle.mp_words.specs.Limits.{AreWithinLimits, DemoIsWithinLimits};
 ghost use Rattle.mp_command.specs.Lines.{answer_name};
 ghost use Rattle.mp_command.specs.Outcome.{NoMemory};
@@ -12,7 +13,7 @@ use crate::flow::Flow;
 use crate::refusal::Refusal;
 use mp_control::{Settings, Shape, ValueList};
 use mp_plans::{Control, all_at_once, fluid};
-use mp_words::{DemoOptions, RunOptions, Schedule};
+use mp_words::{DemoOptions, QueryOption, RunOptions, Schedule};
 use std::alloc::Global;
 
 /// The name that a demo writes its answer to, in memory.
@@ -22,15 +23,16 @@ pub const ANSWER: &str = "answer";
 pub fn run_in_memory(options: &DemoOptions) -> RunOptions<'static>
     requires { DemoIsWithinLimits options.now }
     ensures within { AreWithinLimits result }
-    ensures query { result.query ≡ options.now.query }
+    ensures query { result.query ≡ QueryOption.Named options.now.query }
     ensures size { (result.workers ≡ options.now.workers) × (result.bins ≡ options.now.bins)
         × (result.depth ≡ options.now.depth) }
     ensures schedule { result.schedule ≡ Schedule.Threads }
+    ensures paced { result.paced ≡ false }
     ensures out { result.out.now ≡ answer_name }
     ensures report { result.report ≡ None }
 {
     RunOptions {
-        query: options.query,
+        query: QueryOption::Named(options.query),
         events: "events",
         config: "config",
         out: ANSWER,
@@ -39,16 +41,18 @@ pub fn run_in_memory(options: &DemoOptions) -> RunOptions<'static>
         bins: options.bins,
         depth: options.depth,
         schedule: Schedule::Threads,
+        paced: false,
     }
 }
 
 /// What a demo is run with: the usual first owners, the given values of the query's rules, and control records that move every bin
 /// of the first stage at 600, and then one after the other from 1200 on. `NoMemory`, and no other refusal: no memory.
-pub fn demo_settings<'a>(alloc: Global, flow: Flow) -> Result<Settings, Refusal<'a>>
-    requires workers { 0 < flow.workers }
-    requires bins { flow.bins ≤ 4096 }
-    ensures settings { IfOk result (λ s. settings_in s ≡ demo_settings flow) }
-    ensures fit { IfOk result (λ s. SettingsFit flow (settings_in s)) }
+pub fn demo_settings<'a>(alloc: Global, flow: &Flow) -> Result<Settings, Refusal<'a>>
+    requires workers { 0 < flow.now.workers }
+    requires bins { flow.now.bins ≤ 4096 }
+    requires sound { IsSound flow.now.query }
+    ensures settings { IfOk result (λ s. settings_in s ≡ demo_settings flow.now) }
+    ensures fit { IfOk result (λ s. SettingsFitFlow flow.now (settings_in s)) }
     ensures refused { IfErr result (λ r. outcome_of r ≡ NoMemory) }
 {
     let controls = two_moves(alloc, flow.shape())?;

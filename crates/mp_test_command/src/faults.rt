@@ -1,7 +1,7 @@
 //! What comes of faults: which come first, and what then stands in the files.
 ghost use Rattle.std.specs.Prelude.{◌<◌};
 
-use crate::fixture::{code_of, files};
+use crate::fixture::{PIPE, code_of, files};
 use mp_gate::OpenGate;
 use mp_outside::{MemDepot, MemSink, Op};
 use std::alloc::{AllocError, Global};
@@ -14,6 +14,9 @@ const THREE_BIDS: &[u8] = b"B|5|7|2|100\nB|3|7|1|250\nB|5|2|9|99\n";
 /// The lines of each time are one piece.
 const ANSWER: [&[u8]; 2] = [b"3|7|1|222\n", b"5|2|9|88\n5|7|2|89\n"];
 
+/// The sums of the prices of each bidder.
+const SUMS: [&[u8]; 2] = [b"3|1|250\n", b"5|2|100\n5|9|99\n"];
+
 /// The report of three workers.
 const REPORT: [&[u8]; 3] = [b"worker 0 3\n", b"worker 1 0\n", b"worker 2 0\n"];
 
@@ -24,24 +27,45 @@ const CHECK: &str = "megaphone check --query q1 --events e --config c";
 /// What the files of the answer and the report hold before.
 const OLD: &[u8] = b"old";
 
-/// The words, and whether they ask for a report.
-const LINES: [(&str, bool); 4] = [
-    (
-        "megaphone run --query q1 --events e --config c --out o --workers 3",
-        false,
-    ),
-    (
-        "megaphone run --query q1 --events e --config c --out o --workers 3 --bins 1 --report r",
-        true,
-    ),
-    (
-        "megaphone replay --query q1 --events e --config c --out o",
-        false,
-    ),
-    (
-        "megaphone replay --query q1 --events e --config c --out o --workers 3 --bins 1 --seed 7 --report r",
-        true,
-    ),
+/// A run of the three bids: its words, and whether they ask for a pipeline and for a report.
+#[derive(Clone, Copy)]
+struct Asked {
+    line: &'static str,
+    piped: bool,
+    reports: bool,
+}
+
+const LINES: [Asked; 6] = [
+    Asked {
+        line: "megaphone run --query q1 --events e --config c --out o --workers 3",
+        piped: false,
+        reports: false,
+    },
+    Asked {
+        line: "megaphone run --query q1 --events e --config c --out o --workers 3 --bins 1 --report r",
+        piped: false,
+        reports: true,
+    },
+    Asked {
+        line: "megaphone replay --query q1 --events e --config c --out o",
+        piped: false,
+        reports: false,
+    },
+    Asked {
+        line: "megaphone replay --query q1 --events e --config c --out o --workers 3 --bins 1 --seed 7 --report r",
+        piped: false,
+        reports: true,
+    },
+    Asked {
+        line: "megaphone run --query pipe --pipe p --events e --config c --out o --workers 3",
+        piped: true,
+        reports: false,
+    },
+    Asked {
+        line: "megaphone replay --query pipe --pipe p --events e --config c --out o --workers 3 --bins 1 --report r",
+        piped: true,
+        reports: true,
+    },
 ];
 
 /// A call of the depot: the method, the name, and the bytes that it puts there.
@@ -53,14 +77,18 @@ struct Call {
 }
 
 /// The calls that a run of the three bids makes of a depot which gives and takes so many bytes at most.
-fn calls_of(alloc: Global, portion: usize, reports: bool) -> Result<Vec<Call>, AllocError>
+fn calls_of(alloc: Global, portion: usize, asked: Asked) -> Result<Vec<Call>, AllocError>
     requires { 0 < portion }
 {
     let mut calls = Vec::new(alloc);
     reads(&mut calls, "e", THREE_BIDS, portion)?;
+    if asked.piped {
+        reads(&mut calls, "p", PIPE, portion)?;
+    }
     reads(&mut calls, "c", b"", portion)?;
-    writes(&mut calls, "o", &ANSWER, portion)?;
-    if reports {
+    let answer = if asked.piped { &SUMS } else { &ANSWER };
+    writes(&mut calls, "o", answer, portion)?;
+    if asked.reports {
         writes(&mut calls, "r", &REPORT, portion)?;
     }
     Ok(calls)
@@ -226,22 +254,21 @@ fn all_are_made<R: Threads + Wait + Sync + AllocGlobal + Abort>(
 
 fn fails_in_portions<R: Threads + Wait + Sync + AllocGlobal + Abort>(
     rt: &R,
-    line: &str,
+    asked: Asked,
     portion: usize,
-    reports: bool,
 ) -> Result<(), AllocError>
     requires { 0 < portion }
 {
-    let calls = calls_of(rt.alloc(), portion, reports)?;
-    each_fails(rt, line, portion as u64, calls.as_slice())?;
-    all_are_made(rt, line, portion as u64, calls.as_slice())
+    let calls = calls_of(rt.alloc(), portion, asked)?;
+    each_fails(rt, asked.line, portion as u64, calls.as_slice())?;
+    all_are_made(rt, asked.line, portion as u64, calls.as_slice())
 }
 
 #[test]
 fn failing_calls(rt: HostRuntime) -> Result<(), AllocError> {
-    for (line, reports) in LINES {
+    for asked in LINES {
         for portion in [1, 7, 64] {
-            fails_in_portions(&rt, line, portion, reports)?;
+            fails_in_portions(&rt, asked, portion)?;
         }
     }
     Ok(())

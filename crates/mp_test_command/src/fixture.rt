@@ -6,10 +6,14 @@ use std::alloc::{AllocError, Global};
 use std::sync::Wait;
 use std::thread::Threads;
 
-/// An event file `e` and an empty configuration `c`.
+/// A pipeline that sums the prices of each bidder.
+pub const PIPE: &[u8] = b"on|B\nsum|2|3|0|any|0\n";
+
+/// An event file `e`, a pipeline `p` and an empty configuration `c`.
 pub fn files(alloc: Global, events: &[u8]) -> Result<MemDepot, AllocError> {
     let mut depot = MemDepot::new(alloc);
     depot.put("e", events)?;
+    depot.put("p", PIPE)?;
     depot.put("c", b"")?;
     Ok(depot)
 }

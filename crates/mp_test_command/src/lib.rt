@@ -1,16 +1,9 @@
 //! Layer: tests.
 //!
-//! Tests of the command: where a file or an output fails, and of workers on threads. What files of the system come to stands
-//! in examples/cases.toml.
+//! Tests of the command: where a file or an output fails. What files of the system come to stands in examples/cases.toml.
 #![tactic(auto)]
 
 #[cfg(test)]
 mod faults;
 #[cfg(test)]
 mod fixture;
-#[cfg(test)]
-mod stops;
-#[cfg(test)]
-mod threads;
-#[cfg(test)]
-mod workers;

@@ -2,7 +2,7 @@
 use Rattle.std.specs.Prelude.{true, Some, List, [], ◌∷◌, ◌++◌, ℕ, codes}
 use Rattle.clap.specs.Words.{App, Rule, Shape, new_app, new_rule, with_subcommand}
 use Rattle.clap.specs.Simple.{new_shape, on_top}
-use Rattle.clap.specs.declared.builder.action.ArgAction.TheVariants.{Set}
+use Rattle.clap.specs.declared.builder.action.ArgAction.TheVariants.{Set, SetTrue}
 
 -- an option `--name` that takes one value
 abbrev pub valued : List ℕ → Rule
@@ -16,9 +16,13 @@ needed name = record (valued name) { required = true }
 abbrev pub defaulted : List ℕ → List ℕ → Rule
 defaulted name value = record (valued name) { defaults = value ∷ [] }
 
+-- a flag `--name`, which takes no value
+abbrev pub flag : List ℕ → Rule
+flag name = record (new_rule name) { long = Some name; action = Some SetTrue }
+
 -- the options of what a job reads
 abbrev pub input_rules : List Rule
-input_rules = needed (codes "query") ∷ needed (codes "events") ∷ needed (codes "config") ∷ []
+input_rules = needed (codes "query") ∷ valued (codes "pipe") ∷ needed (codes "events") ∷ needed (codes "config") ∷ []
 
 -- those of its size
 abbrev pub size_rules : List Rule
@@ -30,7 +34,7 @@ depth_rules = defaulted (codes "depth") (codes "64") ∷ []
 
 -- the options that both commands have which write an answer
 abbrev pub shared_rules : List Rule
-shared_rules = input_rules ++ needed (codes "out") ∷ valued (codes "report") ∷ (size_rules ++ depth_rules)
+shared_rules = input_rules ++ needed (codes "out") ∷ valued (codes "report") ∷ flag (codes "paced") ∷ (size_rules ++ depth_rules)
 
 -- a command with these options
 abbrev pub shared_shape : List ℕ → Shape

@@ -1,5 +1,5 @@
 -- What holds of whatever a command asks for.
-use Rattle.std.specs.Prelude.{◌≡◌, ◌≢◌, ◌≤◌, ◌^◌, ℕ, List, IfSome}
+use Rattle.std.specs.Prelude.{◌≡◌, ◌≤◌, ◌^◌, ℕ, true}
 use Rattle.mp_names.specs.Limits.{deepest_mailbox, greatest_seed, most_events, most_workers}
 use Rattle.mp_words.specs.declared.options.CheckOptions.{CheckOptions}
 use Rattle.mp_words.specs.declared.options.Command.{Command}
@@ -9,6 +9,7 @@ use Rattle.mp_words.specs.declared.options.MakeOptions.{MakeOptions}
 use Rattle.mp_words.specs.declared.options.RunOptions.{RunOptions}
 use Rattle.mp_words.specs.declared.options.Schedule.{Schedule}
 use Rattle.mp_words.specs.declared.options.Schedule.TheVariants.{Threads, Seeded}
+use Rattle.mp_words.specs.Values.{names_are_apart, options_in}
 
 -- a number is at least 1 and at most `most`
 abbrev pub IsPositiveUpTo : ℕ → ℕ → Type 0
@@ -23,21 +24,13 @@ abbrev pub SeedIsWithinLimit : Schedule → Type 0
 SeedIsWithinLimit Threads = Unit {0}
 SeedIsWithinLimit (Seeded seed) = seed ≤ greatest_seed
 
--- the name is neither of those that are read, nor that of the answer
-pub record IsApart (options : RunOptions) (name : List ℕ) : Type 0 where
-  pub events : name ≢ options.events.now
-  pub config : name ≢ options.config.now
-  pub out : name ≢ options.out.now
-
--- the numbers are within their limits, and the answer is written to neither of the files that are read, and the report to a name of its own
+-- the numbers are within their limits, and what is written has names of its own
 pub record AreWithinLimits (options : RunOptions) : Type 0 where
   pub workers : IsPositiveUpTo most_workers options.workers
   pub bins : IsBinCount options.bins
   pub depth : IsPositiveUpTo deepest_mailbox options.depth
   pub seed : SeedIsWithinLimit options.schedule
-  pub events : options.out.now ≢ options.events.now
-  pub config : options.out.now ≢ options.config.now
-  pub report : IfSome options.report (λ report. IsApart options report.now)
+  pub names : names_are_apart (options_in options) ≡ true
 
 -- the numbers of `check` are within their limits
 pub record CheckIsWithinLimits (options : CheckOptions) : Type 0 where

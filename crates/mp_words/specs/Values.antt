@@ -1,7 +1,8 @@
 -- What values of options ask for.
-use Rattle.std.specs.Prelude.{ℕ, List, Bool, false, Option, Some, None, ◌||◌, ◌==◌, codes, if◌then◌else◌, option_and_then, option_map}
+use Rattle.std.specs.Prelude.{ℕ, List, [], ◌∷◌, Bool, true, false, Option, Some, None, ◌&&◌, ◌++◌, ◌==◌, codes, if◌then◌else◌, not, option_and_then, option_map}
 use Rattle.std.specs.Int.{is_power_of_two}
-use Rattle.std.specs.Option.{option_map_or}
+use Rattle.std.specs.List.{list_any}
+use Rattle.std.specs.Option.{option_map_or, option_to_list}
 use Rattle.std.specs.Result.{result_ok}
 use Rattle.std.specs.Str.{bytes_eq}
 use Rattle.mp_text.specs.Numbers.{number_of}
@@ -12,13 +13,20 @@ use Rattle.mp_words.specs.declared.options.DemoOptions.{DemoOptions}
 use Rattle.mp_words.specs.declared.options.MakeOptions.{MakeOptions}
 use Rattle.mp_words.specs.declared.options.QueryName.{QueryName}
 use Rattle.mp_words.specs.declared.options.QueryName.TheVariants.{Q1, Q2, Q3, Q4, Q5, Q6, Q7, Q8}
+use Rattle.mp_words.specs.declared.options.QueryOption.{QueryOption}
+use Rattle.mp_words.specs.declared.options.QueryOption.TheVariants as option
 use Rattle.mp_words.specs.declared.options.RunOptions.{RunOptions}
 use Rattle.mp_words.specs.declared.options.Schedule.{Schedule}
 use Rattle.mp_words.specs.declared.options.Schedule.TheVariants.{Seeded}
 
+-- the query of a dataflow that runs on files: that of a name, or the pipeline that the file of this name says
+pub data QueryAsked : Type 0 where
+  Named : (name : QueryName) → QueryAsked
+  Piped : (file : List ℕ) → QueryAsked
+
 -- what `run` and `replay` ask for
 pub record Options : Type 0 where
-  pub query : QueryName
+  pub query : QueryAsked
   pub events : List ℕ
   pub config : List ℕ
   pub out : List ℕ
@@ -27,10 +35,11 @@ pub record Options : Type 0 where
   pub bins : ℕ
   pub depth : ℕ
   pub schedule : Schedule
+  pub paced : Bool
 
 -- what `check` asks for
 pub record CheckAsked : Type 0 where
-  pub query : QueryName
+  pub query : QueryAsked
   pub events : List ℕ
   pub config : List ℕ
   pub workers : ℕ
@@ -42,10 +51,15 @@ pub record MakeAsked : Type 0 where
   pub seed : ℕ
   pub out : List ℕ
 
+-- the query that was read
+abbrev pub query_in : QueryOption → QueryAsked
+query_in (option.Named name) = Named name
+query_in (option.Piped name) = Piped name.now
+
 -- what the options that were read ask for
 abbrev pub options_in : RunOptions → Options
 options_in o = record {
-  query = o.query;
+  query = query_in o.query;
   events = o.events.now;
   config = o.config.now;
   out = o.out.now;
@@ -54,11 +68,12 @@ options_in o = record {
   bins = o.bins;
   depth = o.depth;
   schedule = o.schedule;
+  paced = o.paced;
 }
 
 -- what those of `check` ask for
 abbrev pub check_in : CheckOptions → CheckAsked
-check_in o = record { query = o.query; events = o.events.now; config = o.config.now; workers = o.workers; bins = o.bins }
+check_in o = record { query = query_in o.query; events = o.events.now; config = o.config.now; workers = o.workers; bins = o.bins }
 
 -- what those of `make` ask for
 abbrev pub make_in : MakeOptions → MakeAsked
@@ -76,6 +91,12 @@ query_of name =
     else if bytes_eq name (codes "q7") then Some Q7
     else if bytes_eq name (codes "q8") then Some Q8
     else None
+
+-- the query that a word and a pipeline's name ask for: the word `pipe` goes with such a name, and the name of a query without
+abbrev pub query_asked : Option (List ℕ) → Option (List ℕ) → Option QueryAsked
+query_asked None pipe = None
+query_asked (Some word) None = option_map Named (query_of word)
+query_asked (Some word) (Some file) = if bytes_eq word (codes "pipe") then Some (Piped file) else None
 
 -- the number from 0 to `most` that a text says
 abbrev pub number_up_to : ℕ → List ℕ → Option ℕ
@@ -106,22 +127,50 @@ abbrev pub seed_of : Option (List ℕ) → Option ℕ
 seed_of (Some text) = number_up_to greatest_seed text
 seed_of None = Some 0
 
--- a name is one of these three: that of the events, of the configuration or of the answer
-abbrev pub is_one_of : List ℕ → List ℕ → List ℕ → List ℕ → Bool
-is_one_of events config out name = bytes_eq name events || (bytes_eq name config || bytes_eq name out)
+-- whether a flag is there: its value is the text `true`, and else `false`
+abbrev pub is_set : List ℕ → List Row → Bool
+is_set name rows = option_map_or (λ text. bytes_eq text (codes "true")) (first_of name rows) false
 
--- all of them, where the answer's name is neither of those that are read, and the report's is none of these three
-abbrev pub together : Schedule → Option QueryName → Option (List ℕ) → Option (List ℕ) → Option (List ℕ) → Option (List ℕ) → Option ℕ → Option ℕ → Option ℕ → Option Options
-together schedule (Some query) (Some events) (Some config) (Some out) report (Some workers) (Some bins) (Some depth) =
-    if bytes_eq out events || bytes_eq out config then None
-    else if option_map_or (is_one_of events config out) report false then None
-    else Some (record { query = query; events = events; config = config; out = out; report = report; workers = workers; bins = bins; depth = depth; schedule = schedule })
-together _ _ _ _ _ _ _ _ _ = None
+-- the name of a pipeline's file, where there is one
+abbrev pub pipe_names : QueryAsked → List (List ℕ)
+pipe_names (Named name) = []
+pipe_names (Piped file) = file ∷ []
+
+-- the names that a run reads
+abbrev pub read_names : Options → List (List ℕ)
+read_names o = o.events ∷ o.config ∷ pipe_names o.query
+
+-- the names that it writes
+abbrev pub written_names : Options → List (List ℕ)
+written_names o = o.out ∷ option_to_list o.report
+
+-- a name is one of these
+abbrev pub is_among : List ℕ → List (List ℕ) → Bool
+is_among name names = list_any (bytes_eq name) names
+
+-- each name that is written is none of the others that are, and none that is read
+abbrev pub are_apart : List (List ℕ) → List (List ℕ) → Bool
+are_apart [] read = true
+are_apart (name ∷ more) read = not (is_among name (more ++ read)) && are_apart more read
+
+-- the same of the names of a run
+abbrev pub names_are_apart : Options → Bool
+names_are_apart o = are_apart (written_names o) (read_names o)
+
+-- what is asked for, where its names are apart
+abbrev pub only_apart : Options → Option Options
+only_apart o = if names_are_apart o then Some o else None
+
+-- all of them, where the names are apart
+abbrev pub together : Schedule → Bool → Option QueryAsked → Option (List ℕ) → Option (List ℕ) → Option (List ℕ) → Option (List ℕ) → Option ℕ → Option ℕ → Option ℕ → Option Options
+together schedule paced (Some query) (Some events) (Some config) (Some out) report (Some workers) (Some bins) (Some depth) =
+    only_apart (record { query = query; events = events; config = config; out = out; report = report; workers = workers; bins = bins; depth = depth; schedule = schedule; paced = paced })
+together _ _ _ _ _ _ _ _ _ _ = None
 
 -- what the values that clap found for the options of `run` or `replay` ask for, if each is allowed, with this schedule
 abbrev pub options_of : Schedule → List Row → Option Options
-options_of schedule rows = together schedule
-    (option_and_then query_of (first_of (codes "query") rows))
+options_of schedule rows = together schedule (is_set (codes "paced") rows)
+    (query_asked (first_of (codes "query") rows) (first_of (codes "pipe") rows))
     (first_of (codes "events") rows)
     (first_of (codes "config") rows)
     (first_of (codes "out") rows)
@@ -135,7 +184,7 @@ abbrev pub replay_of : List Row → Option Options
 replay_of rows = option_and_then (λ seed. options_of (Seeded seed) rows) (seed_of (first_of (codes "seed") rows))
 
 -- all that `check` asks for
-abbrev pub together_to_check : Option QueryName → Option (List ℕ) → Option (List ℕ) → Option ℕ → Option ℕ → Option CheckAsked
+abbrev pub together_to_check : Option QueryAsked → Option (List ℕ) → Option (List ℕ) → Option ℕ → Option ℕ → Option CheckAsked
 together_to_check (Some query) (Some events) (Some config) (Some workers) (Some bins) =
     Some (record { query = query; events = events; config = config; workers = workers; bins = bins })
 together_to_check _ _ _ _ _ = None
@@ -143,7 +192,7 @@ together_to_check _ _ _ _ _ = None
 -- what the values for the options of `check` ask for, if each is allowed
 abbrev pub check_of : List Row → Option CheckAsked
 check_of rows = together_to_check
-    (option_and_then query_of (first_of (codes "query") rows))
+    (query_asked (first_of (codes "query") rows) (first_of (codes "pipe") rows))
     (first_of (codes "events") rows)
     (first_of (codes "config") rows)
     (option_and_then (positive_up_to most_workers) (first_of (codes "workers") rows))

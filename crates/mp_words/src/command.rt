@@ -3,7 +3,7 @@ ghost use Rattle.std.specs.Prelude.{◌≡◌, IfOk, false};
 ghost use Rattle.clap.specs.Words.{app_of, rule_of};
 ghost use Rattle.mp_words.specs.Adding.{AddsRules, Denotes};
 ghost use Rattle.mp_words.specs.Command.{check_shape, command_app, demo_shape, make_shape, replay_shape, shared_shape, with_others, with_runs};
-ghost use Rattle.mp_words.specs.Command.{defaulted, depth_rules, input_rules, needed, size_rules, valued};
+ghost use Rattle.mp_words.specs.Command.{defaulted, depth_rules, flag, input_rules, needed, size_rules, valued};
 
 use clap::{Arg, ArgAction, Command};
 use std::alloc::{AllocError, Global};
@@ -45,7 +45,8 @@ fn shared_command<'a>(alloc: Global, name: &'a str) -> Result<Command<'a>, Alloc
 {
     let command = with_inputs(alloc, Command::new(alloc, name))?
         .arg(needed(alloc, "out"))?
-        .arg(valued(alloc, "report"))?;
+        .arg(valued(alloc, "report"))?
+        .arg(flag(alloc, "paced"))?;
     with_depth(alloc, with_size(alloc, command)?)
 }
 
@@ -84,12 +85,13 @@ fn demo_command<'a>(alloc: Global) -> Result<Command<'a>, AllocError>
     with_depth(alloc, with_size(alloc, command)?)
 }
 
-/// The command with the options of what a job reads: its query, its event file and its configuration.
+/// The command with the options of what a job reads: its query, with the file of a pipeline, its event file and its configuration.
 fn with_inputs<'a>(alloc: Global, command: Command<'a>) -> Result<Command<'a>, AllocError>
     ensures { IfOk result (AddsRules command.entry input_rules) }
 {
     command
         .arg(needed(alloc, "query"))?
+        .arg(valued(alloc, "pipe"))?
         .arg(needed(alloc, "events"))?
         .arg(needed(alloc, "config"))
 }
@@ -116,6 +118,14 @@ fn valued<'a>(alloc: Global, name: &'a str) -> Arg<'a>
     ensures local { result.global ≡ false }
 {
     Arg::new(alloc, name).long(name).action(ArgAction::Set)
+}
+
+/// The flag `--name`, which takes no value.
+fn flag<'a>(alloc: Global, name: &'a str) -> Arg<'a>
+    ensures rule { rule_of result ≡ flag name.entry.now }
+    ensures local { result.global ≡ false }
+{
+    Arg::new(alloc, name).long(name).action(ArgAction::SetTrue)
 }
 
 /// The option `--name`, which has to be there.

@@ -14,7 +14,7 @@ mod values;
 mod words;
 
 pub use options::{
-    CheckOptions, Command, DemoOptions, MakeOptions, QueryName, RunOptions, Schedule,
+    CheckOptions, Command, DemoOptions, MakeOptions, QueryName, QueryOption, RunOptions, Schedule,
 };
 pub use refused::WordsRefused;
 pub use words::parse;

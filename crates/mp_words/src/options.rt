@@ -21,6 +21,15 @@ pub enum QueryName {
     Q8,
 }
 
+/// The query of a dataflow that runs on files.
+#[derive(Clone, Copy, PartialEq, Eq, Debug)]
+pub enum QueryOption<'a> {
+    /// The query of a name.
+    Named(QueryName),
+    /// `pipe`: the pipeline that the file of this name says.
+    Piped(&'a str),
+}
+
 /// What the words ask for.
 #[derive(Clone, Copy, PartialEq, Eq, Debug)]
 pub enum Command<'a> {
@@ -47,14 +56,14 @@ pub enum Schedule {
 #[derive(Clone, Copy, PartialEq, Eq, Debug)]
 pub struct RunOptions<'a> {
     /// The query of the dataflow.
-    pub query: QueryName,
+    pub query: QueryOption<'a>,
     /// The name of the event file.
     pub events: &'a str,
     /// The name of the configuration.
     pub config: &'a str,
-    /// The name that the answer is written to, which is neither of the two others.
+    /// The name that the answer is written to, which is none of those that are read.
     pub out: &'a str,
-    /// The name that the report is written to, if one is asked for: none of the three others.
+    /// The name that the report is written to, if one is asked for: neither that of the answer nor one that is read.
     pub report: Option<&'a str>,
     /// How many workers run the dataflow, from 1 to [`MAX_WORKERS`](mp_names::limits::MAX_WORKERS).
     pub workers: u32,
@@ -64,13 +73,15 @@ pub struct RunOptions<'a> {
     pub depth: u32,
     /// How the workers take turns.
     pub schedule: Schedule,
+    /// Whether control records of a time wait until the moves of the time before are passed.
+    pub paced: bool,
 }
 
 /// What `check` is to read.
 #[derive(Clone, Copy, PartialEq, Eq, Debug)]
 pub struct CheckOptions<'a> {
     /// The query that the configuration is read for.
-    pub query: QueryName,
+    pub query: QueryOption<'a>,
     /// The name of the event file.
     pub events: &'a str,
     /// The name of the configuration.

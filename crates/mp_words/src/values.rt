@@ -1,15 +1,16 @@
 //! The values of the options, checked one by one.
-ghost use Rattle.std.specs.Prelude.{◌≡◌, ◌≤◌, ◌||◌, IfSome, codes, false, option_map, option_and_then};
-ghost use Rattle.std.specs.Option.{option_map_or};
-ghost use Rattle.std.specs.Str.{bytes_eq};
+ghost use Rattle.std.specs.Prelude.{◌≡◌, ◌≤◌, IfSome, codes, option_map, option_and_then};
 ghost use Rattle.clap.specs.Words.{first_of, found_of, rows_of};
 ghost use Rattle.mp_words.specs.Limits.{AreWithinLimits, CheckIsWithinLimits, DemoIsWithinLimits};
 ghost use Rattle.mp_words.specs.Limits.{IsBinCount, IsPositiveUpTo, MakeIsWithinLimits, SeedIsWithinLimit};
 ghost use Rattle.mp_names.specs.Limits.{greatest_seed, most_bins, most_events};
 ghost use Rattle.mp_words.specs.Values.{check_in, check_of, count_of, demo_of, make_in, make_of, number_up_to, options_in};
-ghost use Rattle.mp_words.specs.Values.{is_one_of, options_of, positive_up_to, power_up_to, query_of, replay_of, seed_of};
+ghost use Rattle.mp_words.specs.Values.{is_among, is_set, names_are_apart, options_of, positive_up_to, power_up_to};
+ghost use Rattle.mp_words.specs.Values.{query_asked, query_in, query_of, read_names, replay_of, seed_of};
 
-use crate::options::{CheckOptions, DemoOptions, MakeOptions, QueryName, RunOptions, Schedule};
+use crate::options::{
+    CheckOptions, DemoOptions, MakeOptions, QueryName, QueryOption, RunOptions, Schedule,
+};
 use clap::ArgMatches;
 use mp_names::limits::{MAX_BINS, MAX_DEPTH, MAX_EVENTS, MAX_SEED, MAX_WORKERS};
 use mp_text::number;
@@ -21,7 +22,7 @@ pub fn run_options<'a>(matches: &ArgMatches<'a>, schedule: Schedule) -> Option<R
     ensures within { IfSome result AreWithinLimits }
 {
     let options = RunOptions {
-        query: query_in(matches)?,
+        query: query_option(matches)?,
         events: text(matches, "events")?,
         config: text(matches, "config")?,
         out: text(matches, "out")?,
@@ -30,30 +31,36 @@ pub fn run_options<'a>(matches: &ArgMatches<'a>, schedule: Schedule) -> Option<R
         bins: bins_in(matches)?,
         depth: positive_in(matches, "depth", MAX_DEPTH)?,
         schedule,
+        paced: flag_in(matches, "paced"),
     };
-    if answers_an_input(&options) || reports_again(&options) {
-        None
-    } else {
+    if names_are_apart(&options) {
         Some(options)
+    } else {
+        None
     }
 }
 
-/// Whether the answer is to be written to a name that is read.
-fn answers_an_input(options: &RunOptions) -> bool
-    ensures { result ≡ (bytes_eq options.now.out.now options.now.events.now
-        || bytes_eq options.now.out.now options.now.config.now) }
-{
-    options.out == options.events || options.out == options.config
-}
-
-/// Whether the report is to be written to the name of another file of the run.
-fn reports_again(options: &RunOptions) -> bool
-    ensures { let o = options_in options.now in
-        result ≡ option_map_or (is_one_of o.events o.config o.out) o.report false }
+/// Whether what is written has names of its own.
+fn names_are_apart(options: &RunOptions) -> bool
+    ensures { result ≡ names_are_apart (options_in options.now) }
 {
     match options.report {
-        Some(report) => is_named_before(options, report),
-        None => false,
+        Some(report) => {
+            options.out != report && !is_read(options, options.out) && !is_read(options, report)
+        }
+        None => !is_read(options, options.out),
+    }
+}
+
+/// Whether a file of this name is read.
+fn is_read(options: &RunOptions, name: &str) -> bool
+    ensures { result ≡ is_among name.now (read_names (options_in options.now)) }
+{
+    match options.query {
+        QueryOption::Named(_) => name == options.events || name == options.config,
+        QueryOption::Piped(pipe) => {
+            name == options.events || name == options.config || name == pipe
+        }
     }
 }
 
@@ -66,20 +73,13 @@ pub fn replay_options<'a>(matches: &ArgMatches<'a>) -> Option<RunOptions<'a>>
     run_options(matches, Schedule::Seeded(seed))
 }
 
-/// Whether a name is that of the events, of the configuration or of the answer.
-fn is_named_before(options: &RunOptions, name: &str) -> bool
-    ensures { result ≡ is_one_of options.now.events.now options.now.config.now options.now.out.now name.now }
-{
-    name == options.events || name == options.config || name == options.out
-}
-
 /// What the options of `check` ask for, or `None` where a value isn't allowed.
 pub fn check_options<'a>(matches: &ArgMatches<'a>) -> Option<CheckOptions<'a>>
     ensures asked { option_map check_in result ≡ check_of (rows_of (found_of matches.now)) }
     ensures within { IfSome result CheckIsWithinLimits }
 {
     Some(CheckOptions {
-        query: query_in(matches)?,
+        query: query_option(matches)?,
         events: text(matches, "events")?,
         config: text(matches, "config")?,
         workers: positive_in(matches, "workers", MAX_WORKERS)?,
@@ -105,7 +105,7 @@ pub fn demo_options(matches: &ArgMatches) -> Option<DemoOptions>
     ensures within { IfSome result DemoIsWithinLimits }
 {
     Some(DemoOptions {
-        query: query_in(matches)?,
+        query: query_name(matches)?,
         count: count_in(matches)?,
         seed: seed_in(matches)?,
         workers: positive_in(matches, "workers", MAX_WORKERS)?,
@@ -121,11 +121,34 @@ fn text<'a>(matches: &ArgMatches<'a>, name: &str) -> Option<&'a str>
     matches.get_str(name)
 }
 
-/// The value of `--query`.
-fn query_in(matches: &ArgMatches) -> Option<QueryName>
+/// Whether a flag is there.
+fn flag_in(matches: &ArgMatches, name: &str) -> bool
+    ensures { result ≡ is_set name.now (rows_of (found_of matches.now)) }
+{
+    match text(matches, name) {
+        Some(value) => value == "true",
+        None => false,
+    }
+}
+
+/// The value of `--query` where that is the name of a query.
+fn query_name(matches: &ArgMatches) -> Option<QueryName>
     ensures { result ≡ option_and_then query_of (first_of (codes "query") (rows_of (found_of matches.now))) }
 {
     query_named(text(matches, "query")?)
+}
+
+/// The values of `--query` and `--pipe`, which is there exactly where the first is `pipe`.
+fn query_option<'a>(matches: &ArgMatches<'a>) -> Option<QueryOption<'a>>
+    ensures { let rows = rows_of (found_of matches.now) in
+        option_map query_in result ≡ query_asked (first_of (codes "query") rows) (first_of (codes "pipe") rows) }
+{
+    let word = text(matches, "query")?;
+    match text(matches, "pipe") {
+        Some(file) if word == "pipe" => Some(QueryOption::Piped(file)),
+        Some(_) => None,
+        None => Some(QueryOption::Named(query_named(word)?)),
+    }
 }
 
 /// The value of an option that is a number from 1 to `most`.

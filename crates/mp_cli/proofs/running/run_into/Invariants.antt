@@ -1,8 +1,9 @@
--- The name that is picked is that of the job, on threads and by a seed.
+-- The name that is picked is that of the job, paced by the plan, on threads and by a seed.
+use Rattle.mp_cli.specs.Jobs.{run_of}
 use Rattle.mp_cli.proofs.running.run_into.Given as goal
 
 abbrev pub ghosts-run_with_tallies : goal.ghosts-run_with_tallies
-ghosts-run_with_tallies g a = record { job = a.job.now }
+ghosts-run_with_tallies g a = record { job = run_of a.plan.paced a.job.now }
 
 abbrev pub ghosts-replay_with_tallies : goal.ghosts-replay_with_tallies
-ghosts-replay_with_tallies g a = record { job = a.job.now }
+ghosts-replay_with_tallies g a = record { job = run_of a.plan.paced a.job.now }

@@ -1,5 +1,5 @@
 -- Each end is one that may come, and leaves what it says.
-use Rattle.std.proofs.Common.{◌∙◌, inr}
+use Rattle.std.proofs.Common.{inr}
 use Rattle.std.proofs.lemmas.Result.{err_from_is_err_and}
 use Rattle.mp_words.specs.Values.{options_in}
 use Rattle.mp_words.specs.Words.{Asked, Run}
@@ -36,7 +36,7 @@ returns-in_err-write_answer-clause-left g c =
     let asked : Asked = Run (options_in c.args.options.now) in
     let p = err_from_is_err_and c.from_residual-in_err-write_answer.result c.from_residual-in_err-write_answer.ensures.1 in
     let read = reads_so _ _ _ c.of_run.ensures.files _ c.in_ok-read.ensures.found in
-    let part = rw c.read_inputs.ensures.files at c.in_err-write_answer.ensures.part in
+    let part = rw c.read_inputs.ensures.files at c.in_err-write_answer.ensures.wrote.part in
     rw (p.1, p.2) (leaves_part asked _ _ _ c.in_err-write_answer.ensures.refused (inr (found_in c.in_ok-read.read, read, part)))
 
 pub returns-clause-came : goal.returns-clause-came
@@ -49,5 +49,5 @@ pub returns-clause-left : goal.returns-clause-left
 returns-clause-left g c =
     let asked : Asked = Run (options_in c.args.options.now) in
     let read = reads_so _ _ _ c.of_run.ensures.files _ c.in_ok-read.ensures.found in
-    let whole = rw c.read_inputs.ensures.files at c.in_ok-write_answer.ensures.whole in
+    let whole = rw c.read_inputs.ensures.files at c.in_ok-write_answer.ensures.wrote.whole in
     leaves_whole asked _ _ _ (found_in c.in_ok-read.read, read, whole)

@@ -1,5 +1,5 @@
 -- Words that are a command end as it does, and others as usage.
-use Rattle.std.proofs.Common.{◌≡◌, arith, refl}
+use Rattle.std.proofs.Common.{arith, refl}
 use Rattle.mp_words.specs.Words.{asked_in}
 use Rattle.mp_command.specs.Outcome.{NoMemory, Usage}
 use Rattle.mp_command.specs.Refused.{outcome_in}

@@ -1,7 +1,7 @@
 -- Each clause by the outcome that the call came to, and by how much of its line was said.
 use Rattle.mp_command.specs.Refused.{outcome_in}
 use Rattle.mp_command.proofs.Codes.{complete_at, outcome_at, part_at, printed_at, said_fault_at, said_whole, status_at, told_code, untouched_at, usage_at, write_fault_at}
-use Rattle.std.proofs.Common.{◌≡◌, arith}
+use Rattle.std.proofs.Common.{arith}
 use Rattle.mp_cli.proofs.top.run.Goals as goal
 
 pub returns-clause-usage : goal.returns-clause-usage

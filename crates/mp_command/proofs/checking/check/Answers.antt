@@ -27,8 +27,8 @@ pub returns-clause-came : goal.returns-clause-came
 returns-clause-came g c =
     let asked : Asked = Check (check_in c.args.options.now) in
     let read = reads_so _ _ _ c.of_check.ensures.files _ c.in_ok-read.ensures.found in
-    let some_events = c.len.ensures ∙ c.in_ok-read.read.events.ok.0 in
-    let some_controls = c.len-2.ensures ∙ c.in_ok-read.read.settings.controls.ok.0 in
+    let some_events = c.len.ensures ∙ c.in_ok-read.read.parts.events.ok.0 in
+    let some_controls = c.len-2.ensures ∙ c.in_ok-read.read.parts.settings.controls.ok.0 in
     let line = rw (some_events, some_controls) at c.in_ok-ok_line.ensures in
     rw line (came_answered _ _ _ _ asked _ _ (found_in c.in_ok-read.read) read)
 

@@ -4,4 +4,4 @@ use Rattle.mp_command.specs.Reading.{no_memory}
 use Rattle.mp_command.proofs.reading.settings_in.Goals as goal
 
 pub returns-clause-refused : goal.returns-clause-refused
-returns-clause-refused g c = λ found. inl no_memory
+returns-clause-refused g c = λ asked found same. inl no_memory
