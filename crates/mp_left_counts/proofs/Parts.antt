@@ -1,0 +1,27 @@
+-- How much work is at a location and time.
+use Rattle.std.proofs.Common.{◌≡◌, ℕ, ◌≤◌, ◌&&◌, ◌==◌, Bool, true, false, cond, refl, sym, ap, arith}
+use Rattle.std.proofs.lemmas.Bool.{and_parts, and_from, eqb-true, eq-eqb}
+use Rattle.mp_names.specs.declared.locations.Loc.{Loc}
+use Rattle.mp_stamps.specs.Counts.{same_loc}
+use Rattle.mp_stamps.proofs.Places.{same_loc-true, same_loc-self}
+use Rattle.mp_left_counts.specs.declared.work.Work.{Work}
+use Rattle.mp_left_counts.specs.Left.{part_at}
+
+abbrev pub is_there : Loc → ℕ → Work → Bool
+is_there a t work = same_loc work.loc a && work.time == t
+
+pub there_is : (a : Loc) (t : ℕ) (work : Work) → is_there a t work ≡ true → (a ≡ work.loc) × (t ≡ work.time)
+there_is a t work h = let p = and_parts (same_loc work.loc a) (work.time == t) h in (sym (same_loc-true work.loc a p.0), sym (eqb-true work.time t p.1))
+
+pub is_here : (work : Work) → is_there work.loc work.time work ≡ true
+is_here work = and_from (same_loc work.loc work.loc) (work.time == work.time) (same_loc-self work.loc) (eq-eqb work.time work.time refl)
+
+pub part_here : (work : Work) → part_at work.loc work.time work ≡ work.count
+part_here work = ap (λ (b : Bool). cond b work.count 0) (is_here work)
+
+pub part_most : (a : Loc) (t : ℕ) (work : Work) → part_at a t work ≤ work.count
+part_most a t work = pick (is_there a t work)
+  where
+    pick : (b : Bool) → cond b work.count 0 ≤ work.count
+    pick true = omega arith
+    pick false = omega arith

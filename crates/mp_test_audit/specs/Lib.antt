@@ -1,0 +1,2 @@
+-- What the tests cite.
+pub mod NoEvents
