@@ -37,6 +37,11 @@ def firsts(stages, bins, workers):
     return b"".join(b"first|%d|%d|%d\n" % (stage, bin, (bin + 1) % workers) for stage in range(stages) for bin in range(bins))
 
 
+def drains(count, worker):
+    """As many drains: of two workers in turn, beginning with this one."""
+    return b"".join(b"drain|%d|0|0|%d\n" % (i, (worker + i) % 2) for i in range(count))
+
+
 def costly():
     """The fixed cases: what each is, its words, its events and its configuration."""
     down = bids(COUNT, lambda i: COUNT - i, lambda i: i % 100_003)
@@ -71,4 +76,8 @@ def costly():
     full = "8,192 first owners, 65,536 control records"
     yield f"{full}, q4, {shape}", f"replay --query q4 {shape}", sales(12_500), b"V|2\n" + settings
     yield f"25,000 bids, 2 rules, {full}, q5, {shape}", f"replay --query q5 {shape}", usual, b"V|2\nrule|slide|7200\nrule|slides|5\n" + settings
+    shape = "--workers 2 --bins 4096"
+    # The first drain is of half of the bins, each of the others of all.
+    yield f"25,000 bids, 16 drains of up to 4,096 bins, q1, {shape}", f"replay --query q1 {shape}", usual, b"V|2\n" + drains(16, 0)
+    yield f"25,000 bids, 10,000 drains that find no bin but the first, q1, {shape}", f"replay --query q1 {shape}", usual, b"V|2\n" + b"drain|0|0|0|1\n" * 10_000
     yield "a price of 1,000,000 zeros and a 7", "run --query q1", b"B|1|1|1|" + b"0" * 1_000_000 + b"7\n", b""

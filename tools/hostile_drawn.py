@@ -1,9 +1,9 @@
-"""Cases that are drawn from a seed: words, an event file and a configuration that are near well-formed ones, and what is wanted of them."""
+"""Cases that are drawn from a seed: words, an event file, a pipeline and a configuration that are near well-formed ones, and what is wanted of them."""
 import os
 import random
 import re
 
-from hostile_readers import COUNT, MOST_CONTROLS, NUMBER, PRICE, RULES, TIME, controls_of, events_of
+from hostile_readers import COMPARED, COUNT, FORMS, MOST_CONTROLS, NUMBER, PRICE, RULES, TESTS, TIME, WIDTH, controls_of, events_of, stages_of
 from megaphone_tools import STAGES, read
 
 # What the answer and the report hold before a run.
@@ -18,6 +18,7 @@ SAID = {
     6: rb"read fault\n",
     7: rb"write fault\n",
     9: rb"too large: .*\n",
+    12: rb"pipe line [1-9][0-9]*: (kind|fields|number|range|order|count|end)\n",
 }
 SAID_BY = {"check": rb"ok [0-9]+ events [0-9]+ controls\n", "demo": rb"events [0-9]+ rows [0-9]+ bytes [0-9]+ hash [0-9]+\n"}
 
@@ -29,10 +30,19 @@ BASES = [
     b"",
 ]
 CONFIGS = [b"", b"", b"M|10|0|0|1\nM|20|0|0|0\n", b"all|5|0|1\nfluid|6|30|0|2\n", b"batch|25|10|2|0|1\r\n\nM|0|0|3|0\n", b"M|50|0|0|1"]
-# Kinds of lines of a configuration, and the names of the rules of all queries.
-LINE_WORDS = [b"V", b"first", b"rule", b"M", b"all", *(name for rules in RULES.values() for name in rules)]
-LIMITS = [0, 1, 2, 6, 16, 63, 64, 65, 100, 255, 256, 1000, 1024, 1025, 4096, 4097, 7200, 43_200, COUNT, MOST_CONTROLS, PRICE, TIME, NUMBER, 1 << 32, 1 << 63, 1 << 64, 1 << 128]
-WORDS = [b"", b"--", b"-", b"--query", b"--out", b"--seed", b"=", b"q0", b"q9", b"Q1", b".", b"/", b"e", b"c", b"o", b"r", b"none", b"\xff\xfe", b"1e3", b"+1", b"-1", b"0x10"]
+# The same for version 2 alone.
+DRAINS = [b"drain|25|10|0|0\n", b"M|10|0|0|1\ndrain|10|7|0|0\ndrain|30|0|0|1\nall|31|0|1", b"fluid|6|30|0|2\ndrain|36|1|0|1\r\n", b"drain|140737488355327|1|0|0\n"]
+PIPES = [
+    b"on|B\npass|1|3|0|any|0\n",
+    b"on|B\nsum|1|3|3|ge|60\ncount|1|2|0|any|0\n",
+    b"on|B\n\nwindow|2|3|0|lt|1000000000000000000|100\r\ncount|2|0|1|eq|2\nsum|1|2|0|any|7\npass|0|1|2|ge|1",
+    b"on|A\ncount|2|5|3|eq|10\nsum|2|1|0|any|0\n",
+    b"\non|P\nwindow|1|0|1|any|0|43200\n",
+]
+# Kinds of lines of a configuration and of a pipeline, and the names of the rules of all queries.
+LINE_WORDS = [b"V", b"first", b"rule", b"drain", b"M", b"all", b"on", *FORMS, *TESTS, *(name for rules in RULES.values() for name in rules)]
+LIMITS = [0, 1, 2, 3, 4, 6, 16, 63, 64, 65, 100, 255, 256, 1000, 1024, 1025, 4096, 4097, 7200, 43_200, WIDTH, COUNT, MOST_CONTROLS, PRICE, COMPARED, TIME, NUMBER, 1 << 32, 1 << 63, 1 << 64, 1 << 128]
+WORDS = [b"", b"--", b"-", b"--query", b"--out", b"--seed", b"--pipe", b"--paced", b"pipe", b"p", b"=", b"q0", b"q9", b"Q1", b".", b"/", b"e", b"c", b"o", b"r", b"none", b"\xff\xfe", b"1e3", b"+1", b"-1", b"0x10"]
 
 
 def number(draw):
@@ -47,15 +57,15 @@ def rule_value(draw, limits):
     return draw.choice((least, greatest, draw.choice(limits))) if draw.random() < 0.95 else beside
 
 
-def version_two(draw, query, workers, bins):
-    """A configuration with rules of the query and first owners, and one of the others behind them."""
+def version_two(draw, query, stages, workers, bins):
+    """A configuration with rules of the query and first owners, and control lines behind them."""
     lines = [b"rule|%s|%d" % (name, rule_value(draw, limits)) for name, limits in RULES[query].items() if draw.random() < 0.7]
-    places = [(stage, bin) for stage in range(STAGES[query]) for bin in range(bins)]
+    places = [(stage, bin) for stage in range(stages) for bin in range(bins)]
     some = draw.sample(places, min(len(places), draw.choice((0, 1, 2, 8, 600))))
     lines += [b"first|%d|%d|%d" % (stage, bin, draw.randrange(workers)) for stage, bin in some]
     draw.shuffle(lines)
     begin, end = draw.choice((b"", b"", b"\r\n\n")), draw.choice((b"\n", b"\n", b"\r\n", b"\n\n"))
-    return begin + end.join([b"V|2" if draw.random() < 0.9 else b"V|1", *lines, draw.choice(CONFIGS)])
+    return begin + end.join([b"V|2" if draw.random() < 0.9 else b"V|1", *lines, draw.choice(CONFIGS + DRAINS)])
 
 
 def pieces(text):
@@ -180,30 +190,39 @@ class Case:
 
     def __init__(self, seed, index):
         draw = random.Random(f"{seed} {index}")
-        self.query = draw.choice(list(STAGES))
+        self.query = draw.choice([*STAGES, "pipe", "pipe"])
+        self.pipe = draw.choice(PIPES)
         self.workers, self.bins = draw.choice(((1, 1), (1, 16), (2, 1), (3, 4), (3, 4), (16, 256), (64, 16)))
         self.command = draw.choices(("check", "replay", "run", "make", "demo"), (70, 14, 10, 3, 3))[0]
         shape = f"--workers {self.workers} --bins {self.bins}"
         if self.command == "make":
             line = f"make --count {draw.randrange(60)} --out o --seed {draw.randrange(1 << 48)}"
         elif self.command == "demo":
-            line = f"demo --query {self.query} --count {draw.randrange(60)} {shape}"
+            line = f"demo --query {draw.choice(list(STAGES))} --count {draw.randrange(60)} {shape}"
         else:
-            line = f"{self.command} --query {self.query} --events e --config c {shape}"
+            line = f"{self.command} --query {self.query} --events e --config c {shape}" + (" --pipe p" if self.query == "pipe" else "")
         if self.command in ("run", "replay"):
-            line += f" --out o --depth {draw.choice((1, 2, 64))}" + draw.choice(("", " --report r"))
+            line += f" --out o --depth {draw.choice((1, 2, 64))}" + draw.choice(("", " --report r")) + draw.choice(("", " --paced"))
         self.words, self.is_whole = line.encode().split(), True
         self.events = draw.choice(BASES)
-        self.config = draw.choice(CONFIGS) if draw.random() < 0.4 else version_two(draw, self.query, self.workers, self.bins)
+        self.config = draw.choice(CONFIGS) if draw.random() < 0.4 else version_two(draw, self.query, self.stages(), self.workers, self.bins)
         what = draw.choices(("events", "config", "both", "words"), (45, 25, 15, 15))[0]
+        if self.query == "pipe" and draw.random() < 0.6:
+            what = "pipe"
         for _ in range(draw.choice((1, 1, 2, 4))):
             if what in ("events", "both"):
                 self.events = change(draw, index, self.events)
             if what in ("config", "both"):
                 self.config = change(draw, index, self.config)
+            if what in ("pipe", "both"):
+                self.pipe = change(draw, index, self.pipe)
             if what == "words" and self.words:
                 change_words(draw, self.words)
                 self.is_whole = False
+
+    def stages(self):
+        """How many stages the query has, or the first bad line of its pipeline and the check that it fails."""
+        return STAGES[self.query] if self.query in STAGES else stages_of(self.pipe)
 
     def wanted(self):
         """The status and the line that the readers find, where the words are whole and the files are read."""
@@ -212,7 +231,10 @@ class Case:
         events = events_of(self.events)
         if isinstance(events, tuple):
             return 3, b"events line %d: %s\n" % (events[0], events[1].encode())
-        controls = controls_of(self.config, self.query, self.workers, self.bins)
+        stages = self.stages()
+        if isinstance(stages, tuple):
+            return 12, b"pipe line %d: %s\n" % (stages[0], stages[1].encode())
+        controls = controls_of(self.config, self.query, stages, self.workers, self.bins)
         if isinstance(controls, tuple):
             return 4, b"config line %d: %s\n" % (controls[0], controls[1].encode())
         return 0, b"ok %d events %d controls\n" % (events, controls) if self.command == "check" else b""
@@ -229,9 +251,9 @@ def wrong_in(case, status, said):
     wanted = case.wanted()
     if wanted and wanted != (status, said):
         return f"status {status} says {said}, and not {wanted}"
-    if case.is_whole and status not in (0, 3, 4):
+    if case.is_whole and status not in (0, 3, 4, 12):
         return f"status {status} of whole words"
-    before = {"e": case.events, "c": case.config, "o": OLD, "r": OLD}
+    before = {"e": case.events, "p": case.pipe, "c": case.config, "o": OLD, "r": OLD}
     after = {name: read(name) for name in os.listdir(".")}
     writes = {b"o", b"r"} if case.is_whole else set(case.words) | {word.partition(b"=")[2] for word in case.words}
     for name in before.keys() | after.keys():

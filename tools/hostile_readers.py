@@ -1,8 +1,7 @@
-"""What the event file and the configuration hold, read as docs/FORMATS.md says, and not as the program does."""
-from megaphone_tools import STAGES
-
+"""What the event file, the pipeline and the configuration hold, read as docs/FORMATS.md says, and not as the program does."""
 TIME, NUMBER, PRICE, COUNT = 1 << 47, 1 << 48, 10**12, 1_000_000
 MOST_CONTROLS, MOST_SHIFT, MOST_SIZE = 65_536, 255, 4096
+MOST_STAGES, COMPARED, WIDTH = 4, 10**18, 43_200
 NAME = object()
 
 
@@ -16,6 +15,9 @@ EVENTS = {
     b"A": [up_to(TIME), up_to(NUMBER), up_to(NUMBER), up_to(NUMBER), up_to(PRICE), up_to(TIME)],
     b"B": [up_to(TIME), up_to(NUMBER), up_to(NUMBER), up_to(PRICE)],
 }
+# How many fields a pipeline finds in each kind of events, and its other words.
+PIPE_FIELDS = {b"P": 2, b"A": 6, b"B": 4}
+FORMS, TESTS = (b"pass", b"count", b"sum", b"window"), (b"any", b"lt", b"eq", b"ge")
 # The rules of each query, with the limits of their values.
 RULES = {
     "q1": {b"num": up_to(1000), b"den": up_to(1000, 1)},
@@ -26,15 +28,18 @@ RULES = {
     "q6": {b"last": up_to(100, 1)},
     "q7": {b"width": up_to(43_200, 1)},
     "q8": {b"width": up_to(43_200, 1)},
+    "pipe": {},
 }
+
+
+def all_lines(text):
+    lines = text.split(b"\n")
+    return lines if lines[-1] else lines[:-1]
 
 
 def lines_of(text):
     """The lines that aren't blank, each with its number."""
-    lines = text.split(b"\n")
-    if not lines[-1]:
-        lines.pop()
-    for number, line in enumerate(lines, 1):
+    for number, line in enumerate(all_lines(text), 1):
         line = line.removesuffix(b"\r")
         if line:
             yield number, line
@@ -46,11 +51,13 @@ def value_of(field):
 
 
 def field_fault(field, limit):
-    """The first check that a field fails: that of a name, of a name among these rules, or of a number."""
+    """The first check that a field fails: that of a name, of a name among these rules, of one of these words, or of a number."""
     if limit is NAME:
         return None if 1 <= len(field) <= 64 else "name"
     if isinstance(limit, dict):
         return None if field in limit else "name"
+    if isinstance(limit, tuple):
+        return None if field in limit else "kind"
     if not field or field.strip(b"0123456789"):
         return "number"
     return "range" if len(field.lstrip(b"0")) > 20 or value_of(field) not in limit else None
@@ -83,19 +90,62 @@ def events_of(text):
     return count
 
 
-class Configuration:
-    """The lines of a configuration that were read so far: its version, how many control records, and what first owners and rules."""
+class Pipeline:
+    """The lines of a pipeline that were read so far: the kind of events, and how many stages."""
 
-    def __init__(self, query, workers, bins):
-        self.bins, self.rules = bins, RULES[query]
-        self.version, self.count, self.said = None, 0, set()
-        stage, worker, shift, time = range(STAGES[query]), range(workers), up_to(MOST_SHIFT), up_to(TIME)
+    def __init__(self):
+        self.kind, self.stages = None, 0
+
+    def fault(self, line):
+        """The first check that the next line fails; a line that fails none is kept."""
+        form, *fields = line.split(b"|")
+        if form == b"on":
+            return self.keep_kind(fields)
+        return self.keep_stage(form, fields) if form in FORMS else "kind"
+
+    def keep_kind(self, fields):
+        if fault := fields_fault(fields, [tuple(PIPE_FIELDS)]):
+            return fault
+        fault = "order" if self.kind else None
+        self.kind = fields[0]
+        return fault
+
+    def keep_stage(self, form, fields):
+        place = range(3 if self.stages else PIPE_FIELDS.get(self.kind, 6))
+        widths = [up_to(WIDTH, 1)] if form == b"window" else []
+        if fault := fields_fault(fields, [place, place, place, TESTS, up_to(COMPARED), *widths]):
+            return fault
+        if self.kind is None or form == b"window" and self.stages:
+            return "order"
+        self.stages += 1
+        return "count" if self.stages > MOST_STAGES else None
+
+
+def stages_of(text):
+    """How many stages a pipeline has, or the first bad line and the check that it fails."""
+    read = Pipeline()
+    for number, line in lines_of(text):
+        if fault := read.fault(line):
+            return number, fault
+    return read.stages or (len(all_lines(text)) + 1, "end")
+
+
+class Configuration:
+    """The lines of a configuration that were read so far: its version, its control records, and what first owners and rules."""
+
+    def __init__(self, query, stages, workers, bins):
+        self.workers, self.bins, self.rules = workers, bins, RULES[query]
+        self.version, self.count, self.late, self.said = None, 0, False, set()
+        # By stage and bin its first owner, and the time, the number and the worker of each of its control records.
+        self.firsts, self.records = {}, {}
+        stage, worker, shift, time = range(stages), range(workers), up_to(MOST_SHIFT), up_to(TIME)
         self.controls = {
             b"M": [time, stage, range(bins), worker],
             b"all": [time, stage, shift],
             b"fluid": [time, time, stage, shift],
             b"batch": [time, time, up_to(MOST_SIZE, 1), stage, shift],
         }
+        self.drain = [time, time, stage, worker]
         self.first = [stage, range(bins), worker]
 
     def form(self, kind, fields):
@@ -104,6 +154,8 @@ class Configuration:
             return [up_to(2, 1)]
         if kind == b"first" and self.version == 2:
             return self.first
+        if kind == b"drain" and self.version == 2:
+            return self.drain
         if kind == b"rule" and self.version == 2:
             return [self.rules, self.rules.get(fields[0]) if fields else None]
         return self.controls.get(kind)
@@ -123,26 +175,54 @@ class Configuration:
         if kind == b"rule":
             return self.keep_setting(fields[0])
         values = [value_of(field) for field in fields]
-        return self.keep_setting((values[0], values[1])) if kind == b"first" else self.keep_controls(kind, values)
+        if kind == b"first":
+            self.firsts[values[0], values[1]] = values[2]
+            return self.keep_setting((values[0], values[1]))
+        return self.keep_controls(kind, values)
 
     def keep_setting(self, of):
         """Keeps that a line says a value of this rule, or the first owner of this bin of a stage."""
-        fault = "late" if self.count else "twice" if of in self.said else None
+        fault = "late" if self.late else "twice" if of in self.said else None
         self.said.add(of)
         return fault
 
     def keep_controls(self, kind, values):
-        """Counts the control records of a line: one at least."""
-        rounds = self.bins - 1 if kind == b"fluid" else (self.bins - 1) // values[2] if kind == b"batch" else 0
-        if rounds and values[0] + rounds * values[1] > TIME:
+        """Keeps the control records of a line."""
+        records = self.records_of(kind, values)
+        if kind == b"drain" and self.workers == 1 or any(record[0] > TIME for record in records):
             return "range"
-        self.count += 1 if kind == b"M" else self.bins
+        for time, stage, bin, worker in records:
+            self.count += 1
+            self.records.setdefault((stage, bin), []).append((time, self.count, worker))
+        self.late = True
         return "count" if self.count > MOST_CONTROLS else None
 
+    def records_of(self, kind, values):
+        """The control records that a line says: the time, stage, bin and worker of each."""
+        if kind == b"M":
+            return [tuple(values)]
+        if kind == b"drain":
+            time, gap, stage, worker = values
+            bins = [bin for bin in range(self.bins) if self.owner(stage, bin, time) == worker]
+            return [(time + turn * gap, stage, bin, self.other(worker, turn)) for turn, bin in enumerate(bins)]
+        time, stage, shift = values[0], values[-2], values[-1]
+        gap, size = 0 if kind == b"all" else values[1], values[2] if kind == b"batch" else 1
+        return [(time + bin // size * gap, stage, bin, (bin + shift) % self.workers) for bin in range(self.bins)]
 
-def controls_of(text, query, workers, bins):
+    def owner(self, stage, bin, time):
+        """Who owns a bin at a time, by the lines so far."""
+        records = [record for record in self.records.get((stage, bin), []) if record[0] <= time]
+        return max(records)[2] if records else self.firsts.get((stage, bin), bin % self.workers)
+
+    def other(self, worker, turn):
+        """The worker of a turn of those that a worker's bins go to."""
+        others = [(worker + 1 + step) % self.workers for step in range(self.workers - 1)]
+        return others[turn % len(others)] if others else worker
+
+
+def controls_of(text, query, stages, workers, bins):
     """How many control records there are, or the first bad line and the check that it fails."""
-    read = Configuration(query, workers, bins)
+    read = Configuration(query, stages, workers, bins)
     for number, line in lines_of(text):
         if fault := read.fault(line):
             return number, fault
