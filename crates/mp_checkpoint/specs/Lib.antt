@@ -1,4 +1,6 @@
 -- What the contracts of this crate cite.
+pub mod Firsts
 pub mod Fitting
 pub mod Items
+pub mod Loose
 pub mod Written

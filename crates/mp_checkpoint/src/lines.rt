@@ -2,6 +2,7 @@
 ghost use Rattle.std.specs.Prelude.{◌≡◌, ◌++◌, ◌∷◌, [], ℕ, OnOk, true};
 ghost use Rattle.std.specs.Fmt.{decimal};
 ghost use Rattle.mp_checkpoint_laws.specs.Files.{cell_line, first_line, format_of, last_line, line_text, wake_line};
+ghost use Rattle.mp_checkpoint.specs.Firsts.{front_of};
 ghost use Rattle.mp_checkpoint.specs.Items.{CellsMay, line_said};
 ghost use Rattle.mp_checkpoint.specs.Written.{texts_of};
 
@@ -16,12 +17,19 @@ use std::alloc::AllocError;
 pub fn put_first_line<Q: Saved>(query: &Q, time: Time, out: &mut Vec<u8>) -> Result<(), AllocError>
     ensures { OnOk result (out.new.items ≡ out.old.items ++ (first_line (format_of Q.NUMBER (Q.values query.now) (Q.facts (Q.values query.now)) Q.text_of) time ++ 10 ∷ [])) }
 {
-    out.extend_from_slice(b"K|1|q")?;
-    put_number(out, u64::from(Q::NUMBER))?;
-    out.push(b'|')?;
+    put_front::<Q>(out)?;
     put_number(out, time)?;
     put_more(out, query.values().as_slice())?;
     out.extend_from_slice(b"\n")
+}
+
+/// Appends the front of a first line, up to its time. `AllocError`: no memory, and a part of it may be appended.
+pub fn put_front<Q: Saved>(out: &mut Vec<u8>) -> Result<(), AllocError>
+    ensures { OnOk result (out.new.items ≡ out.old.items ++ front_of Q.NUMBER) }
+{
+    out.extend_from_slice(b"K|1|q")?;
+    put_number(out, u64::from(Q::NUMBER))?;
+    out.extend_from_slice(b"|")
 }
 
 /// Appends the last line of a file that has so many lines between the first and the last. `AllocError`: no memory, and a

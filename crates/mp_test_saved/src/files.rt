@@ -1,8 +1,10 @@
-//! Checkpoints are written as their files; what no file may say is told.
-use mp_checkpoint::{fits, write_checkpoint};
+//! Checkpoints are written as their files, and read from them; what no file may say is told.
+use mp_checkpoint::{CheckpointRefused, fits, read_checkpoint, write_checkpoint};
+use mp_model::Query;
 use mp_outside::{Fault, MemSink, Op};
 use mp_q_auction::Q4;
 use mp_q_join::Q8;
+use mp_q_window::Q7;
 use mp_saved::{Checkpoint, KeyCell, KeyWake, Saved};
 use std::alloc::Global;
 use std::process::Abort;
@@ -50,6 +52,30 @@ fn is_written<Q: Saved>(
     assert!(rt; matches!(why, Err(Fault::Failed)));
     assert_eq!(rt; failing.bytes(), first);
     Ok(())
+}
+
+/// What is read from the file has it.
+fn is_read<Q: Saved>(rt: &impl Abort, alloc: Global, query: &Q, file: &[u8]) -> Result<(), Fail> {
+    assert!(rt; file.len() <= 1000);
+    let checkpoint = read_checkpoint(alloc, file, query)?;
+    let mut sink = MemSink::new(alloc);
+    write_checkpoint(alloc, query, &checkpoint, &mut sink)?;
+    assert_eq!(rt; sink.bytes(), file);
+    Ok(())
+}
+
+/// The text is the file of no checkpoint of the query.
+fn is_refused<Q: Saved>(rt: &impl Abort, alloc: Global, query: &Q, text: &[u8]) {
+    assert!(rt; text.len() <= 1000);
+    let why = read_checkpoint(alloc, text, query);
+    assert!(rt; matches!(why, Err(CheckpointRefused::BadCheckpoint)));
+}
+
+/// So is the file without its end, wherever it is cut.
+fn cuts_are_refused<Q: Saved>(rt: &impl Abort, alloc: Global, query: &Q, file: &[u8]) {
+    for end in 0..file.len() {
+        is_refused(rt, alloc, query, &file[..end]);
+    }
 }
 
 #[test]
@@ -108,5 +134,50 @@ fn what_no_file_may_say(rt: HostRuntime) -> Result<(), Fail> {
         time: 50,
     })?;
     assert!(rt; !fits(&q4, &twice));
+    Ok(())
+}
+
+/// A lot and a wake of q4.
+const LOT: &[u8] = b"K|1|q4|50\nc|0|1|1|9|10|0|100|1|60\nw|0|1|100\nE|2\n";
+
+/// A person and a wake of q8, with the given day.
+const PERSON: &[u8] = b"K|1|q8|150|43200\nc|0|5|1|Ann|0\nw|0|5|43200\nE|2\n";
+
+#[test]
+fn read_files(rt: HostRuntime) -> Result<(), Fail> {
+    let alloc = rt.alloc();
+    is_read(&rt, alloc, &Q4::given(), LOT)?;
+    is_read(&rt, alloc, &Q8::given(), PERSON)?;
+    Ok(())
+}
+
+#[test]
+fn cut_files(rt: HostRuntime) -> Result<(), Fail> {
+    let alloc = rt.alloc();
+    cuts_are_refused(&rt, alloc, &Q4::given(), LOT);
+    cuts_are_refused(&rt, alloc, &Q8::given(), PERSON);
+    Ok(())
+}
+
+#[test]
+fn files_of_other_queries(rt: HostRuntime) -> Result<(), Fail> {
+    let alloc = rt.alloc();
+    is_refused(&rt, alloc, &Q7::given(), PERSON);
+    let short = Q8::given().with(&[100]);
+    is_refused(&rt, alloc, &short, PERSON);
+    Ok(())
+}
+
+#[test]
+fn files_that_say_it_otherwise(rt: HostRuntime) -> Result<(), Fail> {
+    let alloc = rt.alloc();
+    let q4 = Q4::given();
+    is_read(&rt, alloc, &q4, b"K|1|q4|50\nE|0\n")?;
+    is_refused(&rt, alloc, &q4, b"K|1|q4|50\nE|1\n");
+    is_refused(&rt, alloc, &q4, b"K|1|q4|050\nE|0\n");
+    is_refused(&rt, alloc, &q4, b"K|1|q4|0\nE|0\n");
+    is_refused(&rt, alloc, &q4, b"K|1|q4|50\nE|0\n\n");
+    is_refused(&rt, alloc, &q4, b"K|1|q4|50\nw|0|1|49\nE|1\n");
+    is_refused(&rt, alloc, &q4, b"K|1|q4|50\nw|0|2|60\nw|0|1|60\nE|2\n");
     Ok(())
 }
