@@ -7,7 +7,7 @@ use Rattle.mp_model.specs.declared.record.Event.{Event}
 use Rattle.mp_model.specs.declared.record.Rec.{Rec}
 use Rattle.mp_model.specs.Ascending.{ascending}
 use Rattle.mp_model.specs.Facts.{JobFacts, QueryFacts}
-use Rattle.mp_model.specs.Folds.{entry_at, is_woken, keys_in, keys_of, of_key, timeline, times_in}
+use Rattle.mp_model.specs.Folds.{entries_of, entry_at, is_woken, keys_in, keys_of, times_in}
 use Rattle.mp_model.specs.Legal.{EventsAreLegal}
 use Rattle.mp_model.specs.QueryLaws.{BeginsFresh, SumsFit, WakesAreInTime}
 use Rattle.mp_model.specs.Stages.{FoldsFit}
@@ -28,9 +28,9 @@ module _ {Cell : Type 0} (q : QueryFacts Cell) (fresh : BeginsFresh q) where
   keys_are j rs = ap (λ (ws : List (ℕ × ℕ)). ascending (map (λ (w : ℕ × ℕ). w.1) ws ++ map (λ (r : Rec). r.key) rs)) (nothing_waits j)
 
   -- the times of a key are those of its records and of their posts
-  pub timeline_is : (j k : ℕ) (rs : List Rec) → timeline q j k rs ≡ map (entry_at q j k (of_key k rs)) (ascending (times_in q j (of_key k rs)))
-  timeline_is j k rs =
-      ap (λ (ws : List (ℕ × ℕ)). map (entry_at q j k (of_key k rs)) (ascending (map (λ (w : ℕ × ℕ). w.0) (filter (λ (w : ℕ × ℕ). w.1 == k) ws) ++ times_in q j (of_key k rs)))) (nothing_waits j)
+  pub entries_are : (j k : ℕ) (own : List Rec) → entries_of q j k own ≡ map (entry_at q j k own) (ascending (times_in q j own))
+  entries_are j k own =
+      ap (λ (ws : List (ℕ × ℕ)). map (entry_at q j k own) (ascending (map (λ (w : ℕ × ℕ). w.0) (filter (λ (w : ℕ × ℕ). w.1 == k) ws) ++ times_in q j own))) (nothing_waits j)
 
   -- a time is woken where a record posts it
   pub woken_is : (j k : ℕ) (rs : List Rec) (t : ℕ) → is_woken q j k rs t ≡ list_any (λ r. list_any (λ u. u == t) (q.posts j r)) rs

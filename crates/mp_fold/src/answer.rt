@@ -10,7 +10,8 @@ use mp_model::{Event, Output, Place, Query, Value};
 use std::alloc::{AllocError, Global};
 use std::collections::BTreeMap;
 
-type Rows = BTreeMap<Place, Value>;
+/// Rows by their places, in order.
+pub type Rows = BTreeMap<Place, Value>;
 
 /// The answer of a query to events, the lines of one time as one piece. `AllocError`: no memory.
 pub fn answer_pieces<Q: Query>(
@@ -30,8 +31,8 @@ pub fn answer_pieces<Q: Query>(
     pieces.finish()
 }
 
-/// The rows, each at its place.
-fn in_order(alloc: Global, outputs: Vec<Output>) -> Result<Rows, AllocError>
+/// The rows, each at its place. `AllocError`: no memory.
+pub fn in_order(alloc: Global, outputs: Vec<Output>) -> Result<Rows, AllocError>
     ensures { IfOk result (λ m. m.entries ≡ in_order outputs.items) }
 {
     let mut rows = BTreeMap::new(alloc);

@@ -54,11 +54,11 @@ pub fn output_records<Q: Query>(
     alloc: Global,
     query: &Q,
     stage: u32,
-    outputs: &[Output],
+    outputs: Vec<Output>,
 ) -> Result<Vec<Rec>, AllocError>
-    requires { All (λ o. o.time ≤ last_time) outputs.now }
+    requires { All (λ o. o.time ≤ last_time) outputs.items }
     ensures { IfOk result (λ v. v.items
-        ≡ filter_map (record_of_output (Q.facts (Q.values query.now)) stage) outputs.now) }
+        ≡ filter_map (record_of_output (Q.facts (Q.values query.now)) stage) outputs.items) }
 {
     let mut recs = Vec::new(alloc);
     for output in outputs {
@@ -71,23 +71,21 @@ pub fn output_records<Q: Query>(
 fn push_output_record<Q: Query>(
     query: &Q,
     stage: u32,
-    output: &Output,
+    output: Output,
     recs: &mut Vec<Rec>,
 ) -> Result<(), AllocError>
-    requires { output.now.time ≤ last_time }
+    requires { output.time ≤ last_time }
     ensures { OnOk result (recs.new.items
-        ≡ recs.old.items ++ option_to_list (record_of_output (Q.facts (Q.values query.now)) stage output.now)) }
+        ≡ recs.old.items ++ option_to_list (record_of_output (Q.facts (Q.values query.now)) stage output)) }
 {
-    match query.key(stage, output.time, &output.value) {
-        Some(key) => {
-            recs.push(Rec {
-                time: output.time,
-                key,
-                tag: output.tag,
-                value: output.value.clone()?,
-            })?;
-            Ok(())
-        }
-        None => Ok(()),
+    let Output { time, tag, value } = output;
+    if let Some(key) = query.key(stage, time, &value) {
+        recs.push(Rec {
+            time,
+            key,
+            tag,
+            value,
+        })?;
     }
+    Ok(())
 }

@@ -1,96 +1,57 @@
-//! The groups of a key: its records, their times, and whether a time is posted.
-ghost use Rattle.std.specs.Prelude.{◌≡◌, ◌≤◌, ◌==◌, All, IfOk};
-ghost use Rattle.std.specs.List.{list_any};
+//! The times of a key: those of its records, and those that they post.
+ghost use Rattle.std.specs.Prelude.{◌≡◌, ◌≤◌, [], All, IfOk, IsPermutation, MatchOption};
+ghost use Rattle.std.specs.List.{flat_map};
+ghost use Rattle.std.specs.List.Sorted.{IsNonDecreasing, IsNonDecreasingBy};
 ghost use Rattle.mp_names.specs.Limits.{last_time};
-ghost use Rattle.mp_model.specs.Ascending.{ascending};
-ghost use Rattle.mp_model.specs.Folds.{at_time, keys_of, of_key, times_in};
+ghost use Rattle.mp_fold.specs.Order.{IsFirstTime};
 
-use crate::ascending::ascending;
 use mp_model::{Query, Rec, Time};
 use std::alloc::{AllocError, Global};
 
-/// The keys of records, ascending and each once. `AllocError`: no memory.
-pub fn keys_of(alloc: Global, recs: &[Rec]) -> Result<Vec<u64>, AllocError>
-    ensures { IfOk result (λ v. v.items ≡ keys_of recs.now) }
-{
-    let keys: Vec<u64> = recs.iter().map(|rec| rec.key).collect(alloc)?;
-    ascending(alloc, keys.as_slice())
-}
-
-/// The records of a key. `AllocError`: no memory.
-pub fn of_key(alloc: Global, recs: &[Rec], key: u64) -> Result<Vec<Rec>, AllocError>
-    ensures { IfOk result (λ v. v.items ≡ of_key key recs.now) }
-{
-    let mut own = Vec::new(alloc);
-    for rec in recs {
-        if rec.key == key {
-            own.push(rec.clone()?)?;
-        }
-    }
-    Ok(own)
-}
-
-/// The records of a time. `AllocError`: no memory.
-pub fn at_time(alloc: Global, recs: &[Rec], time: Time) -> Result<Vec<Rec>, AllocError>
-    ensures { IfOk result (λ v. v.items ≡ at_time time recs.now) }
-{
-    let mut group = Vec::new(alloc);
-    for rec in recs {
-        if rec.time == time {
-            group.push(rec.clone()?)?;
-        }
-    }
-    Ok(group)
-}
-
-/// The times of records and of their posts, ascending and each once. `AllocError`: no memory.
-pub fn group_times<Q: Query>(
+/// The times that records post, ascending, each as often as it is posted. `AllocError`: no memory.
+pub fn posted_times<Q: Query>(
     alloc: Global,
     query: &Q,
     stage: u32,
     recs: &[Rec],
 ) -> Result<Vec<Time>, AllocError>
     requires { All (λ r. r.time ≤ last_time) recs.now }
-    ensures { IfOk result (λ v. v.items ≡ ascending (times_in (Q.facts (Q.values query.now)) stage recs.now)) }
+    ensures same { IfOk result (λ v.
+        IsPermutation (flat_map ((Q.facts (Q.values query.now)).posts stage) recs.now) v.items) }
+    ensures ascending { IfOk result (λ v. IsNonDecreasing v.items) }
 {
-    let times = times_in(alloc, query, stage, recs)?;
-    ascending(alloc, times.as_slice())
+    let mut times = posts_of(alloc, query, stage, recs)?;
+    times.sort_unstable();
+    Ok(times)
 }
 
-/// The times of records and of their posts, as they come.
-fn times_in<Q: Query>(
+/// The times that records post, as they come.
+fn posts_of<Q: Query>(
     alloc: Global,
     query: &Q,
     stage: u32,
     recs: &[Rec],
 ) -> Result<Vec<Time>, AllocError>
     requires { All (λ r. r.time ≤ last_time) recs.now }
-    ensures { IfOk result (λ v. v.items ≡ times_in (Q.facts (Q.values query.now)) stage recs.now) }
+    ensures { IfOk result (λ v. v.items ≡ flat_map ((Q.facts (Q.values query.now)).posts stage) recs.now) }
 {
     let mut times = Vec::new(alloc);
     for rec in recs {
-        times.push(rec.time)?;
         times.extend_from_slice(query.posts(stage, rec).as_slice())?;
     }
     Ok(times)
 }
 
-/// Whether one of the records posts this time.
-pub fn is_posted<Q: Query>(query: &Q, stage: u32, recs: &[Rec], time: Time) -> bool
-    requires { All (λ r. r.time ≤ last_time) recs.now }
-    ensures { result ≡ list_any (λ r. list_any (λ u. u == time) ((Q.facts (Q.values query.now)).posts stage r)) recs.now }
+/// The first time of records and of posted times, both ascending.
+pub fn first_time(recs: &[Rec], posted: &[Time]) -> Option<Time>
+    requires recs { IsNonDecreasingBy (λ r. r.time) recs.now }
+    requires posted { IsNonDecreasing posted.now }
+    ensures { MatchOption result ((recs.now ≡ []) × (posted.now ≡ [])) (IsFirstTime recs.now posted.now) }
 {
-    for rec in recs {
-        if contains(query.posts(stage, rec).as_slice(), time) {
-            return true;
-        }
+    match (recs.first(), posted.first()) {
+        (Some(rec), Some(post)) => Some(rec.time.min(*post)),
+        (Some(rec), None) => Some(rec.time),
+        (None, Some(post)) => Some(*post),
+        (None, None) => None,
     }
-    false
-}
-
-/// Whether this is one of the times.
-fn contains(times: &[Time], time: Time) -> bool
-    ensures { result ≡ list_any (λ u. u == time) times.now }
-{
-    times.iter().any(|other| *other == time)
 }
