@@ -1,7 +1,10 @@
+pub mod Arms
 pub mod Ended
+pub mod Lifted
 pub mod New
 pub mod Numbered
 pub mod OwnLog
+pub mod Telling
 pub mod Told
 pub mod Turned
 pub mod Paced

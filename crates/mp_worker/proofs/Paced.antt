@@ -1,5 +1,5 @@
 -- What a worker tells of a job doesn't depend on whether the run is paced.
-use Rattle.std.proofs.Common.{◌≡◌, ℕ, Bool, List, subst, sym}
+use Rattle.std.proofs.Common.{ℕ, Bool, List, subst, sym}
 use Rattle.mp_names.specs.Outlines.{groups_of, owner_before}
 use Rattle.mp_model.specs.Facts.{JobFacts, QueryFacts}
 use Rattle.mp_model.specs.Tables.{table_of}

@@ -68,7 +68,7 @@ module _ (had_room was_full was_empty : ℕ → ℕ → Type 0) (o : Outline) (m
     answers_exchange is (Ok turn.NotNow) says = ((λ x can. absurd (no_name is x can)), says.0)
     answers_exchange is (Ok turn.Busy) says = (is, says.0)
     answers_exchange is (Err stop.Write) says = absurd says
-    answers_exchange is (Err stop.Memory) says = absurd says
+    answers_exchange is (Err stop.Memory) says = says.0
     answers_exchange is (Err (stop.Other cause)) says = (is, says.0)
 
     -- its log is what it was
@@ -78,7 +78,7 @@ module _ (had_room was_full was_empty : ℕ → ℕ → Type 0) (o : Outline) (m
     same_log_after (Ok turn.NotNow) says = ap (λ (s : WorkerState). s.log) says.0
     same_log_after (Ok turn.Busy) says = ap (λ (s : WorkerState). s.log) says.0
     same_log_after (Err stop.Write) says = absurd says
-    same_log_after (Err stop.Memory) says = absurd says
+    same_log_after (Err stop.Memory) says = ap (λ (s : WorkerState). s.log) says.0
     same_log_after (Err (stop.Other cause)) says = ap (λ (s : WorkerState). s.log) says.0
 
 -- What a write leaves in a sink

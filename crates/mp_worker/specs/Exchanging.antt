@@ -13,10 +13,11 @@ use Rattle.mp_worker.specs.declared.turn.Stop.{Stop}
 use Rattle.mp_worker.specs.declared.turn.Stop.TheVariants as stop
 
 module _ {H : Type 0} (after : H → ℕ → Log → H → Type 0) (kept : H → H → Type 0) (shows : H → Seen → Type 0) (goes_on : H → Type 0) (was_stopped : H → Cause → Type 0) (was_busy : H → Type 0) (s now : WorkerState) (old new : H) where
-  -- the log was posted, and a new version was seen; or nothing had changed since the last exchange; or the worker and the hub are as they were: the hub was held, or a worker had stopped. An exchange takes no memory
+  -- the log was posted, and a later version was seen; or nothing had changed since the last exchange; or the worker and the hub are as they were: the hub was held, a worker had stopped, or there was no memory to keep the step, as an exchange takes none else
   abbrev pub Exchanges : Result Turn Stop → Type 0
   Exchanges (Ok (turn.Seen version)) = Sees s version now × IsPosted after goes_on s old new × shows new now.seen
   Exchanges (Ok turn.NotNow) = (now ≡ s) × (s.posted ≡ s.log) × IsPosted after goes_on s old new × ShowsNothingNew shows s new
   Exchanges (Ok turn.Busy) = (now ≡ s) × was_busy old × kept old new
+  Exchanges (Err stop.Memory) = (now ≡ s) × (new ≡ old)
   Exchanges (Err (stop.Other cause)) = (now ≡ s) × was_stopped new cause × kept old new
   Exchanges _ = ⊥

@@ -1,6 +1,8 @@
 -- What the contracts of this crate cite.
 pub mod Done
 pub mod Exchanging
+pub mod Keeping
+pub mod Stepping
 pub mod Stops
 pub mod Turns
 pub mod Writing

@@ -6,6 +6,7 @@
 
 mod exchange;
 mod finished;
+mod keeping;
 mod kinds;
 mod known;
 mod plan;

@@ -7,4 +7,6 @@ pub struct RunPlan {
     pub depth: u32,
     /// Whether control records are paced: those of a time wait until all that moves at earlier times has arrived.
     pub paced: bool,
+    /// Whether the workers keep their steps.
+    pub keeps: bool,
 }

@@ -1,13 +1,15 @@
 //! How a worker begins.
-ghost use Rattle.std.specs.Prelude.{◌≡◌, ◌<◌, true, false, IfOk, replicate};
+ghost use Rattle.std.specs.Prelude.{◌≡◌, ◌<◌, true, false, IfOk, None, replicate};
 ghost use Rattle.mp_names.specs.Logs.{empty_log};
 ghost use Rattle.mp_job.specs.Runs.{IsRunOf};
 ghost use Rattle.mp_board.specs.Boards.{ShowsFrontiers};
 ghost use Rattle.mp_outline.specs.JobOutline.{outline_of};
 ghost use Rattle.mp_output.specs.Rows.{GivesRows};
 ghost use Rattle.mp_model.specs.Tables.{table_of};
+ghost use Rattle.mp_worker.specs.Keeping.{no_steps};
 
 use crate::Worker;
+use crate::keeping::kept_at_first;
 use mp_job::Job;
 use mp_model::{Naming, Query};
 use mp_stamps::Seen;
@@ -32,8 +34,11 @@ impl<'a, Q: Query, J: Naming> Worker<'a, Q, J> {
         ensures log { IfOk result (λ worker. worker.log ≡ empty_log) }
         ensures posted { IfOk result (λ worker. worker.posted ≡ empty_log) }
         ensures seen { IfOk result (λ worker. worker.seen ≡ seen) }
+        ensures steps { IfOk result (λ worker. worker.steps ≡ None) }
     {
-        Worker::begin(alloc, job, number, seen, false)
+        let keeps = false;
+        let paced = false;
+        Worker::begin(alloc, job, number, seen, paced, keeps)
     }
 
     /// The same, of a paced run: worker 0 sends the control records of a time once the moves of all earlier times are over.
@@ -53,17 +58,21 @@ impl<'a, Q: Query, J: Naming> Worker<'a, Q, J> {
         ensures log { IfOk result (λ worker. worker.log ≡ empty_log) }
         ensures posted { IfOk result (λ worker. worker.posted ≡ empty_log) }
         ensures seen { IfOk result (λ worker. worker.seen ≡ seen) }
+        ensures steps { IfOk result (λ worker. worker.steps ≡ None) }
     {
-        Worker::begin(alloc, job, number, seen, true)
+        let keeps = false;
+        let paced = true;
+        Worker::begin(alloc, job, number, seen, paced, keeps)
     }
 
-    // A worker that has done nothing, of a run of the job that is paced or isn't.
+    // A worker that has done nothing, of a run of the job that is paced or isn't, and that keeps its steps or doesn't.
     pub(crate) fn begin(
         alloc: Global,
         job: &'a Job<Q>,
         number: u32,
         seen: Seen,
         paced: bool,
+        keeps: bool,
     ) -> Result<Worker<'a, Q, J>, AllocError>
         requires job { IsRunOf job.now J.job }
         requires pace { J.job.paced ≡ paced }
@@ -74,8 +83,10 @@ impl<'a, Q: Query, J: Naming> Worker<'a, Q, J> {
         ensures log { IfOk result (λ worker. worker.log ≡ empty_log) }
         ensures posted { IfOk result (λ worker. worker.posted ≡ empty_log) }
         ensures seen { IfOk result (λ worker. worker.seen ≡ seen) }
+        ensures steps { IfOk result (λ worker. worker.steps ≡ no_steps keeps) }
     {
         let parts = Parts::new(alloc, job, number, seen, paced)?;
-        Ok(Worker { parts })
+        let kept = kept_at_first(alloc, keeps);
+        Ok(Worker { parts, kept })
     }
 }

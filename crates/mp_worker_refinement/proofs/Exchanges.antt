@@ -13,7 +13,6 @@ use Rattle.mp_names.specs.Logs.{Log, LogIsLegal, LogsAreLegal, empty_log}
 use Rattle.mp_names.specs.Locations.{IsLocation}
 use Rattle.mp_names.proofs.Exact.{frontier_unique}
 use Rattle.mp_names.proofs.Exists.{frontier_is}
-use Rattle.mp_stamps.specs.declared.seen.Seen.{Seen}
 use Rattle.mp_stamps.specs.Seen.{seen_at}
 use Rattle.mp_mailbox.specs.Queues.{Queues}
 use Rattle.mp_machine.specs.Worlds.{Worker, World, posted_logs, put}
@@ -24,9 +23,11 @@ use Rattle.mp_machine.proofs.Turns.{not_now_from, own_log, same_log_is, saw_from
 use Rattle.mp_machine.proofs.Worlds.{WorldIsRight}
 use Rattle.mp_board.specs.Boards.{ShowsFrontiers, exchanged, version_with}
 use Rattle.mp_board.proofs.Recounted.{frontier_of_equal}
+use Rattle.mp_worker_refinement.specs.Ends.{FollowsLog}
 use Rattle.mp_worker_refinement.specs.Laws.{MailFollows}
 use Rattle.mp_worker_refinement.specs.State.{WorkerState}
-use Rattle.mp_worker_refinement.specs.SystemState.{Refines, IsWorkerOf, SystemState, with_worker}
+use Rattle.mp_worker_refinement.specs.Steps.{Sees}
+use Rattle.mp_worker_refinement.specs.SystemState.{Refines, IsWorkerOf, SystemState, queues_denote, with_worker}
 use Rattle.mp_worker_refinement.proofs.Logs.{listed, next_world, still_hold}
 
 -- A frontier looks at the logs of the outline's workers alone
@@ -73,18 +74,27 @@ module _ (o : Outline) (ok : OutlineIsSound o) (depth : ℕ) (t : SystemState) (
 
   -- a version that is new to the worker
 
-  module _ (seen : Seen) (version : seen.version ≡ version_with t.board w s.log) (shows : ShowsFrontiers o logs_after seen) where
+  module _ (new : WorkerState) (sees : Sees s (version_with t.board w s.log) new) (shows : ShowsFrontiers o logs_after new.seen) where
+    version : new.seen.version ≡ version_with t.board w s.log
+    version = sees.version_is
+
     legal : LogsAreLegal o (posted_with world w)
     legal = put_all (λ v (l : Log). v < o.workers → LogIsLegal o v l) w (world.worker w).log (posted_logs world) (right.logs w) (λ v n. right.posted v)
 
-    seen_is : (at : Loc) → IsLocation o.stages at → seen_at seen at ≡ frontier_of o (posted_with world w) at
+    seen_is : (at : Loc) → IsLocation o.stages at → seen_at new.seen at ≡ frontier_of o (posted_with world w) at
     seen_is at has =
-        frontier_unique (count_at o (posted_with world w)) at (seen_at seen at) (frontier_of o (posted_with world w) at)
-        (frontier_of_logs o (log_at logs_after) (posted_with world w) posted_is at (seen_at seen at) (shows at has))
+        frontier_unique (count_at o (posted_with world w)) at (seen_at new.seen at) (frontier_of o (posted_with world w) at)
+        (frontier_of_logs o (log_at logs_after) (posted_with world w) posted_is at (seen_at new.seen at) (shows at has))
         (frontier_is o (posted_with world w) ok legal at)
 
-    looked : IsWorkerOf o w (record s { posted = s.log; seen = seen }) (having_seen o world w)
-    looked = record { number = is.number; log = is.log; posted = is.log; seen = seen_is; version = version ∙ version_is }
+    looked : IsWorkerOf o w new (having_seen o world w)
+    looked = record {
+      number = ap (λ (n : WorkerState). n.number) sees.after ∙ is.number;
+      log = ap (λ (n : WorkerState). n.log) sees.after ∙ is.log;
+      posted = ap (λ (n : WorkerState). n.posted) sees.after ∙ is.log;
+      seen = seen_is;
+      version = version ∙ version_is;
+    }
 
     board_is : (v : ℕ) → v < o.workers → log_at logs_after v ≡ (put w (having_seen o world w) world.worker v).posted
     board_is =
@@ -92,28 +102,32 @@ module _ (o : Outline) (ok : OutlineIsSound o) (depth : ℕ) (t : SystemState) (
         (λ l. posted_here ∙ is.log)
         (λ v n l. posted_elsewhere v n ∙ are.posted v l)
 
-    seen_world : (post : Queues (List Name)) → MailFollows o w t.post s s post → Refines o depth (record (with_worker t w (record s { posted = s.log; seen = seen }) post) { board = exchanged t.board w s.log }) (world_exchanged o world w)
+    seen_world : (post : Queues (List Name)) → MailFollows o w t.post s s post → Refines o depth (record (with_worker t w new post) { board = exchanged t.board w s.log }) (world_exchanged o world w)
     seen_world post mail =
-        next_world o depth t world are w s was (record s { posted = s.log; seen = seen }) (having_seen o world w) looked post (exchanged t.board w s.log) (version_after world w) world.mailbox mail.workers mail.depth mail.follows
+        let follows = subst (λ (l : Log). FollowsLog (queues_denote o t.post) (queues_denote o post) o w s.log l) (sym (ap (λ (n : WorkerState). n.log) sees.after)) mail.follows in
+        next_world o depth t world are w s was new (having_seen o world w) looked post (exchanged t.board w s.log) (version_after world w) world.mailbox mail.workers mail.depth follows
         (length-set t.board.logs w s.log ∙ are.all_logs) board_is version_is (still_hold o depth t world are w s post mail.messages)
 
-    can_exchange : (seen.version ≡ s.seen.version → ⊥) → CanExchange o world w Exchange
-    can_exchange new = (
+    can_exchange : CanExchange o world w Exchange
+    can_exchange = (
       lw,
       ⊎_elim
           (λ (e : same_log (world.worker w).log (world.worker w).posted ≡ true).
-          inr (λ level. new (version ∙ version_is ∙ cond-true (same_log (world.worker w).log (world.worker w).posted) world.version (suc world.version) e ∙ sym level ∙ sym is.version)))
+          inr (λ level.
+          let same : version_with t.board w s.log ≡ s.seen.version = version_is ∙ cond-true (same_log (world.worker w).log (world.worker w).posted) world.version (suc world.version) e ∙ sym level ∙ sym is.version in
+          let later = sees.later in
+          absurd (omega arith)))
           (λ (e : same_log (world.worker w).log (world.worker w).posted ≡ false).
           inl (λ same. both_ways (same_log (world.worker w).log (world.worker w).posted) e (subst (λ (l : Log). same_log (world.worker w).log l ≡ true) same (own_log (world.worker w).log))))
           (cases_Bool (same_log (world.worker w).log (world.worker w).posted)),
     )
 
-    pub saw : (post : Queues (List Name)) → (seen.version ≡ s.seen.version → ⊥) → MailFollows o w t.post s s post
-        → (turn_of_machine o depth world w Exchange ≡ Saw seen.version) × Refines o depth (record (with_worker t w (record s { posted = s.log; seen = seen }) post) { board = exchanged t.board w s.log }) (step_of_machine o depth world w Exchange)
+    pub saw : (post : Queues (List Name)) → MailFollows o w t.post s s post
+        → (turn_of_machine o depth world w Exchange ≡ Saw (version_with t.board w s.log)) × Refines o depth (record (with_worker t w new post) { board = exchanged t.board w s.log }) (step_of_machine o depth world w Exchange)
     unfolding turn_of_machine step_of_machine
-    saw post new mail =
-        let turn = saw_from o depth world w Exchange (can_exchange new) in
-        (turn ∙ ap Saw (sym (version ∙ version_is)), subst (Refines o depth (record (with_worker t w (record s { posted = s.log; seen = seen }) post) { board = exchanged t.board w s.log })) (sym (ap (after_turn o world w Exchange) turn)) (seen_world post mail))
+    saw post mail =
+        let turn = saw_from o depth world w Exchange can_exchange in
+        (turn ∙ ap Saw (sym version_is), subst (Refines o depth (record (with_worker t w new post) { board = exchanged t.board w s.log })) (sym (ap (after_turn o world w Exchange) turn)) (seen_world post mail))
 
   -- the version that the worker had seen
 

@@ -16,7 +16,7 @@ use Rattle.mp_board.specs.Boards.{ShowsFrontiers, exchanged}
 use Rattle.mp_worker_refinement.specs.Ends.{PostMatchesLog, FollowsLog, MessagesFollowLog}
 use Rattle.mp_worker_refinement.specs.Mail.{MailboxBlocks, MailboxAllows}
 use Rattle.mp_worker_refinement.specs.State.{CanMake, Makes, WorkerState}
-use Rattle.mp_worker_refinement.specs.Steps.{Tells}
+use Rattle.mp_worker_refinement.specs.Steps.{Sees, Tells}
 use Rattle.mp_worker_refinement.specs.SystemState.{Refines, KnowsTheEnd, SystemState, queues_denote, queues_wait, with_worker}
 
 -- The mailboxes after a step of a worker: what they stand for and what waits in them follows its log, which may have the names of one message more
@@ -37,10 +37,9 @@ pub record StepsRefineMachine (o : Outline) (depth : ℕ) (t : SystemState) (wor
       → slice_get t.workers w ≡ Some s → (kind ≡ Exchange → ⊥) → ((x : Name) → CanMake o kind s x → MailboxBlocks (WasFull t.post) (WasEmpty t.post) o w kind x) → MailFollows o w t.post s s post
       → (turn_of_machine o depth world w kind ≡ NotNow) × Refines o depth (with_worker t w s post) world
   -- an exchange saw a version that is new to the worker
-  pub saw : (w : ℕ) (s : WorkerState) (seen : Seen) (post : Queues (List Name)) → let board = exchanged t.board w s.log in
-      slice_get t.workers w ≡ Some s → seen.version ≡ board.version → ShowsFrontiers o board.logs seen → (seen.version ≡ s.seen.version → ⊥) → MailFollows o w t.post s s post
-      → (turn_of_machine o depth world w Exchange ≡ Saw seen.version)
-      × Refines o depth (record (with_worker t w (record s { posted = s.log; seen = seen }) post) { board = board }) (step_of_machine o depth world w Exchange)
+  pub saw : (w : ℕ) (s new : WorkerState) (post : Queues (List Name)) → let board = exchanged t.board w s.log in
+      slice_get t.workers w ≡ Some s → Sees s board.version new → ShowsFrontiers o board.logs new.seen → MailFollows o w t.post s s post
+      → (turn_of_machine o depth world w Exchange ≡ Saw board.version) × Refines o depth (record (with_worker t w new post) { board = board }) (step_of_machine o depth world w Exchange)
   -- an exchange saw the version that the worker had seen: it changed nothing
   pub saw_nothing : (w : ℕ) (s : WorkerState) (post : Queues (List Name)) → let board = exchanged t.board w s.log in
       slice_get t.workers w ≡ Some s → board.version ≡ s.seen.version → MailFollows o w t.post s s post

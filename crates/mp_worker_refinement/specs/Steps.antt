@@ -1,18 +1,19 @@
 -- What a step of a kind came to, by its answer: the names that were put into the log, none, or an error.
-use Rattle.std.specs.Prelude.{◌≡◌, ◌≢◌, ℕ, List, Ok, Err, Option, None, Some, length, slice_get}
+use Rattle.std.specs.Prelude.{◌≡◌, ◌<◌, ℕ, List, Ok, Err, Option, None, Some, length, slice_get}
 use Rattle.std.specs.declared.result.Result.{Result}
 use Rattle.mp_names.specs.declared.kinds.Kind.{Kind}
+use Rattle.mp_names.specs.declared.kinds.Kind.TheVariants.{Exchange}
 use Rattle.mp_names.specs.declared.names.Name.{Name}
 use Rattle.mp_names.specs.Outlines.{Outline}
 use Rattle.mp_msg.specs.declared.names.Names.{Names}
 use Rattle.mp_worker_refinement.specs.Mail.{MailboxAllows, MailboxBlocks}
-use Rattle.mp_worker_refinement.specs.State.{CanMake, Makes, WorkerState}
+use Rattle.mp_worker_refinement.specs.State.{CanMake, Makes, WorkerState, kept_with}
 
--- The worker posted its log, and saw this version, which is new to it; nothing else of it changed
+-- The worker posted its log, and saw this version, which is later than the one that it had seen; nothing else of it changed but the steps that it keeps
 pub record Sees (old : WorkerState) (version : ℕ) (new : WorkerState) : Type 0 where
-  pub after : new ≡ record old { posted = old.log; seen = new.seen }
+  pub after : new ≡ record old { posted = old.log; seen = new.seen; steps = kept_with old.steps Exchange version }
   pub version_is : new.seen.version ≡ version
-  pub is_new : version ≢ old.seen.version
+  pub later : old.seen.version < version
 
 -- Of these names the step tells the first, and how many there are
 pub record Tells (told : Names) (xs : List Name) : Type 0 where

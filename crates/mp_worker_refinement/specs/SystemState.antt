@@ -30,7 +30,7 @@ pub record SystemState : Type 0 where
   pub board : Posted
   pub post : Queues (List Name)
 
--- the worker is the one of the machine that has this number: it has the same log, posted the same, and saw the same of the outline's locations
+-- the worker is the one of the machine that has this number: it has the same log, posted the same, and saw the same of the outline's locations. The steps that a worker keeps are no part of the machine
 pub record IsWorkerOf (o : Outline) (w : ℕ) (s : WorkerState) (worker : Worker) : Type 0 where
   pub number : s.number ≡ w
   pub log : s.log ≡ worker.log

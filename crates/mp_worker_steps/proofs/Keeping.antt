@@ -1,5 +1,6 @@
 -- What a worker keeps to where its parts are others, and what its parts say of its steps.
-use Rattle.std.proofs.Common.{◌≡◌, ◌<◌, ℕ, List, [], ◌∷◌, Err, IfNone, None, Ok, OnOk, Option, Result, Some, refl}
+use Rattle.std.proofs.Common.{◌≡◌, ◌<◌, ℕ, List, [], ◌∷◌, Err, IfNone, None, Ok, OnOk, Option, Result, Some, ap, refl, subst, sym}
+use Rattle.mp_names.specs.declared.kinds.Kept.{Kept}
 use Rattle.mp_names.specs.declared.kinds.Kind.{Kind}
 use Rattle.mp_names.specs.declared.kinds.Kind.TheVariants.{Receive}
 use Rattle.mp_names.specs.declared.names.Name.{Name}
@@ -16,7 +17,7 @@ use Rattle.mp_rows.specs.WorkerLog.{WorkerLog}
 use Rattle.mp_msg.specs.declared.names.Names.{Names}
 use Rattle.mp_worker_invariant.specs.Laws.{CanDo}
 use Rattle.mp_worker_invariant.specs.Parts.{ArePartsOf, Parts}
-use Rattle.mp_worker_refinement.specs.State.{CanMake, Makes, WorkerState}
+use Rattle.mp_worker_refinement.specs.State.{CanMake, Makes, WorkerState, kept_with}
 use Rattle.mp_worker_refinement.specs.Steps.{MakesAlone, MakesByMail, Tells}
 use Rattle.mp_output.specs.Unwritten.{Unwritten}
 use Rattle.mp_worker_steps.specs.declared.lists.ChangeLists.{ChangeLists}
@@ -51,7 +52,7 @@ on_ok (Err e) p f = tt
 
 -- the worker as contracts see it
 abbrev pub state : {Cell : Type 0} → Parts Cell → WorkerState
-state p = record { number = p.number; log = p.log; posted = p.posted; seen = p.seen }
+state p = record { number = p.number; log = p.log; posted = p.posted; seen = p.seen; steps = None }
 
 -- the parts as contracts see them
 abbrev pub contents : {Cell : Type 0} → Parts Cell → ℕ → ℕ → Unwritten → Unwritten → ChangeLists → Contents Cell
@@ -67,28 +68,36 @@ module _ {Cell : Type 0} {q : QueryFacts Cell} {job its : JobFacts} {p : Parts C
 
   -- the step was made with these names
   pub makes_all : KindFits (outline_of q job) kind → CanDo q job p kind x → (xs : List Name) → AreNamesOf (outline_of q job) p.number p.log kind x xs → (l : Log) → l ≡ logged kind p.log xs
-      → Makes (outline_of q job) kind (state p) xs (record { number = p.number; log = l; posted = p.posted; seen = p.seen })
+      → Makes (outline_of q job) kind (state p) xs (record { number = p.number; log = l; posted = p.posted; seen = p.seen; steps = None })
   makes_all fits can xs are l is = record { first = x; can = can_make fits can; names = are; after = rw is refl }
 
   -- or with one alone
   pub makes : KindFits (outline_of q job) kind → CanDo q job p kind x → AreNamesOf (outline_of q job) p.number p.log kind x (x ∷ []) → (l : Log) → l ≡ logged kind p.log (x ∷ [])
-      → MakesAlone (outline_of q job) kind (state p) (record { number = p.number; log = l; posted = p.posted; seen = p.seen }) (record { first = x; count = 1 })
+      → MakesAlone (outline_of q job) kind (state p) (record { number = p.number; log = l; posted = p.posted; seen = p.seen; steps = None }) (record { first = x; count = 1 })
   makes fits can are l is = record { names = x ∷ []; tells = record { first = refl; count = refl }; makes = makes_all fits can (x ∷ []) are l is }
 
--- a step that can be made was made with its one name
-pub made_alone : {o : Outline} {kind : Kind} {s : WorkerState} {x : Name} → CanMake o kind s x → AreNamesOf o s.number s.log kind x (x ∷ []) → (l : Log) → l ≡ logged kind s.log (x ∷ []) → MakesAlone o kind s (record s { log = l }) (record { first = x; count = 1 })
-made_alone {x = x} can are l is = record { names = x ∷ []; tells = record { first = refl; count = refl }; makes = record { first = x; can = can; names = are; after = rw is refl } }
+-- where no steps are kept, none are after one more
+none_kept : (kind : Kind) (steps : Option (List Kept)) → steps ≡ None → steps ≡ kept_with steps kind 0
+none_kept kind steps none = subst (λ (k : Option (List Kept)). k ≡ kept_with k kind 0) (sym none) refl
 
--- a message that begins with a name may be taken, and its names put into the log
-pub received : (o : Outline) (s : WorkerState) (v : ℕ) → v < o.workers → (xs : List Name) (told : Names) → Tells told xs → (had_room was_full was_empty : ℕ → ℕ → Type 0) → ((x : Name) → In x xs → sender o x ≡ v)
+-- a step that can be made was made with its one name, by a worker that keeps no steps
+pub made_alone : {o : Outline} {kind : Kind} {s : WorkerState} {x : Name} → s.steps ≡ None → CanMake o kind s x → AreNamesOf o s.number s.log kind x (x ∷ []) → (l : Log) → l ≡ logged kind s.log (x ∷ []) → MakesAlone o kind s (record s { log = l }) (record { first = x; count = 1 })
+made_alone {kind = kind} {s = s} {x = x} none can are l is = record {
+  names = x ∷ [];
+  tells = record { first = refl; count = refl };
+  makes = record { first = x; can = can; names = are; after = ap (λ (m : Log × Option (List Kept)). record s { log = m.0; steps = m.1 }) (λ i. (is i, none_kept kind s.steps none i)) };
+}
+
+-- a message that begins with a name may be taken, and its names put into the log, by a worker that keeps no steps
+pub received : (o : Outline) (s : WorkerState) (v : ℕ) → s.steps ≡ None → v < o.workers → (xs : List Name) (told : Names) → Tells told xs → (had_room was_full was_empty : ℕ → ℕ → Type 0) → ((x : Name) → In x xs → sender o x ≡ v)
     → MakesByMail had_room was_full was_empty o (Receive v) s (with_taken xs s) told
-received o s v fits [] told tells had_room was_full was_empty sends = absurd (none tells.first)
+received o s v keeps fits [] told tells had_room was_full was_empty sends = absurd (none tells.first)
   where
     none : None ≡ Some told.first → ⊥
     none e = cc
-received o s v fits (x ∷ xs) told tells had_room was_full was_empty sends = record {
+received o s v keeps fits (x ∷ xs) told tells had_room was_full was_empty sends = record {
   names = x ∷ xs;
   tells = tells;
-  makes = record { first = x; can = record { fits = fits; next = tt; ready = tt }; names = (xs, refl); after = refl };
+  makes = record { first = x; can = record { fits = fits; next = tt; ready = tt }; names = (xs, refl); after = ap (λ (k : Option (List Kept)). record (with_taken (x ∷ xs) s) { steps = k }) (none_kept (Receive v) s.steps keeps) };
   allows = sends;
 }

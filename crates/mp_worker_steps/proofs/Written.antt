@@ -1,5 +1,5 @@
 -- Worker 0 writes the rows of a time: it may, its lines are the answer's, and the parts hold what the new log says.
-use Rattle.std.proofs.Common.{◌≡◌, ◌≢◌, ◌∙◌, ℕ, List, [], ◌∷◌, Option, Ok, Err, ap, refl, subst, sym, take}
+use Rattle.std.proofs.Common.{◌≡◌, ◌≢◌, ◌∙◌, ℕ, List, [], ◌∷◌, Option, None, Ok, Err, ap, refl, subst, sym, take}
 use Rattle.std.specs.Prelude.{IsErrAnd}
 use Rattle.std.specs.declared.result.Result.{Result}
 use Rattle.mp_names.specs.declared.kinds.Kind.TheVariants.{Write}
@@ -39,13 +39,13 @@ module _ {Cell : Type 0} {q : QueryFacts Cell} {job : JobFacts} {p : Parts Cell}
   rows_have_come = subst (λ (v : ℕ). IsClosedForOne (outline_of q job) v p.log OutMail t) first (parts.done OutMail t tt (passed _ p.unwritten t due))
 
   -- to write it is a step that the worker can make
-  pub can_write : IsLeast (IsUnwritten p.log) (Written t) → CanMake (outline_of q job) Write (record { number = p.number; log = p.log; posted = p.posted; seen = p.seen }) (Written t)
+  pub can_write : IsLeast (IsUnwritten p.log) (Written t) → CanMake (outline_of q job) Write (record { number = p.number; log = p.log; posted = p.posted; seen = p.seen; steps = None }) (Written t)
   can_write least = record { fits = tt; next = (first, least); ready = passed _ p.unwritten t due }
 
   -- its lines are the answer's, so a part of them is a part of the answer's
   pub part_written :
       IsLeast (IsUnwritten p.log) (Written t) × (IsClosedForOne (outline_of q job) 0 p.log OutMail t → lines_of (rows_at t p.unwritten) ≡ answer_at q job.events t)
-      → (n : ℕ) (old new : Option (List ℕ)) → new ≡ grown old (take n (lines_of (rows_at t p.unwritten))) → WritesPart q job (record { number = p.number; log = p.log; posted = p.posted; seen = p.seen }) old new
+      → (n : ℕ) (old new : Option (List ℕ)) → new ≡ grown old (take n (lines_of (rows_at t p.unwritten))) → WritesPart q job (record { number = p.number; log = p.log; posted = p.posted; seen = p.seen; steps = None }) old new
   part_written told n old new grew = (t, n, can_write told.0, grew ∙ ap (λ (lines : List ℕ). grown old (take n lines)) (told.1 rows_have_come))
 
   -- once it is written the parts hold what the new log says

@@ -1,5 +1,5 @@
 -- What contracts see of the parts of a worker.
-use Rattle.std.specs.Prelude.{ℕ, List, length}
+use Rattle.std.specs.Prelude.{ℕ, List, None, length}
 use Rattle.mp_names.specs.declared.names.Name.{Name}
 use Rattle.mp_names.specs.Logs.{empty_log}
 use Rattle.mp_stamps.specs.declared.seen.Seen.{Seen}
@@ -14,7 +14,7 @@ use Rattle.mp_worker_invariant.specs.Kept.{with_all_took}
 use Rattle.mp_worker_refinement.specs.State.{WorkerState}
 use Rattle.mp_worker_steps.specs.declared.lists.ChangeLists.{ChangeLists}
 
--- the worker; for how many more names and changes its log has room; the control records that it noted; by stage its routers, hosts and movers; the answer rows that it has to send, and those that it has to write; and its lists for what a step changes
+-- the worker, which keeps no steps as far as its parts go; for how many more names and changes its log has room; the control records that it noted; by stage its routers, hosts and movers; the answer rows that it has to send, and those that it has to write; and its lists for what a step changes
 pub record Contents (Cell : Type 0) : Type 0 where
   pub worker : WorkerState
   pub names : ℕ
@@ -33,7 +33,7 @@ worker_of p = p.worker
 
 -- a worker that has done nothing, and what it saw
 abbrev pub new_worker : ℕ → Seen → WorkerState
-new_worker w seen = record { number = w; log = empty_log; posted = empty_log; seen = seen }
+new_worker w seen = record { number = w; log = empty_log; posted = empty_log; seen = seen; steps = None }
 
 -- the worker with the names as taken
 abbrev pub with_taken : List Name → WorkerState → WorkerState

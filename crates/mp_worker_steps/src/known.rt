@@ -16,10 +16,11 @@ use mp_tally::{Tally, moved_so_far};
 use std::alloc::{AllocError, Global};
 
 impl<'a, Q: Query, J: Naming> Parts<'a, Q, J> {
-    /// The number of the worker that these are the parts of.
+    /// The number of the worker that these are the parts of. The parts keep no steps.
     pub fn number(&self) -> u32
         ensures is { result ≡ self.now.worker.number }
         ensures inside { self.now.worker.number < J.job.shape.workers }
+        ensures steps { self.now.worker.steps ≡ None }
     {
         self.log.worker()
     }

@@ -53,6 +53,7 @@ pub struct Parts<'a, Q: Query, J: Naming> {
 }
 
 impl<'a, Q: Query, J: Naming> Model for Parts<'a, Q, J> {
+    ghost use Rattle.std.specs.Prelude.{None};
     ghost use Rattle.mp_worker_steps.specs.Contents.{Contents};
     ghost use Rattle.mp_worker_steps.specs.Kept.{IsKept, parts_with};
     ghost use Rattle.mp_model.specs.Tables.{table_of};
@@ -60,7 +61,7 @@ impl<'a, Q: Query, J: Naming> Model for Parts<'a, Q, J> {
     ghost Value = { Contents Q.Cell };
 
     ghost view = { λ p. record {
-      worker = record { number = p.log.worker; log = p.log.log; posted = p.posted.value.log; seen = p.seen };
+      worker = record { number = p.log.worker; log = p.log.log; posted = p.posted.value.log; seen = p.seen; steps = None };
       names = p.log.room_for_names;
       changes = p.log.room_for_changes;
       notes = p.owners;

@@ -12,7 +12,7 @@ returns-clause-turns c = λ o depth steps t ok are.
     record {
       did = λ w kind told xs old new post was tells makes lets mail. did o ok depth t world right are w old was kind xs new post makes lets mail told tells;
       not_now = λ w kind s post was other hinders mail. (not_now o ok depth t world right are w s was kind other hinders, same_world o ok depth t world right are w s was post mail);
-      saw = λ w s seen post was version shows new mail. saw o ok depth t world right are w s was seen version shows post new mail;
+      saw = λ w s new post was sees shows mail. saw o ok depth t world right are w s was new sees shows post mail;
       saw_nothing = λ w s post was level mail.
           (saw_nothing o ok depth t world right are w s was level, same_board o ok depth t world right are w s was level, same_world o ok depth t world right are w s was post mail);
     }

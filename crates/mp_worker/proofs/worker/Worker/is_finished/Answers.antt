@@ -1,5 +1,5 @@
 use Rattle.std.proofs.Common.{◌∙◌, refl, sym}
-use Rattle.mp_worker.proofs.Ended.{done_from_ended, ended_from_done}
+use Rattle.mp_worker.proofs.Ended.{ended_from_done}
 use Rattle.mp_worker.proofs.worker.Worker.is_finished.Goals as goal
 
 pub returns-else-number-ne0 : goal.returns-else-number-ne0

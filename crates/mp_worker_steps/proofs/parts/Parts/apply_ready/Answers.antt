@@ -1,4 +1,4 @@
-use Rattle.std.proofs.Common.{◌≡◌, ◌∙◌, ◌+◌, ap, refl, sym, Some, arith}
+use Rattle.std.proofs.Common.{◌≡◌, ◌∙◌, ◌+◌, None, ap, refl, sym, Some, arith}
 use Rattle.std.proofs.lemmas.Bool.{false≢true}
 use Rattle.std.proofs.lemmas.Option.{slice_get-get_or}
 use Rattle.mp_names.specs.declared.kinds.Kind.TheVariants.{Apply}
@@ -95,8 +95,8 @@ returns g c =
     let told = c.in_ok-applied.ensures.told _ _ c.self.invariant c.index_mut-host.ensures.value refl refl in
     let i = c.self.inside in
     let applied = c.in_ok-applied.applied in
-    let pushed = ap (λ (l : WorkerLog). record { number = l.worker; log = c.push.new.self.log; posted = i.posted.value.log; seen = i.seen }) c.in_ok-push.ensures.pushed in
-    let self_is : c.if-stage-stages.self.worker ≡ record { number = i.log.worker; log = c.push.new.self.log; posted = i.posted.value.log; seen = i.seen } =
+    let pushed = ap (λ (l : WorkerLog). record { number = l.worker; log = c.push.new.self.log; posted = i.posted.value.log; seen = i.seen; steps = None }) c.in_ok-push.ensures.pushed in
+    let self_is : c.if-stage-stages.self.worker ≡ record { number = i.log.worker; log = c.push.new.self.log; posted = i.posted.value.log; seen = i.seen; steps = None } =
     elim c.if-stage-stages.branch [ then-stage-stages+in_ok-hold_records w ↦ ap worker_of w.self-is ∙ pushed | else-stage-stages+in_ok-hold_rows w ↦ ap worker_of w.self-is ∙ pushed ] in
     rw (← c.self.view_is, self_is) (makes c.self.invariant (Apply c.args.stage) (Group c.args.stage applied.time applied.key) c.requires.stage told.can refl c.push.new.self.log (ap (λ (l : WorkerLog). l.log) c.in_ok-push.ensures.pushed))
 

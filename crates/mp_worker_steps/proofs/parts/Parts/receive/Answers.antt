@@ -83,7 +83,7 @@ returns g c =
     let sends : (y : Name) → In y xs → sender (outline g) y ≡ c.args.from = λ y k. all_send (outline g) xs names.sender y k ∙ came.edge.0 in
     rw (c.take.ensures, c.make_room_to_take.ensures.same, ← c.is_empty.ensures.same)
     (record {
-      steps = received (outline g) s c.args.from c.requires.from xs c.names-names.result (record { first = names.first; count = names.count }) _ _ _ sends;
+      steps = received (outline g) s c.args.from c.number-number.ensures.steps c.requires.from xs c.names-names.result (record { first = names.first; count = names.count }) _ _ _ sends;
       mail = rw (← c.number-number.ensures.is)
           (record {
             follows = follows_taken (outline g) c.number-number.result s.log c.args.from xs sends (g.P.Post.denotes c.is_empty.new.self) (g.P.Post.denotes c.pop.new.self) came.some came.others;

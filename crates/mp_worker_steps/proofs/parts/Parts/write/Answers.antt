@@ -45,7 +45,7 @@ returns-in_ok-push-in-Time-clause-steps g c =
     let due = rw c.in-Time.is at c.in_ok-time.ensures.due in
     let next = rw c.in-Time.is at c.in_ok-time.ensures.next in
     rw (← c.self.view_is, c.in_ok-push-in-Time.ensures.pushed, c.in_ok-make_room.ensures.made)
-    (made_alone (can_write c.self.invariant.parts (sym c.worker.ensures ∙ c.if-worker-ne0.false) _ due (next _ c.self.invariant.parts.unwritten).least) refl _ refl)
+    (made_alone refl (can_write c.self.invariant.parts (sym c.worker.ensures ∙ c.if-worker-ne0.false) _ due (next _ c.self.invariant.parts.unwritten).least) refl _ refl)
 
 pub invariant_of-self : goal.invariant_of-self
 invariant_of-self g c = rw c.in_err-make_room.ensures.unchanged c.self.invariant

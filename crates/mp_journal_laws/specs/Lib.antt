@@ -1,0 +1,4 @@
+-- What the contracts of this crate cite.
+pub mod Kept
+pub mod Telling
+pub mod Promises
