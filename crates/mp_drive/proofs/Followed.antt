@@ -1,23 +1,28 @@
 -- A schedule that is followed, step by step, and how many steps it has.
-use Rattle.std.proofs.Common.{◌≡◌, ℕ, ◌+◌, ◌*◌, ◌<◌, ◌≤◌, cond, Bool, true, List, [], ◌∷◌, ◌++◌, Some, Ok, Err, length, refl, sym, ◌∙◌, ap, subst, arith, length-append}
-use Rattle.std.specs.Prelude.{IfOk, OnOk}
+use Rattle.std.proofs.Common.{◌≡◌, ℕ, ◌+◌, ◌*◌, All, ◌<◌, ◌≤◌, Bool, List, [], ◌∷◌, ◌++◌, Option, Some, Ok, Err, length, map, refl, sym, ◌∙◌, ap, subst, arith, length-append}
+use Rattle.std.specs.Prelude.{IfOk, IsTrue, OnOk, unwrap_or}
 use Rattle.std.specs.declared.result.Result.{Result}
-use Rattle.std.proofs.lemmas.List.{append-nil}
-use Rattle.std.proofs.lemmas.List.Sums.{sum_by-append}
-use Rattle.std.proofs.lemmas.Option.{get_or_from_slice_get}
+use Rattle.std.proofs.lemmas.List.{append-nil, length-map}
+use Rattle.std.proofs.lemmas.Option.{get_or_from_slice_get, slice_get_within}
+use Rattle.mp_names.specs.declared.kinds.Kept.{Kept}
 use Rattle.mp_names.specs.declared.kinds.Kind.{Kind}
 use Rattle.mp_names.specs.Outlines.{Outline, OutlineIsSound, name_count}
 use Rattle.mp_machine.specs.Worlds.{World, start_of_machine}
-use Rattle.mp_machine.specs.Runs.{Turn, is_made, made_count, run_of_machine, turns_of, world_after}
+use Rattle.mp_machine.specs.Runs.{Turn, made_count, run_of_machine, turns_of, world_after}
 use Rattle.mp_machine.proofs.Bounds.{steps_bounded}
 use Rattle.mp_machine.proofs.Worlds.{turns_more}
+use Rattle.mp_journal_laws.specs.Kept.{kept_of}
+use Rattle.mp_worker_refinement.specs.State.{WorkerState}
 use Rattle.mp_worker_refinement.specs.SystemState.{KnowsTheEnd, Refines, SystemState}
+use Rattle.mp_worker.specs.Keeping.{no_steps}
 use Rattle.mp_board.specs.declared.causes.Cause.{Cause}
 use Rattle.mp_draws.specs.Draws.{draw_of}
 use Rattle.mp_drive.specs.Driven.{AllKnowTheEnd, AreAfter, AreReached, LeadsOn}
-use Rattle.mp_drive.specs.Schedule.{AreFinished, AreScheduled, EndsAfter, FollowsSchedule, MakesPick, pick}
+use Rattle.mp_drive.specs.Journals.{journal_at, with_more}
+use Rattle.mp_drive.specs.Schedule.{AreFinished, AreScheduled, EndsAfter, FollowsSchedule, IsKeptBySchedule, MakesPick, pick}
 use Rattle.mp_tally.proofs.Lists.{some_at}
 use Rattle.mp_drive.proofs.Ended.{finished}
+use Rattle.mp_drive.proofs.Journaled.{at_mapped, journals_begin, steps_at}
 use Rattle.mp_drive.proofs.Leading.{leads_further, run_more, still_there}
 use Rattle.mp_drive.proofs.Made.{made_more, one_made}
 use Rattle.mp_drive.proofs.Picked.{one_more_scheduled}
@@ -126,3 +131,31 @@ ends_after o depth seed old new (Ok n) start level f known =
       few = f.few;
     }
 ends_after o depth seed old new (Err why) start level f known = tt
+
+-- what the workers have kept then, where each kept its steps from the start on
+pub kept_by_schedule : (o : Outline) (depth seed n : ℕ) (old new : SystemState) → Refines o depth old (start_of_machine o) → old.post.depth ≡ depth → FollowsSchedule o seed n old new → AllKnowTheEnd o new
+    → ((w : ℕ) → w < length old.workers → journal_at old w ≡ Some []) → IsKeptBySchedule o depth seed (map (λ (s : WorkerState). unwrap_or s.steps []) new.workers)
+kept_by_schedule o depth seed n old new start level f known keep =
+    let begun : AreAfter o [] old = subst (λ (d : ℕ). Refines o d old (start_of_machine o)) (sym level) start in
+    let there : AreAfter o f.steps new = f.lead.state_is [] begun in
+    let all = there.all_workers in
+    let first = start.all_workers in
+    record {
+      steps = f.steps;
+      scheduled = subst (λ (d : ℕ). AreScheduled o d seed (start_of_machine o) f.steps) level (f.scheduled [] begun);
+      finished = subst (λ (d : ℕ). AreFinished o (run_of_machine o d f.steps)) (f.lead.depth ∙ level) (are_finished o new.post.depth new (run_of_machine o new.post.depth f.steps) there known);
+      all_workers = length-map new.workers (λ (s : WorkerState). unwrap_or s.steps []) ∙ all;
+      each = λ w kept at.
+          let s = at_mapped (λ (s : WorkerState). unwrap_or s.steps []) new.workers w kept at in
+          let within = slice_get_within new.workers w s.0 s.1 in
+          let grown = f.lead.journals [] begun w in
+          let mine : s.0.steps ≡ Some (kept_of o old.post.depth (start_of_machine o) f.steps w) =
+          sym (ap (λ (r : Option WorkerState). steps_at r) s.1) ∙ grown ∙ ap (λ (j : Option (List Kept)). with_more j (kept_of o old.post.depth (start_of_machine o) f.steps w)) (keep w (omega arith)) in
+          s.2 ∙ ap (λ (j : Option (List Kept)). unwrap_or j []) mine ∙ ap (λ (d : ℕ). kept_of o d (start_of_machine o) f.steps w) level;
+    }
+
+-- the same of lists that were taken of the workers then
+pub kept_by_plan : (o : Outline) (depth seed n : ℕ) (old new : SystemState) (keeps : Bool) (lists : List (List Kept)) → IsTrue keeps → All (λ (s : WorkerState). s.steps ≡ no_steps keeps) old.workers → Refines o depth old (start_of_machine o) → old.post.depth ≡ depth
+    → FollowsSchedule o seed n old new → AllKnowTheEnd o new → lists ≡ map (λ (s : WorkerState). unwrap_or s.steps []) new.workers → IsKeptBySchedule o depth seed lists
+kept_by_plan o depth seed n old new keeps lists keep none start level f known taken =
+    subst (IsKeptBySchedule o depth seed) (sym taken) (kept_by_schedule o depth seed n old new start level f known (λ w l. journals_begin keeps old.workers none w l ∙ ap no_steps keep))

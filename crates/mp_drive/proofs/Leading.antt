@@ -1,13 +1,19 @@
 -- Steps that lead on, one after another.
-use Rattle.std.proofs.Common.{◌≡◌, ℕ, List, [], ◌∷◌, ◌++◌, refl, sym, ◌∙◌, ap, subst}
+use Rattle.std.proofs.Common.{◌≡◌, ℕ, ◌==◌, List, [], ◌∷◌, ◌++◌, Option, refl, sym, ◌∙◌, ap, subst}
 use Rattle.std.proofs.lemmas.List.{append-nil, append_assoc}
+use Rattle.mp_names.specs.declared.kinds.Kept.{Kept}
 use Rattle.mp_names.specs.declared.kinds.Kind.{Kind}
 use Rattle.mp_names.specs.Outlines.{Outline}
 use Rattle.mp_machine.specs.Worlds.{World, start_of_machine}
 use Rattle.mp_machine.specs.Runs.{Turn, NotNow, after_turn, run_of_machine, step_of_machine, turn_of_machine, turns_of, world_after}
 use Rattle.mp_machine.proofs.Worlds.{after_more, turns_more}
+use Rattle.mp_journal_laws.specs.Kept.{kept_of}
+use Rattle.mp_journal_laws.proofs.Keeping.{kept_more}
 use Rattle.mp_worker_refinement.specs.SystemState.{Refines, SystemState}
 use Rattle.mp_drive.specs.Driven.{AreAfter, LeadsOn}
+use Rattle.mp_drive.specs.Journals.{journal_at, with_more}
+use Rattle.mp_drive.proofs.Journaled.{more_none, more_twice}
+use Rattle.mp_drive.proofs.Unmade.{kept_one, none_of}
 
 module _ (o : Outline) where
   -- the state of a run, at the depth that the workers' mailboxes had before
@@ -19,6 +25,7 @@ module _ (o : Outline) where
     turns_are = λ before are. refl;
     state_is = λ before are. subst (λ (steps : List (ℕ × Kind)). AreAfter o steps t) (sym (append-nil before)) are;
     depth = refl;
+    journals = λ before are w. more_none (journal_at t w);
   }
 
   pub run_more : (depth : ℕ) (before steps : List (ℕ × Kind)) → world_after o depth (run_of_machine o depth before) steps ≡ run_of_machine o depth (before ++ steps)
@@ -36,6 +43,16 @@ module _ (o : Outline) where
         both t (turns_of o d world a) u (turns_of o d (world_after o d world a) b) here behind ∙ sym (turns_more o d a b world);
     state_is = λ before are. subst (λ (steps : List (ℕ × Kind)). AreAfter o steps new) (append_assoc before a b) (second.state_is (before ++ a) (first.state_is before are));
     depth = second.depth ∙ first.depth;
+    journals = λ before are w.
+        let d = old.post.depth in
+        let world = run_of_machine o d before in
+        let kept = λ (n : ℕ) (z : World). kept_of o n z b w in
+        let later : kept mid.post.depth (run_of_machine o mid.post.depth (before ++ a)) ≡ kept d (world_after o d world a) = ap (λ (n : ℕ). kept n (run_of_machine o n (before ++ a))) first.depth ∙ ap (kept d) (sym (run_more d before a)) in
+        second.journals (before ++ a) (first.state_is before are) w
+        ∙ ap (λ (j : Option (List Kept)). with_more j (kept mid.post.depth (run_of_machine o mid.post.depth (before ++ a)))) (first.journals before are w)
+        ∙ more_twice (journal_at old w) (kept_of o d world a w) (kept mid.post.depth (run_of_machine o mid.post.depth (before ++ a)))
+        ∙ ap (λ (more : List Kept). with_more (journal_at old w) (kept_of o d world a w ++ more)) later
+        ∙ ap (with_more (journal_at old w)) (sym (kept_more o d world a b w));
   }
     where
       both : (a b c d : List Turn) → a ≡ b → c ≡ d → a ++ c ≡ b ++ d
@@ -65,6 +82,9 @@ module _ (o : Outline) where
           let here : Refines o d new world = subst (Refines o d new) same after in
           subst (λ (steps : List (ℕ × Kind)). AreAfter o steps new) (sym (append-nil before)) (back d before (sym lead.depth) here);
       depth = lead.depth;
+      journals = λ before are w.
+          lead.journals before are w
+          ∙ ap (with_more (journal_at old w)) (kept_one o old.post.depth (run_of_machine o old.post.depth before) s.0 s.1 NotNow (was_not_now before are) w ∙ none_of (s.0 == w));
     }
       where
         level : (d : ℕ) (steps : List (ℕ × Kind)) → new.post.depth ≡ d → AreAfter o steps new → Refines o d new (run_of_machine o d steps)

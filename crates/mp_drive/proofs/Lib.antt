@@ -1,6 +1,7 @@
 pub mod Appended
 pub mod Ended
 pub mod Followed
+pub mod Journaled
 pub mod Keeping
 pub mod Leading
 pub mod Listed
@@ -8,10 +9,13 @@ pub mod Made
 pub mod Numbered
 pub mod Opened
 pub mod Owned
+pub mod Passing
 pub mod Picked
 pub mod Refusing
 pub mod Told
 pub mod Tried
 pub mod Turned
+pub mod Unmade
 pub mod Written
+pub mod Begun
 pub mod Counted

@@ -14,6 +14,7 @@ use Rattle.mp_worker_refinement.specs.SystemState.{SystemState}
 use Rattle.mp_worker.specs.declared.turn.Turn.{Turn as Answered}
 use Rattle.mp_board.specs.declared.causes.Cause.{Cause}
 use Rattle.mp_drive.specs.Driven.{AreReachedBy, LeadsOn, made_by, turn_in}
+use Rattle.mp_drive.proofs.Journaled.{kept_further}
 
 pub made_more : (a b : List Turn) → made_count (a ++ b) ≡ made_count a + made_count b
 made_more a b = sum_by-append (λ t. cond (is_made t) 1 0) a b
@@ -37,7 +38,7 @@ module _ (o : Outline) where
       let same : made_count turns ≡ made_count later = ap made_count (lead.turns_are by.0 by.1) in
       let early : made_count (turns_of o d (start_of_machine o) by.0) ≡ n = by.2 in
       let all : made_count (turns_of o d (start_of_machine o) (by.0 ++ steps)) ≡ n + made_count turns = omega arith in
-      (by.0 ++ steps, lead.state_is by.0 by.1, subst (λ (k : ℕ). made_count (turns_of o k (start_of_machine o) (by.0 ++ steps)) ≡ n + made_count turns) (sym lead.depth) all)
+      (by.0 ++ steps, lead.state_is by.0 by.1, subst (λ (k : ℕ). made_count (turns_of o k (start_of_machine o) (by.0 ++ steps)) ≡ n + made_count turns) (sym lead.depth) all, kept_further o by.0 steps old new lead.depth by.3 (lead.journals by.0 by.1))
 
   -- what one step answers, or why it was refused
   pub counted_by : (w n : ℕ) (kind : Kind) (answered : Result Answered Cause) (old new : SystemState) → AreReachedBy o old n → IfOk answered (λ turn. LeadsOn o ((w, kind) ∷ []) (turn_in turn ∷ []) old new) → OnErr answered (LeadsOn o [] [] old new) → AreReachedBy o new (n + made_by answered)

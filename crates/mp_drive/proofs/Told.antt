@@ -1,5 +1,5 @@
 -- What a worker says of its step, by its answer.
-use Rattle.std.proofs.Common.{◌≡◌, ◌⊎◌, ℕ, Some, None, Ok, Err, List, Option, refl, sym, ap, ◌∙◌, inl, inr, ⊎_elim}
+use Rattle.std.proofs.Common.{◌≡◌, ◌⊎◌, ℕ, Some, None, Ok, Err, List, Option, refl, ap, inl, inr, ⊎_elim}
 use Rattle.std.specs.Prelude.{OnErr}
 use Rattle.std.specs.declared.result.Result.{Result}
 use Rattle.mp_names.specs.declared.kinds.Kind.{Kind}
@@ -9,7 +9,6 @@ use Rattle.mp_names.specs.Outlines.{Outline}
 use Rattle.mp_stamps.specs.declared.seen.Seen.{Seen}
 use Rattle.mp_mailbox.specs.Queues.{HadRoom, Queues, WasEmpty, WasFull}
 use Rattle.mp_board.specs.Boards.{Posted, ShowsFrontiers, exchanged}
-use Rattle.mp_board.specs.declared.causes.Cause.{Cause}
 use Rattle.mp_model.specs.Facts.{JobFacts, QueryFacts}
 use Rattle.mp_outside.specs.Sink.{grown}
 use Rattle.mp_answer_laws.specs.Lines.{lines_of_time}
@@ -18,13 +17,14 @@ use Rattle.mp_worker_refinement.specs.Ends.{FollowsLog, MessagesFollowLog}
 use Rattle.mp_worker_refinement.specs.Mail.{MailboxAllows, MailboxBlocks}
 use Rattle.mp_worker_refinement.specs.Served.{PostFollows}
 use Rattle.mp_worker_refinement.specs.State.{CanMake, Makes, WorkerState}
-use Rattle.mp_worker_refinement.specs.Steps.{Tells}
+use Rattle.mp_worker_refinement.specs.Steps.{Sees, Tells}
 use Rattle.mp_worker_refinement.specs.SystemState.{queues_denote, queues_wait}
 use Rattle.mp_worker.specs.declared.turn.Stop.{Stop}
 use Rattle.mp_worker.specs.declared.turn.Stop.TheVariants as stop
 use Rattle.mp_worker.specs.declared.turn.Turn.{Turn as Answered}
 use Rattle.mp_worker.specs.declared.turn.Turn.TheVariants as worker
 use Rattle.mp_worker.specs.Exchanging.{Exchanges}
+use Rattle.mp_worker.specs.Keeping.{steps_after}
 use Rattle.mp_worker.specs.Turns.{Answers}
 use Rattle.mp_worker.specs.Writing.{WritesInTurn, WritesPart}
 
@@ -66,7 +66,7 @@ exchange_no_write kind e f = cc
 -- What a worker with this number says of its step, on a board and on plain queues
 pub record Says (o : Outline) (kind : Kind) (board after : Posted) (post left : Queues (List Name)) (s new : WorkerState) (r : Result Answered Stop) (w : ℕ) : Type 0 where
   pub did : IfDid r (λ told. (xs : List Name) × Tells told xs × Makes o kind s xs new × MailboxAllows (HadRoom post) o w kind xs)
-  pub saw : IfSaw r (λ version. (kind ≡ Exchange) × (new ≡ record s { posted = s.log; seen = new.seen }) × (new.seen.version ≡ version) × (version ≡ s.seen.version → ⊥))
+  pub saw : IfSaw r (λ version. (kind ≡ Exchange) × Sees s version new)
   pub shown : IfSaw r (λ _. (after ≡ exchanged board w s.log) × ((new.seen.version ≡ after.version) × ShowsFrontiers o after.logs new.seen))
   pub not_now : IfNotNow r ((x : Name) → CanMake o kind s x → MailboxBlocks (WasFull post) (WasEmpty post) o w kind x)
   pub same : IfNotNow r (kind ≡ Exchange → (after ≡ exchanged board w s.log) × ((seen : Seen) × ((seen.version ≡ after.version) × ShowsFrontiers o after.logs seen) × (seen.version ≡ s.seen.version)))
@@ -78,6 +78,7 @@ pub record Says (o : Outline) (kind : Kind) (board after : Posted) (post left : 
   pub depth : left.depth ≡ post.depth
   pub others : (kind ≡ Exchange → ⊥) → after ≡ board
   pub kept : OnErr r (after ≡ board)
+  pub keeps : new.steps ≡ steps_after s.steps kind r
 
 module _ (o : Outline) (kind : Kind) (board after : Posted) (post left : Queues (List Name)) (s new : WorkerState) where
   abbrev Answer : Result Answered Stop → Type 0
@@ -92,8 +93,8 @@ module _ (o : Outline) (kind : Kind) (board after : Posted) (post left : Queues 
   did_of (Ok (worker.Did x n)) a = (a.names, a.tells, a.makes, a.allows)
   did_of r a = tt
 
-  saw_of : (r : Result Answered Stop) → Answer r → IfSaw r (λ version. (kind ≡ Exchange) × (new ≡ record s { posted = s.log; seen = new.seen }) × (new.seen.version ≡ version) × (version ≡ s.seen.version → ⊥))
-  saw_of (Ok (worker.Seen version)) a = (a.0, a.1.after, a.1.version_is, a.1.is_new)
+  saw_of : (r : Result Answered Stop) → Answer r → IfSaw r (λ version. (kind ≡ Exchange) × Sees s version new)
+  saw_of (Ok (worker.Seen version)) a = a
   saw_of r a = tt
 
   shown_of : (r : Result Answered Stop) → Answer r → AtBoard r → IfSaw r (λ _. (after ≡ exchanged board s.number s.log) × ((new.seen.version ≡ after.version) × ShowsFrontiers o after.logs new.seen))
@@ -122,19 +123,19 @@ module _ (o : Outline) (kind : Kind) (board after : Posted) (post left : Queues 
   unchanged_of (Err stop.Memory) a = a
   unchanged_of (Err (stop.Other cause)) a = a.1
 
-  kept_of : (r : Result Answered Stop) → Answer r → AtBoard r → ((kind ≡ Exchange → ⊥) → after ≡ board) → OnErr r (after ≡ board)
-  kept_of (Ok turn) a at others = tt
-  kept_of (Err stop.Write) a at others = others (λ e. exchange_no_write kind e a.0)
-  kept_of (Err stop.Memory) a at others =
+  board_kept : (r : Result Answered Stop) → Answer r → AtBoard r → ((kind ≡ Exchange → ⊥) → after ≡ board) → OnErr r (after ≡ board)
+  board_kept (Ok turn) a at others = tt
+  board_kept (Err stop.Write) a at others = others (λ e. exchange_no_write kind e a.0)
+  board_kept (Err stop.Memory) a at others =
       ⊎_elim
-      (λ (e : kind ≡ Exchange). absurd (at e))
+      (λ (e : kind ≡ Exchange). (at e).1)
       others
       (is_exchange kind)
-  kept_of (Err (stop.Other cause)) a at others = (at a.0).2
+  board_kept (Err (stop.Other cause)) a at others = (at a.0).2
 
   pub says_of : (r : Result Answered Stop) → Answer r → AtBoard r → ((kind ≡ Exchange → ⊥) → after ≡ board)
-      → PostFollows (λ q. q.workers) (λ q. q.depth) (λ _ w. Unit {0}) (queues_denote o) queues_wait o s.number s.log new.log post left → Says o kind board after post left s new r s.number
-  says_of r a at others mail = record {
+      → PostFollows (λ q. q.workers) (λ q. q.depth) (λ _ w. Unit {0}) (queues_denote o) queues_wait o s.number s.log new.log post left → new.steps ≡ steps_after s.steps kind r → Says o kind board after post left s new r s.number
+  says_of r a at others mail keeps = record {
     did = did_of r a;
     saw = saw_of r a;
     shown = shown_of r a at;
@@ -147,7 +148,8 @@ module _ (o : Outline) (kind : Kind) (board after : Posted) (post left : Queues 
     workers = mail.keeps.same_workers;
     depth = mail.keeps.same_depth;
     others = others;
-    kept = kept_of r a at others;
+    kept = board_kept r a at others;
+    keeps = keeps;
   }
 
 -- What a worker's step says of the bytes of a sink

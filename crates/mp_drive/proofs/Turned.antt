@@ -1,5 +1,5 @@
 -- What a worker says of its step leads the workers on by one turn of the machine, or leaves them where they are.
-use Rattle.std.proofs.Common.{◌≡◌, ◌⊎◌, ℕ, ◌<◌, ◌≤◌, List, [], ◌∷◌, ◌++◌, Some, Ok, Err, get_or, length, refl, sym, ap, ◌∙◌, subst, inl, inr, ⊎_elim, append-nil, arith}
+use Rattle.std.proofs.Common.{◌≡◌, ℕ, ◌<◌, ◌≤◌, ◌==◌, cond, List, [], ◌∷◌, ◌++◌, Some, Ok, Err, get_or, length, refl, sym, ap, ◌∙◌, subst, ⊎_elim, append-nil, arith}
 use Rattle.std.specs.Prelude.{IfOk, OnErr, slice_get, slice_set}
 use Rattle.std.specs.declared.result.Result.{Result}
 use Rattle.std.proofs.lemmas.Option.{slice_get_read}
@@ -9,18 +9,18 @@ use Rattle.mp_names.specs.declared.names.Name.{Name}
 use Rattle.mp_names.specs.Outlines.{Outline, OutlineIsSound}
 use Rattle.mp_names.specs.Frontiers.{log_at}
 use Rattle.mp_names.specs.Logs.{Log}
-use Rattle.mp_stamps.specs.declared.seen.Seen.{Seen}
-use Rattle.mp_mailbox.specs.Queues.{HadRoom, Queues, WasEmpty, WasFull}
+use Rattle.mp_mailbox.specs.Queues.{Queues}
 use Rattle.mp_machine.specs.Worlds.{World, start_of_machine}
 use Rattle.mp_machine.specs.Runs.{Did, NotNow, Saw, Turn, after_turn, run_of_machine, step_of_machine, turn_of_machine}
 use Rattle.mp_machine.proofs.Turns.{not_now_from}
 use Rattle.mp_machine.proofs.Worlds.{after_more, exchange_place, run_right}
 use Rattle.mp_board.specs.Boards.{Posted, ShowsFrontiers, exchanged, version_with}
+use Rattle.mp_journal_laws.specs.Kept.{kept_at}
 use Rattle.mp_worker_refinement.specs.Ends.{PostMatchesLog, FollowsLog, MessagesFollowLog}
 use Rattle.mp_worker_refinement.specs.Served.{IsAtHub, IsAtPost}
 use Rattle.mp_worker_refinement.specs.Laws.{MailFollows, StepsMayBeAsked}
-use Rattle.mp_worker_refinement.specs.Mail.{MailboxBlocks, MailboxAllows}
-use Rattle.mp_worker_refinement.specs.State.{CanMake, Makes, WorkerState}
+use Rattle.mp_worker_refinement.specs.State.{CanMake, WorkerState}
+use Rattle.mp_worker_refinement.specs.Steps.{Sees}
 use Rattle.mp_worker_refinement.specs.SystemState.{Refines, SystemState, queues_denote, queues_wait}
 use Rattle.mp_worker_refinement.proofs.Asked.{may_be_asked}
 use Rattle.mp_worker_refinement.proofs.Exchanges as exchanges
@@ -30,6 +30,9 @@ use Rattle.mp_worker.specs.declared.turn.Turn.{Turn as Answered}
 use Rattle.mp_worker.specs.declared.turn.Turn.TheVariants as worker
 use Rattle.mp_board.specs.declared.causes.Cause.{Cause}
 use Rattle.mp_drive.specs.Driven.{AreAfter, AreReached, LeadsOn, turn_in}
+use Rattle.mp_drive.specs.Journals.{journal_at, with_more}
+use Rattle.mp_drive.proofs.Journaled.{more_by, more_none, one_keeps}
+use Rattle.mp_drive.proofs.Unmade.{kept_one, none_of}
 use Rattle.mp_drive.proofs.Told.{Says, is_exchange}
 
 -- What a worker may be asked for where a run leads to the workers' state
@@ -76,28 +79,31 @@ left_with t w s board post = record { workers = slice_set t.workers w s; board =
 
 module _ (o : Outline) (t : SystemState) where
   -- no step
-  stays : (new : SystemState) → new.post.depth ≡ t.post.depth → ((before : List (ℕ × Kind)) → AreAfter o before t → Refines o t.post.depth new (run_of_machine o t.post.depth before)) → LeadsOn o [] [] t new
-  stays new deep h =
+  stays : (new : SystemState) → new.post.depth ≡ t.post.depth → ((before : List (ℕ × Kind)) → AreAfter o before t → Refines o t.post.depth new (run_of_machine o t.post.depth before)) → ((v : ℕ) → journal_at new v ≡ with_more (journal_at t v) []) → LeadsOn o [] [] t new
+  stays new deep h kept =
       record {
         turns_are = λ before are. refl;
         state_is = λ before are.
             subst (λ (steps : List (ℕ × Kind)). AreAfter o steps new) (sym (append-nil before))
             (subst (λ (d : ℕ). Refines o d new (run_of_machine o d before)) (sym deep) (h before are));
         depth = deep;
+        journals = λ before are v. kept v;
       }
 
   -- one step
   goes_on : (w : ℕ) (kind : Kind) (turn : Turn) (new : SystemState) → new.post.depth ≡ t.post.depth
       → ((before : List (ℕ × Kind)) → AreAfter o before t → let world = run_of_machine o t.post.depth before in
       (turn_of_machine o t.post.depth world w kind ≡ turn) × Refines o t.post.depth new (step_of_machine o t.post.depth world w kind))
+      → ((v : ℕ) → journal_at new v ≡ with_more (journal_at t v) (cond (w == v) (kept_at kind turn) []))
       → LeadsOn o ((w, kind) ∷ []) (turn ∷ []) t new
-  goes_on w kind turn new deep h =
+  goes_on w kind turn new deep h kept =
       record {
         turns_are = λ before are. ap (λ (u : Turn). u ∷ []) (sym (h before are).0);
         state_is = λ before are.
             subst (λ (d : ℕ). Refines o d new (run_of_machine o d (before ++ (w, kind) ∷ []))) (sym deep)
             (subst (Refines o t.post.depth new) (sym (after_more o t.post.depth before ((w, kind) ∷ []) (start_of_machine o))) (h before are).1);
         depth = deep;
+        journals = λ before are v. kept v ∙ ap (with_more (journal_at t v)) (sym (kept_one o t.post.depth (run_of_machine o t.post.depth before) w kind turn (h before are).0 v));
       }
 
 -- where the condition is false nothing changes
@@ -120,6 +126,7 @@ leads_on_outside o ok t w kind reached l =
     let world = run_of_machine o t.post.depth before in
     let turn = outside_not_now o t.post.depth world w kind ok past in
     (turn, subst (Refines o t.post.depth t) (still o t.post.depth world w kind turn) are))
+    (λ v. more_none (journal_at t v) ∙ ap (with_more (journal_at t v)) (sym (none_of (w == v))))
 
 module _ (o : Outline) (ok : OutlineIsSound o) (t : SystemState) (w : ℕ) (kind : Kind) (s new : WorkerState) (after : Posted) (left : Queues (List Name)) (was : slice_get t.workers w ≡ Some s) where
   abbrev Told : Result Answered Stop → ℕ → Type 0
@@ -160,14 +167,13 @@ module _ (o : Outline) (ok : OutlineIsSound o) (t : SystemState) (w : ℕ) (kind
     saw_turn version says =
         let what = says.saw in
         let board = says.shown.0 in
-        let seen = new.seen in
-        let shows : ShowsFrontiers o (exchanged t.board w s.log).logs seen = subst (λ (b : Posted). ShowsFrontiers o b.logs seen) board says.shown.1.1 in
-        let level : seen.version ≡ version_with t.board w s.log = says.shown.1.0 ∙ ap (λ (b : Posted). b.version) board in
-        let mail = same_mail (Ok (worker.Seen version)) says (ap (λ (x : WorkerState). x.log) what.1) in
-        let h = exchanges.saw o ok depth t (run_of_machine o depth before) (run_right o ok depth before) are w s was seen level shows left (λ e. what.3 (sym what.2 ∙ e)) mail in
-        let there = subst (λ (x : WorkerState). Refines o depth (left_with t w x (exchanged t.board w s.log) left) (step_of_machine o depth (run_of_machine o depth before) w Exchange)) (sym what.1) h.1 in
-        let here = subst (λ (b : Posted). Refines o depth (left_with t w new b left) (step_of_machine o depth (run_of_machine o depth before) w Exchange)) (sym board) there in
-        subst (λ (k : Kind). (turn_of_machine o depth (run_of_machine o depth before) w k ≡ Saw version) × Refines o depth next (step_of_machine o depth (run_of_machine o depth before) w k)) (sym what.0) (h.0 ∙ ap Saw what.2, here)
+        let shows : ShowsFrontiers o (exchanged t.board w s.log).logs new.seen = subst (λ (b : Posted). ShowsFrontiers o b.logs new.seen) board says.shown.1.1 in
+        let level : version ≡ version_with t.board w s.log = sym what.1.version_is ∙ says.shown.1.0 ∙ ap (λ (b : Posted). b.version) board in
+        let sees : Sees s (version_with t.board w s.log) new = subst (λ (v : ℕ). Sees s v new) level what.1 in
+        let mail = same_mail (Ok (worker.Seen version)) says (ap (λ (x : WorkerState). x.log) what.1.after) in
+        let h = exchanges.saw o ok depth t (run_of_machine o depth before) (run_right o ok depth before) are w s was new sees shows left mail in
+        let here = subst (λ (b : Posted). Refines o depth (left_with t w new b left) (step_of_machine o depth (run_of_machine o depth before) w Exchange)) (sym board) h.1 in
+        subst (λ (k : Kind). (turn_of_machine o depth (run_of_machine o depth before) w k ≡ Saw version) × Refines o depth next (step_of_machine o depth (run_of_machine o depth before) w k)) (sym what.0) (h.0 ∙ ap Saw (sym level), here)
 
     -- the machine's turn is NotNow
     idle : Told (Ok worker.NotNow) w → (turn_of_machine o depth (run_of_machine o depth before) w kind ≡ NotNow) × (after ≡ t.board) → IsTurn NotNow
@@ -202,12 +208,14 @@ module _ (o : Outline) (ok : OutlineIsSound o) (t : SystemState) (w : ℕ) (kind
   leads_on answered says =
       goes_on o t w kind (turn_in answered) next says.depth
       (λ before are. turn t.post.depth before are answered (of_place (Ok answered) says t.post.depth (run_of_machine o t.post.depth before) are))
+      (one_keeps t w s new after left (kept_at kind (turn_in answered)) was (says.keeps ∙ more_by s.steps kind answered))
 
   leads_nowhere : (stop : Stop) → Told (Err stop) s.number → LeadsOn o [] [] t next
   leads_nowhere stop says =
       stays o t next says.depth
       (λ before are.
       unmoved (Err stop) (of_place (Err stop) says t.post.depth (run_of_machine o t.post.depth before) are) says.unchanged says.kept t.post.depth before are)
+      (λ v. one_keeps t w s new after left [] was (says.keeps ∙ more_none s.steps) v ∙ ap (with_more (journal_at t v)) (none_of (w == v)))
 
   -- no worker is told to stop
   pub same_cause : (r : Result Answered Stop) → Told r s.number → after.stopped ≡ t.board.stopped

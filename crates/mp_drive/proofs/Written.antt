@@ -1,10 +1,10 @@
 -- What a step leaves in a sink: the lines that worker 0 has written, or a beginning of the one-thread answer.
-use Rattle.std.proofs.Common.{◌≡◌, ◌⊎◌, ℕ, zero, suc, ◌<◌, List, [], ◌∷◌, ◌++◌, Some, Ok, Err, length, set, take, refl, sym, ap, ◌∙◌, subst, inl, inr, ⊎_elim, arith}
+use Rattle.std.proofs.Common.{◌≡◌, ℕ, zero, suc, ◌<◌, List, [], ◌∷◌, ◌++◌, Some, Ok, Err, length, set, take, refl, sym, ap, ◌∙◌, subst, inl, inr, ⊎_elim, arith}
 use Rattle.std.specs.Option.{option_map_or}
 use Rattle.std.specs.Prelude.{OnErr, OnOk, Option, slice_get}
 use Rattle.std.specs.declared.result.Result.{Result}
 use Rattle.mp_names.specs.declared.kinds.Kind.{Kind}
-use Rattle.mp_names.specs.declared.kinds.Kind.TheVariants.{Exchange, Write}
+use Rattle.mp_names.specs.declared.kinds.Kind.TheVariants.{Write}
 use Rattle.mp_names.specs.declared.names.Name.{Name}
 use Rattle.mp_names.specs.declared.names.Name.TheVariants.{Written}
 use Rattle.mp_names.specs.Keeping.{IsUnwritten}
@@ -124,7 +124,7 @@ module _ {Cell : Type 0} (q : QueryFacts Cell) (job : JobFacts) where
       written_on : (turn : Answered) → Says o kind board after post left s new (Ok turn) s.number → Writes q job kind s written now (Ok turn) → HasWritten q job.events before next now
       written_on (worker.Did x n) told says = let made = told.did in did (record { first = x; count = n }) made.0 made.1 made.2 says
       written_on (worker.Seen version) told says =
-          silent (says.others (exchange_no_write kind told.saw.0)) (ap (λ (n : WorkerState). lines n.log) told.saw.1)
+          silent (says.others (exchange_no_write kind told.saw.0)) (ap (λ (n : WorkerState). lines n.log) told.saw.1.after)
       written_on worker.NotNow told says = silent says.nothing (ap (λ (n : WorkerState). lines n.log) told.unchanged)
       written_on worker.Busy told says = absurd told.busy
 

@@ -1,6 +1,7 @@
 -- What driving workers on one thread does: a run of the machine, and the lines of the answer in a sink.
 use Rattle.std.specs.Prelude.{◌≡◌, ◌⊎◌, ℕ, List, [], ◌∷◌, ◌++◌, All, Option, Some, Result, Ok, Err, slice_get}
 use Rattle.std.specs.Option.{option_map_or}
+use Rattle.mp_names.specs.declared.kinds.Kept.{Kept}
 use Rattle.mp_names.specs.declared.kinds.Kind.{Kind}
 use Rattle.mp_names.specs.declared.kinds.Kind.TheVariants.{Write}
 use Rattle.mp_names.specs.Outlines.{Outline}
@@ -11,12 +12,14 @@ use Rattle.mp_model.specs.Facts.{QueryFacts}
 use Rattle.mp_machine.specs.Promises.{LogIsFull}
 use Rattle.mp_machine.specs.Runs.{Turn, Did, IsFinished, NotNow, Saw, made_count, run_of_machine, turns_of}
 use Rattle.mp_machine.specs.Worlds.{start_of_machine}
+use Rattle.mp_journal_laws.specs.Kept.{kept_of}
 use Rattle.mp_worker_refinement.specs.State.{WorkerState}
 use Rattle.mp_worker_refinement.specs.SystemState.{Refines, KnowsTheEnd, SystemState}
 use Rattle.mp_answer_laws.specs.Lines.{HasBegun, written_lines}
 use Rattle.mp_worker.specs.declared.turn.Turn.{Turn as Answered}
 use Rattle.mp_worker.specs.declared.turn.Turn.TheVariants as worker
 use Rattle.mp_board.specs.declared.causes.Cause.{Cause}
+use Rattle.mp_drive.specs.Journals.{HaveKept, journal_at, with_more}
 
 -- Workers on one thread: their state, and how many steps were made on them
 pub record Driven : Type 0 where
@@ -46,16 +49,22 @@ AreAfter o steps t = Refines o t.post.depth t (run_of_machine o t.post.depth ste
 abbrev pub AreReached : Outline → SystemState → Type 0
 AreReached o t = (steps : Steps) × AreAfter o steps t
 
--- some steps lead to the state of the workers, so many of which are made
+-- some steps lead to the state of the workers, so many of which are made; and each worker that keeps its steps has kept its own of them
 abbrev pub AreReachedBy : Outline → SystemState → ℕ → Type 0
-AreReachedBy o t n = (steps : Steps) × AreAfter o steps t × (made_count (turns_of o t.post.depth (start_of_machine o) steps) ≡ n)
+AreReachedBy o t n = (steps : Steps) × AreAfter o steps t × (made_count (turns_of o t.post.depth (start_of_machine o) steps) ≡ n) × HaveKept o steps t
 
--- Whatever steps led to the old state, these lead on to the new one, with these turns
+-- some steps lead to the state of the workers, and this is what is kept of them by one worker
+abbrev pub IsJournalOf : Outline → SystemState → ℕ → List Kept → Type 0
+IsJournalOf o t w kept = (steps : Steps) × AreAfter o steps t × (kept ≡ kept_of o t.post.depth (start_of_machine o) steps w)
+
+-- Whatever steps led to the old state, these lead on to the new one, with these turns; and each worker that keeps its steps has kept its own of them behind what it had
 pub record LeadsOn (o : Outline) (steps : Steps) (turns : List Turn) (old new : SystemState) : Type 0 where
   pub turns_are : (before : Steps) → AreAfter o before old
       → turns ≡ turns_of o old.post.depth (run_of_machine o old.post.depth before) steps
   pub state_is : (before : Steps) → AreAfter o before old → AreAfter o (before ++ steps) new
   pub depth : new.post.depth ≡ old.post.depth
+  pub journals : (before : Steps) → AreAfter o before old
+      → (w : ℕ) → journal_at new w ≡ with_more (journal_at old w) (kept_of o old.post.depth (run_of_machine o old.post.depth before) steps w)
 
 -- each worker knows that all is over
 abbrev pub AllKnowTheEnd : Outline → SystemState → Type 0

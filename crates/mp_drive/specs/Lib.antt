@@ -1,4 +1,5 @@
 -- What the contracts of this crate cite.
+pub mod Journals
 pub mod Driven
 pub mod Kept
 pub mod Ownership

@@ -1,10 +1,12 @@
 -- The seeded schedule (this project's profile): while some worker doesn't know the end, a draw picks the next step.
 use Rattle.std.specs.Prelude.{◌≡◌, ◌<◌, ◌≤◌, ℕ, ◌+◌, ◌*◌, ◌%◌, Bool, true, List, [], ◌∷◌, ◌++◌, Option, None, Some, drop, find, length, slice_get, take}
+use Rattle.mp_names.specs.declared.kinds.Kept.{Kept}
 use Rattle.mp_names.specs.declared.kinds.Kind.{Kind}
 use Rattle.mp_names.specs.Outlines.{Outline, name_count}
 use Rattle.mp_machine.specs.Places.{places}
 use Rattle.mp_machine.specs.Runs.{Turn, WorkerIsFinished, is_made, made_count, run_of_machine, turn_of_machine, world_after}
 use Rattle.mp_machine.specs.Worlds.{World, start_of_machine}
+use Rattle.mp_journal_laws.specs.Kept.{kept_of}
 use Rattle.mp_worker_refinement.specs.SystemState.{SystemState}
 use Rattle.mp_draws.specs.Draws.{draw_of}
 use Rattle.mp_drive.specs.Driven.{AreAfter, LeadsOn, Steps}
@@ -61,3 +63,11 @@ pub record EndsAfter (o : Outline) (depth seed n : ℕ) : Type 0 where
   pub count : length steps ≡ n
   pub finished : AreFinished o (run_of_machine o depth steps)
   pub few : n ≤ (o.workers + 2) * name_count o
+
+-- Each worker has kept what is kept by it of a seed's schedule from the start, with mailboxes of this depth, after which each worker knows that all is over
+pub record IsKeptBySchedule (o : Outline) (depth seed : ℕ) (journals : List (List Kept)) : Type 0 where
+  pub steps : Steps
+  pub scheduled : AreScheduled o depth seed (start_of_machine o) steps
+  pub finished : AreFinished o (run_of_machine o depth steps)
+  pub all_workers : length journals ≡ o.workers
+  pub each : (w : ℕ) (kept : List Kept) → slice_get journals w ≡ Some kept → kept ≡ kept_of o depth (start_of_machine o) steps w

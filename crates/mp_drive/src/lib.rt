@@ -4,6 +4,7 @@
 //! machine, and what a finished run wrote is the one-thread answer.
 #![tactic(auto)]
 
+mod journals;
 mod list;
 mod ownership;
 mod pacing;

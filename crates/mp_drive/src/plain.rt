@@ -1,6 +1,6 @@
 //! The workers of a job on one thread.
-ghost use Rattle.std.specs.Prelude.{◌≡◌, ◌≢◌, ◌≤◌, ◌↔◌, ◌∷◌, ◌+◌, ◌*◌, [], ℕ, Err, IfOk, IsTrue, List, OnErr, OnOk};
-ghost use Rattle.std.specs.Prelude.{Option, Some, false, length, replicate, slice_get, take, true};
+ghost use Rattle.std.specs.Prelude.{◌≡◌, ◌≢◌, ◌≤◌, ◌↔◌, ◌∷◌, ◌+◌, ◌*◌, [], ℕ, All, Err, IfOk, IsTrue, List, OnErr, OnOk};
+ghost use Rattle.std.specs.Prelude.{None, Option, Some, false, length, replicate, slice_get, take, true};
 ghost use Rattle.mp_names.specs.declared.kinds.Kind.TheVariants.{Write};
 ghost use Rattle.mp_names.specs.Logs.{empty_log};
 ghost use Rattle.mp_names.specs.Outlines.{name_count};
@@ -18,6 +18,7 @@ ghost use Rattle.mp_worker_refinement.specs.State.{WorkerState};
 ghost use Rattle.mp_worker_refinement.specs.SystemState.{Refines};
 ghost use Rattle.mp_answer_laws.specs.Lines.{written_lines};
 ghost use Rattle.mp_worker.specs.declared.turn.Turn.TheVariants.{Busy};
+ghost use Rattle.mp_worker.specs.Keeping.{no_steps};
 ghost use Rattle.mp_board.specs.declared.causes.Cause.TheVariants as cause;
 ghost use Rattle.mp_drive.specs.Driven.{AllKnowTheEnd, HasKept, HasWritten, LeadsOn, first_log, made_by, turn_in};
 
@@ -60,8 +61,8 @@ impl<'a, Q: Query, J: Naming> Model for Plain<'a, Q, J> {
 }
 
 impl<'a, Q: Query, J: Naming> Plain<'a, Q, J> {
-    /// Workers that have done nothing, with mailboxes that take `depth` messages each. The query's last stage
-    /// gives rows alone. `AllocError`: no memory.
+    /// Workers that have done nothing and keep no steps, with mailboxes that take `depth` messages each. The query's last
+    /// stage gives rows alone. `AllocError`: no memory.
     pub fn open(alloc: Global, job: &'a Job<Q>, depth: u32) -> Result<Plain<'a, Q, J>, AllocError>
         requires job { IsRunOf job.now J.job }
         requires pace { J.job.paced ≡ false }
@@ -72,9 +73,19 @@ impl<'a, Q: Query, J: Naming> Plain<'a, Q, J> {
         ensures made { IfOk result (λ p. p.made ≡ 0) }
         ensures nothing_written { let q = table_of Q.facts J.job in
             IfOk result (λ p. written_lines q J.job.events (first_log p.state) ≡ []) }
+        ensures nothing_kept { IfOk result (λ p. All (λ (s : WorkerState). s.steps ≡ None) p.state.workers) }
     {
+        let keeps = false;
         let paced = false;
-        Plain::open_by(alloc, job, RunPlan { depth, paced })
+        Plain::open_by(
+            alloc,
+            job,
+            RunPlan {
+                depth,
+                paced,
+                keeps,
+            },
+        )
     }
 
     /// As [`Plain::open`], with control records that are paced.
@@ -92,9 +103,19 @@ impl<'a, Q: Query, J: Naming> Plain<'a, Q, J> {
         ensures made { IfOk result (λ p. p.made ≡ 0) }
         ensures nothing_written { let q = table_of Q.facts J.job in
             IfOk result (λ p. written_lines q J.job.events (first_log p.state) ≡ []) }
+        ensures nothing_kept { IfOk result (λ p. All (λ (s : WorkerState). s.steps ≡ None) p.state.workers) }
     {
+        let keeps = false;
         let paced = true;
-        Plain::open_by(alloc, job, RunPlan { depth, paced })
+        Plain::open_by(
+            alloc,
+            job,
+            RunPlan {
+                depth,
+                paced,
+                keeps,
+            },
+        )
     }
 
     // Workers that have done nothing, for a run by this plan.
@@ -112,9 +133,10 @@ impl<'a, Q: Query, J: Naming> Plain<'a, Q, J> {
         ensures made { IfOk result (λ p. p.made ≡ 0) }
         ensures nothing_written { let q = table_of Q.facts J.job in
             IfOk result (λ p. written_lines q J.job.events (first_log p.state) ≡ []) }
+        ensures keeps { IfOk result (λ p. All (λ (s : WorkerState). s.steps ≡ no_steps plan.keeps) p.state.workers) }
     {
         let board = Board::open(alloc, job)?;
-        let workers = new_workers(alloc, job, board.seen(), plan.paced)?;
+        let workers = new_workers(alloc, job, board.seen(), plan)?;
         let post = PlainPost::new(alloc, job.shape().workers, plan.depth)?;
         Ok(Plain {
             job,

@@ -1,5 +1,6 @@
 -- A run begins with nothing written, so what stands in the sink at its end is what the schedule wrote.
-use Rattle.std.proofs.Common.{Ok, Err, ap, refl, sym, ◌∙◌}
+use Rattle.std.proofs.Common.{Ok, Err, ap, map, refl, sym, ◌∙◌}
+use Rattle.std.proofs.lemmas.Bool.{false≢true}
 use Rattle.std.proofs.lemmas.Result.{err_from_is_err_and}
 use Rattle.mp_job.proofs.Runs.{run_shape}
 use Rattle.mp_model.specs.Tables.{table_of}
@@ -7,8 +8,10 @@ use Rattle.mp_worker.proofs.Paced.{tally_of_job}
 use Rattle.mp_outline.specs.JobOutline.{outline_of}
 use Rattle.mp_answer_laws.proofs.Runs.{handed_on, nothing_begun, told, untold}
 use Rattle.mp_drive.proofs.Ended.{seed_leaves}
-use Rattle.mp_drive.proofs.Followed.{ends_after}
+use Rattle.mp_drive.specs.Schedule.{IsKeptBySchedule}
+use Rattle.mp_drive.proofs.Followed.{ends_after, kept_by_plan}
 use Rattle.mp_drive.proofs.run.replay_with_tallies.Goals as goal
+use Rattle.mp_drive.proofs.run.replay_with_tallies.Goals.{then-plan+in_ok-kept, else-plan}
 
 pub returns-in_err-plain-clause-leaves : goal.returns-in_err-plain-clause-leaves
 returns-in_err-plain-clause-leaves g c =
@@ -39,6 +42,17 @@ returns-in_err-tallies-clause-leaves g c =
     (untold q job s.written s.faults s.frame c.in_ok-steps.steps c.args.sink.now c.drive_seed.new.sink
     (seed_leaves q job s.written s.faults s.frame c.in_ok-plain.plain.state c.args.sink.now c.drive_seed.new.sink (Ok c.in_ok-steps.steps) c.in_ok-plain.ensures.nothing_written e.answer e.part e.failed e.no_fault e.appends_only))
 
+pub returns-in_err-kept-clause-leaves : goal.returns-in_err-kept-clause-leaves
+returns-in_err-kept-clause-leaves g c =
+    let job = g.J.Naming.job in
+    let q = table_of g.Q.Query.facts job in
+    let s = g.S.Sink in
+    let e = c.in_ok-steps.ensures in
+    let p = err_from_is_err_and c.from_residual-in_err-kept.result c.from_residual-in_err-kept.ensures.1 in
+    rw (p.1, p.2)
+    (untold q job s.written s.faults s.frame c.in_ok-steps.steps c.args.sink.now c.drive_seed.new.sink
+    (seed_leaves q job s.written s.faults s.frame c.in_ok-plain.plain.state c.args.sink.now c.drive_seed.new.sink (Ok c.in_ok-steps.steps) c.in_ok-plain.ensures.nothing_written e.answer e.part e.failed e.no_fault e.appends_only))
+
 pub returns-clause-leaves : goal.returns-clause-leaves
 returns-clause-leaves g c =
     let job = g.J.Naming.job in
@@ -58,3 +72,15 @@ pub returns-clause-made : goal.returns-clause-made
 returns-clause-made g c =
     let o = outline_of (table_of g.Q.Query.facts g.J.Naming.job) g.J.Naming.job in
     ends_after o c.args.plan.depth c.args.seed c.in_ok-plain.plain.state c.drive_seed.new.self.state (Ok c.in_ok-steps.steps) c.in_ok-plain.ensures.start c.in_ok-plain.ensures.depth c.in_ok-steps.ensures.made c.in_ok-steps.ensures.finished
+
+pub returns-clause-kept : goal.returns-clause-kept
+returns-clause-kept g c = λ keep.
+    let o = outline_of (table_of g.Q.Query.facts g.J.Naming.job) g.J.Naming.job in
+    let begun = c.in_ok-plain.ensures in
+    let ended = c.in_ok-steps.ensures in
+    elim c.if-plan.branch as (λ b. IsKeptBySchedule o c.args.plan.depth c.args.seed (map (λ kept. kept.items) c.if-plan.kept.items)) [
+      | then-plan+in_ok-kept w ↦
+          kept_by_plan o c.args.plan.depth c.args.seed c.in_ok-steps.steps c.in_ok-plain.plain.state c.drive_seed.new.self.state c.args.plan.keeps (map (λ kept. kept.items) c.if-plan.kept.items) keep begun.keeps begun.start begun.depth ended.made ended.finished
+          (ap (λ lists. map (λ kept. kept.items) lists.items) w.kept-is ∙ w.in_ok-kept.ensures)
+      | else-plan w ↦ absurd (false≢true (sym w.if-plan.false ∙ keep))
+    ]

@@ -1,4 +1,4 @@
-use Rattle.std.proofs.Common.{◌≡◌, ◌≤◌, ◌+◌, ◌-◌, ◌^◌, ℕ, List, Option}
+use Rattle.std.proofs.Common.{◌≡◌, ◌+◌, ◌-◌, ◌^◌, ℕ, List, Option}
 use Rattle.mp_outside.specs.Sink.{OnlyAppends}
 use Rattle.mp_outline.specs.JobOutline.{outline_of}
 use Rattle.mp_drive.specs.Driven.{HasWritten}

@@ -44,7 +44,7 @@ invariant_of-result g c =
       run = c.requires.job;
       legal = legal g c;
       reached = begin_reached o (sound g c) t c.args.plan.depth workers.all workers.new board.logs board.version (empty g c);
-      counted = begin_counted o (sound g c) t c.args.plan.depth workers.all workers.new board.logs board.version (empty g c);
+      counted = begin_counted o (sound g c) t c.args.plan.depth workers.all workers.new board.logs board.version (empty g c) c.args.plan.keeps workers.keeps;
       goes_on = board.cause;
     }
 

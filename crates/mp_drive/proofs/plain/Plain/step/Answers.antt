@@ -1,4 +1,4 @@
-use Rattle.std.proofs.Common.{◌≡◌, ◌+◌, ℕ, [], ◌∷◌, Err, Some, arith, refl, sym, ap, ◌∙◌, subst}
+use Rattle.std.proofs.Common.{◌≡◌, ◌+◌, ℕ, [], ◌∷◌, Err, Some, arith, sym, ap, ◌∙◌, subst}
 use Rattle.std.specs.Prelude.{slice_get, slice_set}
 use Rattle.mp_names.specs.Outlines.{OutlineIsSound}
 use Rattle.mp_job.specs.Legal.{JobIsLegal}
@@ -48,7 +48,7 @@ told : (g : given.Over) (c : After-made_in g) → let o = outline_of (table_of g
 told g c =
     let o = outline_of (table_of g.Q.Query.facts g.J.Naming.job) g.J.Naming.job in
     let e = c.step.ensures in
-    says_of o c.args.kind c.self.inside.board c.step.new.hub c.self.inside.post c.step.new.post c.index_mut-worker.result.now c.step.new.self c.step.result e.answers e.exchanges e.others_post_nothing e.mail
+    says_of o c.args.kind c.self.inside.board c.step.new.hub c.self.inside.post c.step.new.post c.index_mut-worker.result.now c.step.new.self c.step.result e.answers e.exchanges e.others_post_nothing e.mail e.keeps
 
 writes : (g : given.Over) (c : After-made_in g) → let job = g.J.Naming.job in
     Writes (table_of g.Q.Query.facts job) job c.args.kind c.index_mut-worker.result.now (g.S.Sink.written c.args.sink.now) (g.S.Sink.written c.step.new.sink) c.step.result

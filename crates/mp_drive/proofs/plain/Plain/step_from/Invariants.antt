@@ -1,4 +1,4 @@
-use Rattle.std.proofs.Common.{◌≡◌, ◌≤◌, ◌%◌, ℕ, List, [], Option, length}
+use Rattle.std.proofs.Common.{◌≡◌, ◌%◌, ℕ, List, [], Option, length}
 use Rattle.mp_outside.specs.Sink.{OnlyAppends}
 use Rattle.mp_outline.specs.JobOutline.{outline_of}
 use Rattle.mp_machine.specs.Places.{places}
