@@ -1,5 +1,6 @@
 -- Lemmas.
 pub mod Coming
-pub mod Ended
+pub mod Leaves
+pub mod Keeping
 pub mod Lists
 pub mod Tallied

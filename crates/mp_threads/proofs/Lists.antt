@@ -31,7 +31,7 @@ shift f [] x rest = refl
 shift f (y ∷ ys) x rest = ap (λ l. f y ∷ l) (shift f ys x rest)
 
 -- what is read of each stays the same list
-pub passed_on : {A B : Type 0} (f : A → ℕ) (h : B → ℕ) (now was : List A) (x : A) (left rest : List B) (y : B) (all : List ℕ)
+pub passed_on : {A B C : Type 0} (f : A → C) (h : B → C) (now was : List A) (x : A) (left rest : List B) (y : B) (all : List C)
     → now ≡ was ++ x ∷ [] → left ≡ y ∷ rest → f x ≡ h y → map f was ++ map h left ≡ all → map f now ++ map h rest ≡ all
 passed_on f h now was x left rest y all put took same before =
     ap (λ l. map f l ++ map h rest) put
@@ -109,3 +109,9 @@ length_map f (x ∷ xs) = omega (arith, length_map f xs)
 
 pub as_many : {A B C : Type 0} (f : A → C) (h : B → C) (xs : List A) (ys : List B) → map f xs ≡ map h ys → length xs ≡ length ys
 as_many f h xs ys same = sym (length_map f xs) ∙ ap length same ∙ length_map h ys
+
+-- what holds of all that is read of a list holds of what each of it is read as
+pub all_of_map : {A B : Type 0} (P : B → Type 0) (f : A → B) (xs : List A) → All P (map f xs) → All (λ x. P (f x)) xs
+all_of_map P f [] all k d l = absurd (omega (arith, l))
+all_of_map P f (x ∷ xs) all zero d l = all zero (f d) (omega arith)
+all_of_map P f (x ∷ xs) all (suc k) d l = all_of_map P f xs (λ j e m. all (suc j) e (omega (arith, m))) k d (omega (arith, l))

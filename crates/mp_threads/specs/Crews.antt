@@ -9,9 +9,9 @@ use Rattle.mp_worker_refinement.specs.State.{WorkerState}
 use Rattle.mp_threads_member.specs.Driving.{IsFinished}
 use Rattle.mp_threads_member.specs.Members.{MemberState}
 
--- the worker has an empty log, and posted that
+-- the worker has an empty log, and posted that, and made no exchange
 abbrev pub HasDoneNothing : MemberState → Type 0
-HasDoneNothing m = (m.worker.log ≡ empty_log) × (m.worker.posted ≡ empty_log)
+HasDoneNothing m = (m.worker.log ≡ empty_log) × (m.worker.posted ≡ empty_log) × (m.worker.seen.version ≡ 0)
 
 -- the ends that the workers have, by their order
 abbrev pub posts_of : List MemberState → List (PostState (List Name))

@@ -28,14 +28,19 @@ impl<M> Back<M> {
     }
 }
 
-/// The promise that the worker of this number comes back.
+/// What tells a worker apart, and the promise that the one with this mark comes back.
 #[derive(Clone, Copy)]
-pub(crate) struct Numbered(pub(crate) u32);
+pub(crate) struct Marked {
+    /// Its number.
+    pub(crate) number: u32,
+    /// Whether it keeps its steps.
+    pub(crate) keeps: bool,
+}
 
-impl<'a, Q: Query, J: Naming, R> Promise<Back<Member<'a, Q, J, R>>> for Numbered {
+impl<'a, Q: Query, J: Naming, R> Promise<Back<Member<'a, Q, J, R>>> for Marked {
     ghost use Rattle.mp_outline.specs.JobOutline.{outline_of};
     ghost use Rattle.mp_threads.specs.Places.{IsBack};
     ghost use Rattle.mp_model.specs.Tables.{table_of};
 
-    ghost kept_by = { λ p b. IsBack (outline_of (table_of Q.facts J.job) J.job) p.0 b };
+    ghost kept_by = { λ p b. IsBack (outline_of (table_of Q.facts J.job) J.job) p b };
 }

@@ -1,5 +1,5 @@
 //! The workers of a job, made for threads.
-ghost use Rattle.std.specs.Prelude.{◌≡◌, ◌<◌, ℕ, All, IfOk, Some, false, length, replicate, slice_get, true};
+ghost use Rattle.std.specs.Prelude.{◌≡◌, ◌<◌, [], ℕ, All, IfOk, Some, false, length, map, replicate, slice_get, true};
 ghost use Rattle.mp_names.specs.Logs.{empty_log};
 ghost use Rattle.mp_job.specs.Runs.{IsRunOf};
 ghost use Rattle.mp_model.specs.Tables.{table_of};
@@ -9,6 +9,7 @@ ghost use Rattle.mp_worker_refinement.specs.Laws.{IsNewWorker};
 ghost use Rattle.mp_worker_refinement.specs.State.{WorkerState};
 ghost use Rattle.mp_ruled.specs.Posts.{AreLinked, AreNewPosts, StandForNone};
 ghost use Rattle.mp_threads_hub.specs.Hubs.{AreNewHubs, AreOfOneLock};
+ghost use Rattle.mp_worker.specs.Keeping.{no_steps};
 ghost use Rattle.mp_threads.specs.Crews.{AreByNumber, HasDoneNothing, posts_of, seats_of};
 
 use mp_board::{Board, OutlineOf};
@@ -33,6 +34,7 @@ pub struct Crew<'a, Q: Query, J: Naming, R> {
 impl<'a, Q: Query, J: Naming, R> Model for Crew<'a, Q, J, R> {
     ghost use Rattle.std.specs.Prelude.{List, ◌<◌};
     ghost use Rattle.mp_threads_member.specs.Members.{MemberState};
+    ghost use Rattle.mp_worker.specs.Keeping.{no_steps};
     ghost use Rattle.mp_threads.specs.Crews.{AreByNumber};
 
     ghost Value = { List MemberState };
@@ -61,7 +63,13 @@ impl<'a, Q: Query, J: Naming, R: Copy + Drop> Crew<'a, Q, J, R> {
         ensures one_lock { IfOk result (λ crew. AreOfOneLock (seats_of crew)) }
     {
         let paced = false;
-        Crew::open_by(rt, alloc, job, RunPlan { depth, paced })
+        let keeps = false;
+        let plan = RunPlan {
+            depth,
+            paced,
+            keeps,
+        };
+        Crew::open_by(rt, alloc, job, plan)
     }
 
     /// As [`Crew::open`], with control records that are paced.
@@ -81,7 +89,13 @@ impl<'a, Q: Query, J: Naming, R: Copy + Drop> Crew<'a, Q, J, R> {
         ensures one_lock { IfOk result (λ crew. AreOfOneLock (seats_of crew)) }
     {
         let paced = true;
-        Crew::open_by(rt, alloc, job, RunPlan { depth, paced })
+        let keeps = false;
+        let plan = RunPlan {
+            depth,
+            paced,
+            keeps,
+        };
+        Crew::open_by(rt, alloc, job, plan)
     }
 
     // Workers that have done nothing, for a run by this plan.
@@ -99,13 +113,14 @@ impl<'a, Q: Query, J: Naming, R: Copy + Drop> Crew<'a, Q, J, R> {
         ensures depth { IfOk result (λ crew. AreNewPosts J.job.shape.workers plan.depth (posts_of crew)) }
         ensures linked { IfOk result (λ crew. AreLinked (posts_of crew)) }
         ensures one_lock { IfOk result (λ crew. AreOfOneLock (seats_of crew)) }
+        ensures keep { IfOk result (λ crew. All (λ m. m.worker.steps ≡ no_steps plan.keeps) crew) }
     {
         let board = Board::open(alloc, job)?;
         let seen = board.seen();
         let count = job.shape().workers;
         let hubs = open_hubs(alloc, board, count)?;
         let posts = ruled_posts(rt, alloc, count, plan.depth)?;
-        let workers = new_workers(alloc, job, seen, plan.paced)?;
+        let workers = new_workers(alloc, job, seen, plan)?;
         let members = new_members(alloc, workers, posts, hubs)?;
         Ok(Crew { members })
     }
@@ -129,6 +144,7 @@ fn new_members<'a, Q: Query, J: Naming, R: Drop>(
     ensures new { IfOk result (λ members. All HasDoneNothing members.items) }
     ensures posts { IfOk result (λ members. posts_of members.items ≡ posts.items) }
     ensures seats { IfOk result (λ members. seats_of members.items ≡ hubs.items) }
+    ensures workers { IfOk result (λ members. map (λ m. m.worker) members.items ≡ workers.entry.items) }
 {
     let count = workers.len();
     let mut members = Vec::with_capacity(alloc, count)?;

@@ -4,25 +4,25 @@ ghost use Rattle.mp_outline.specs.JobOutline.{outline_of};
 ghost use Rattle.mp_threads.specs.Places.{IsBack};
 ghost use Rattle.mp_model.specs.Tables.{table_of};
 
-use crate::back::{Back, Numbered};
+use crate::back::{Back, Marked};
 use mp_model::{Naming, Query};
 use mp_threads_member::Member;
 use std::marker::{Model, PhantomData};
 use std::thread::{PromisedHandle, Threads};
 
-/// A thread that a worker is on. Contracts see the worker's number.
+/// A thread that a worker is on. Contracts see the worker's mark.
 pub(crate) struct Handle<'a, Q: Query, J: Naming, R: Drop> {
-    inner: PromisedHandle<Back<Member<'a, Q, J, R>>, Numbered>,
+    inner: PromisedHandle<Back<Member<'a, Q, J, R>>, Marked>,
     // The thread borrows the job of this query.
     job: PhantomData<&'a Q>,
 }
 
 impl<'a, Q: Query, J: Naming, R: Drop> Model for Handle<'a, Q, J, R> {
-    ghost use Rattle.std.specs.Prelude.{ℕ};
+    ghost use Rattle.mp_threads.specs.declared.back.Marked.{Marked};
 
-    ghost Value = { ℕ };
+    ghost Value = { Marked };
 
-    ghost view = { λ h. h.inner.promise.0 };
+    ghost view = { λ h. h.inner.promise };
 }
 
 impl<'a, Q: Query, J: Naming, R: Drop> Drop for Handle<'a, Q, J, R> {
@@ -35,9 +35,9 @@ impl<'a, Q: Query, J: Naming, R: Drop> Drop for Handle<'a, Q, J, R> {
 impl<'a, Q: Query, J: Naming, R: Drop> Handle<'a, Q, J, R> {
     /// The handle of a thread that promised this.
     pub(crate) fn new(
-        inner: PromisedHandle<Back<Member<'a, Q, J, R>>, Numbered>,
+        inner: PromisedHandle<Back<Member<'a, Q, J, R>>, Marked>,
     ) -> Handle<'a, Q, J, R>
-        ensures { result ≡ inner.entry.promise.0 }
+        ensures { result ≡ inner.entry.promise }
     {
         Handle {
             inner,

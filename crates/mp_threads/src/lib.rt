@@ -14,4 +14,4 @@ mod tallies;
 pub use crew::Crew;
 pub use mp_worker::RunPlan;
 pub use run::run_workers;
-pub use tallies::run_with_tallies;
+pub use tallies::{Ended, run_with_tallies};

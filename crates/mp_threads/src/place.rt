@@ -2,7 +2,7 @@
 ghost use Rattle.std.specs.Prelude.{◌≡◌, IfErr};
 ghost use Rattle.mp_model.specs.Tables.{table_of};
 ghost use Rattle.mp_outline.specs.JobOutline.{outline_of};
-ghost use Rattle.mp_threads.specs.Places.{ComesToEnd, HasTold, number_of};
+ghost use Rattle.mp_threads.specs.Places.{ComesToEnd, HasTold, mark_at, mark_of};
 
 use crate::back::Back;
 use crate::handle::Handle;
@@ -32,7 +32,7 @@ pub(crate) fn turn_here<'a, Q: Query, J: Naming, R: Wait + Drop, T: Wait, G: Gat
     rt: &T,
     gate: &G,
 ) -> Result<Round, Stop>
-    ensures number { number_of place.new ≡ number_of place.old }
+    ensures mark { mark_at place.new ≡ mark_at place.old }
     ensures told { IfErr result (λ stop. HasTold place.new stop) }
 {
     match place {
@@ -48,7 +48,7 @@ pub(crate) fn finish<'a, Q: Query, J: Naming, R: Wait + Drop, T: Threads + Wait,
     rt: &T,
     gate: &G,
 ) -> Result<Member<'a, Q, J, R>, Member<'a, Q, J, R>>
-    ensures { ComesToEnd (outline_of (table_of Q.facts J.job) J.job) (number_of place.entry) result }
+    ensures { ComesToEnd (outline_of (table_of Q.facts J.job) J.job) (mark_at place.entry) result }
 {
     match place {
         Place::Here(member) => drive_alone(member, rt, gate),
@@ -66,7 +66,7 @@ pub(crate) fn drive_alone<'a, Q: Query, J: Naming, R: Wait + Drop, T: Wait, G: G
     rt: &T,
     gate: &G,
 ) -> Result<Member<'a, Q, J, R>, Member<'a, Q, J, R>>
-    ensures { ComesToEnd (outline_of (table_of Q.facts J.job) J.job) member.entry.worker.number result }
+    ensures { ComesToEnd (outline_of (table_of Q.facts J.job) J.job) (mark_of member.entry.worker) result }
 {
     match member.drive(rt, gate, &mut NoSink) {
         Ok(()) => Ok(member),

@@ -8,7 +8,7 @@ ghost use Rattle.mp_worker.specs.declared.turn.Stop.TheVariants as own;
 ghost use Rattle.mp_threads_member.specs.declared.drive.Round.TheVariants.{Over};
 ghost use Rattle.mp_threads_member.specs.Driving.{Drives, IsFinished, IsTold};
 ghost use Rattle.mp_threads.specs.Crews.{AreFinished, HasDoneNothing};
-ghost use Rattle.mp_threads.specs.Places.{OneHasTold, number_of, worker_in};
+ghost use Rattle.mp_threads.specs.Places.{OneHasTold, mark_at, mark_of, worker_in};
 ghost use Rattle.mp_answer_laws.specs.Runs.{RunLeaves};
 
 use crate::Crew;
@@ -29,7 +29,7 @@ use std::vec::IntoIter;
 
 /// Runs the workers: the caller drives worker 0, and beside it each that no thread could be made for; the others have
 /// threads of their own, and on every way out each of these has ended. Worker 0 alone writes. The workers come back by
-/// their numbers, finished. `Write`: a write failed; only where the sink's count of faults rose in this call or stands at
+/// their numbers, finished, and those that kept their steps still do. `Write`: a write failed; only where the sink's count of faults rose in this call or stands at
 /// its last value, 2^64 - 1, and any other answer leaves that count as it was. `Memory`: no memory. With either a beginning
 /// of the answer is written.
 pub fn run_workers<
@@ -50,6 +50,7 @@ pub fn run_workers<
     requires start { All HasDoneNothing crew }
     ensures finished { let o = outline_of (table_of Q.facts J.job) J.job in
         IfOk result (λ workers. AreFinished o workers.items) }
+    ensures marks { IfOk result (λ workers. map mark_of workers.items ≡ map (λ m. mark_of m.worker) crew.entry) }
     ensures leaves { let q = table_of Q.facts J.job in
         RunLeaves q J.job S.written S.faults S.frame result sink.old sink.new }
 {
@@ -62,6 +63,7 @@ pub fn run_workers<
             ensures same_reference { result.1.ghost_name ≡ sink.entry.ghost_name }
             ensures finished { let o = outline_of (table_of Q.facts J.job) J.job in
                 IfOk result.0 (λ workers. AreFinished o workers.items) }
+            ensures marks { IfOk result.0 (λ workers. map mark_of workers.items ≡ map (λ m. mark_of m.worker) crew.entry) }
             ensures leaves { let q = table_of Q.facts J.job in
                 RunLeaves q J.job S.written S.faults S.frame result.0 sink.entry.now result.1.now }
         {
@@ -94,6 +96,7 @@ fn run_in<
     requires start { All HasDoneNothing crew }
     ensures finished { let o = outline_of (table_of Q.facts J.job) J.job in
         IfOk result (λ workers. AreFinished o workers.items) }
+    ensures marks { IfOk result (λ workers. map mark_of workers.items ≡ map (λ m. mark_of m.worker) crew.entry) }
     ensures leaves { let q = table_of Q.facts J.job in
         RunLeaves q J.job S.written S.faults S.frame result sink.old sink.new }
 {
@@ -131,8 +134,8 @@ fn finish_all<'a, Q: Query, J: Naming, R: Wait + Drop, T: Threads + Wait, G: Gat
     ensures over { OnOk result (driven ≡ Ok true) }
     ensures write { result ≡ Err Write → driven ≡ Err own.Write }
     ensures memory { driven ≡ Err own.Write → result ≡ Err Write }
-    ensures numbers { IfOk result (λ workers.
-        map (λ s. s.number) workers.items ≡ first.entry.number ∷ map number_of places.entry.items) }
+    ensures marks { IfOk result (λ workers.
+        map mark_of workers.items ≡ mark_of first.entry ∷ map mark_at places.entry.items) }
     ensures finished { let o = outline_of (table_of Q.facts J.job) J.job in
         IfOk result (λ workers. All (IsFinished o) workers.items) }
 {
@@ -205,7 +208,7 @@ fn settle_all<
     requires room { length (into_iter_items members) ≤ vec_capacity places }
     requires start { All HasDoneNothing (into_iter_items members) }
     ensures many { length result.items ≡ length (into_iter_items members.entry) }
-    ensures numbers { map number_of result.items ≡ map (λ m. m.worker.number) (into_iter_items members.entry) }
+    ensures marks { map mark_at result.items ≡ map (λ m. mark_of m.worker) (into_iter_items members.entry) }
 {
     for member in members {
         places.push_reserved(settle(scope, rt, alloc, gate, member));
@@ -224,7 +227,7 @@ fn drive_here<'a, Q: Query, J: Naming, R: Wait + Drop, T: Wait, G: Gate, S: Sink
     sink: &mut S,
 ) -> Result<bool, Stop>
     ensures many { length places.new ≡ length places.old }
-    ensures numbers { map number_of places.new ≡ map number_of places.old }
+    ensures marks { map mark_at places.new ≡ map mark_at places.old }
     ensures finished { result ≡ Ok true
         → IsFinished (outline_of (table_of Q.facts J.job) J.job) first.new.worker }
     ensures drives { Drives (table_of Q.facts J.job) J.job S.written S.faults S.frame
@@ -254,7 +257,7 @@ fn turn_all<'a, Q: Query, J: Naming, R: Wait + Drop, T: Wait, G: Gate>(
     gate: &G,
 ) -> Result<Round, Stop>
     ensures many { length places.new ≡ length places.old }
-    ensures numbers { map number_of places.new ≡ map number_of places.old }
+    ensures marks { map mark_at places.new ≡ map mark_at places.old }
     ensures told { OnErr result (OneHasTold places.new) }
 {
     let mut all = Round::Over;

@@ -3,9 +3,9 @@ ghost use Rattle.std.specs.Prelude.{◌≡◌, ◌↔◌, IsTrue};
 ghost use Rattle.mp_model.specs.Tables.{table_of};
 ghost use Rattle.mp_outline.specs.JobOutline.{outline_of};
 ghost use Rattle.mp_threads.specs.Crews.{HasDoneNothing};
-ghost use Rattle.mp_threads.specs.Places.{IsBack, IsUndriven, number_of};
+ghost use Rattle.mp_threads.specs.Places.{IsBack, IsUndriven, mark_at, mark_of};
 
-use crate::back::{Back, Numbered};
+use crate::back::{Back, Marked};
 use crate::handle::Handle;
 use crate::place::{Place, Placed, drive_alone};
 use mp_gate::Gate;
@@ -35,9 +35,9 @@ pub(crate) fn settle<
     member: Member<'a, Q, J, R>,
 ) -> Placed<'a, Q, J, R>
     requires start { HasDoneNothing member }
-    ensures { number_of result ≡ member.entry.worker.number }
+    ensures { mark_at result ≡ mark_of member.entry.worker }
 {
-    let number = member.number();
+    let mark = marked(&member);
     let Ok(flag) = Arc::new(alloc, AtomicBool::new(false)) else {
         return Place::Here(member);
     };
@@ -45,11 +45,11 @@ pub(crate) fn settle<
         return Place::Here(member);
     };
     let started = scope.spawn_with(
-        Numbered(number),
+        mark,
         move || -> Back<Member<Q, J, R>>
-            requires { (member.worker.number ≡ number) × HasDoneNothing member }
-            ensures { IsBack (outline_of (table_of Q.facts J.job) J.job) number result }
-        { drive_unless(rt, theirs.load(Ordering::SeqCst), gate, number, member) },
+            requires { HasDoneNothing member }
+            ensures { IsBack (outline_of (table_of Q.facts J.job) J.job) (mark_of member.entry.worker) result }
+        { drive_unless(rt, theirs.load(Ordering::SeqCst), gate, member) },
     );
     match started {
         Ok(inner) => Place::Away(Handle::new(inner)),
@@ -60,19 +60,27 @@ pub(crate) fn settle<
     }
 }
 
-// Drives the worker of this number, unless no thread could be made for it.
+// What tells a worker apart.
+fn marked<'a, Q: Query, J: Naming, R: Wait + Drop>(member: &Member<'a, Q, J, R>) -> Marked
+    ensures { result ≡ mark_of member.now.worker }
+{
+    Marked {
+        number: member.number(),
+        keeps: member.keeps_steps(),
+    }
+}
+
+// Drives the worker, unless no thread could be made for it.
 fn drive_unless<'a, Q: Query, J: Naming, R: Wait + Drop, T: Wait, G: Gate>(
     rt: &T,
     refused: bool,
     gate: &G,
-    number: u32,
     member: Member<'a, Q, J, R>,
 ) -> Back<Member<'a, Q, J, R>>
-    requires { (member.worker.number ≡ number) × HasDoneNothing member }
-    ensures back { IsBack (outline_of (table_of Q.facts J.job) J.job) number result }
+    requires { HasDoneNothing member }
+    ensures back { IsBack (outline_of (table_of Q.facts J.job) J.job) (mark_of member.entry.worker) result }
     ensures undriven { IsTrue refused ↔ IsUndriven result }
 {
-    let _ = number;
     if refused {
         return Back::Undriven(member);
     }

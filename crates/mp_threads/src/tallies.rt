@@ -1,5 +1,5 @@
 //! A whole run by threads, with what each worker has done.
-ghost use Rattle.std.specs.Prelude.{◌≡◌, ◌<◌, ℕ, IfOk, Some, length, slice_get};
+ghost use Rattle.std.specs.Prelude.{◌≡◌, ◌<◌, [], ℕ, All, IfOk, Some, false, is_some, length, map, slice_get, true};
 ghost use Rattle.mp_job.specs.Runs.{IsRunOf};
 ghost use Rattle.mp_model.specs.Tables.{table_of};
 ghost use Rattle.mp_outline.specs.JobOutline.{outline_of};
@@ -7,7 +7,9 @@ ghost use Rattle.mp_output.specs.Rows.{GivesRows};
 ghost use Rattle.mp_tally.specs.declared.tally.Tally.{Tally as Told};
 ghost use Rattle.mp_tally.specs.Tallies.{IsTallyOf};
 ghost use Rattle.mp_threads_member.specs.Driving.{IsFinished};
+ghost use Rattle.mp_journal_laws.specs.Telling.{KeptTellFullLog};
 ghost use Rattle.mp_threads.specs.Crews.{AreFinished};
+ghost use Rattle.mp_threads.specs.Journals.{TellFullLogs};
 ghost use Rattle.mp_answer_laws.specs.Runs.{RunLeaves};
 
 use crate::{Crew, run_workers};
@@ -15,6 +17,7 @@ use mp_board::Cause;
 use mp_gate::Gate;
 use mp_job::Job;
 use mp_model::{Naming, Query};
+use mp_names::Kept;
 use mp_outside::Sink;
 use mp_tally::Tally;
 use mp_worker::{RunPlan, Worker};
@@ -22,9 +25,19 @@ use std::alloc::{AllocError, Global};
 use std::sync::Wait;
 use std::thread::Threads;
 
+/// What a run by threads came to, by the workers' numbers.
+#[derive(Drop)]
+pub struct Ended {
+    /// What each worker has done.
+    pub tallies: Vec<Tally>,
+    /// The steps that each worker kept; empty where the plan keeps none.
+    pub kept: Vec<Vec<Kept>>,
+}
+
 /// Runs a whole job by threads and by a plan, as [`run_workers`] does, and tells what each worker has done, by the
-/// workers' numbers: the job's tallies, paced or not. The query's last stage gives rows alone. The refusals are those
-/// of `run_workers`; where there is no memory for the tallies, the whole answer is written.
+/// workers' numbers: the job's tallies, paced or not, and where the plan keeps steps those that each kept. The query's
+/// last stage gives rows alone. The refusals are those of `run_workers`; where there is no memory for the tallies or for
+/// the list of what was kept, the whole answer is written.
 pub fn run_with_tallies<
     Q: Query + Send,
     J: Naming + Send + Sync,
@@ -38,14 +51,17 @@ pub fn run_with_tallies<
     plan: RunPlan,
     gate: &G,
     sink: &mut S,
-) -> Result<Vec<Tally>, Cause>
+) -> Result<Ended, Cause>
     requires job { IsRunOf job.now J.job }
     requires pace { J.job.paced ≡ plan.paced }
     requires rows { GivesRows (table_of Q.facts J.job) }
     requires depth { 0 < plan.depth }
-    ensures all { IfOk result (λ tallies. length tallies.items ≡ job.now.shape.workers) }
-    ensures tallies { IfOk result (λ tallies. (w : ℕ) (t : Told) → slice_get tallies.items w ≡ Some t
+    ensures all { IfOk result (λ run. length run.tallies.items ≡ job.now.shape.workers) }
+    ensures tallies { IfOk result (λ run. (w : ℕ) (t : Told) → slice_get run.tallies.items w ≡ Some t
         → IsTallyOf (table_of Q.facts job.now) job.now w t) }
+    ensures kept { plan.keeps ≡ true → IfOk result (λ run.
+        TellFullLogs (outline_of (table_of Q.facts J.job) J.job) (map (λ v. v.items) run.kept.items)) }
+    ensures none_kept { plan.keeps ≡ false → IfOk result (λ run. run.kept.items ≡ []) }
     ensures leaves { let q = table_of Q.facts J.job in
         RunLeaves q J.job S.written S.faults S.frame result sink.old sink.new }
 {
@@ -53,10 +69,78 @@ pub fn run_with_tallies<
         return Err(Cause::Memory);
     };
     let workers = run_workers(rt, alloc, crew, gate, sink)?;
-    match tallies_of(alloc, job, workers.as_slice()) {
-        Ok(tallies) => Ok(tallies),
+    match told_by(alloc, job, workers, plan.keeps) {
+        Ok(ended) => Ok(ended),
         Err(AllocError) => Err(Cause::Memory),
     }
+}
+
+// What finished workers tell, with their steps where they keep them.
+fn told_by<Q: Query, J: Naming>(
+    alloc: Global,
+    job: &Job<Q>,
+    workers: Vec<Worker<Q, J>>,
+    keeps: bool,
+) -> Result<Ended, AllocError>
+    requires job { IsRunOf job.now J.job }
+    requires finished { AreFinished (outline_of (table_of Q.facts J.job) J.job) workers.items }
+    requires keeps { All (λ s. is_some s.steps ≡ keeps) workers.items }
+    ensures all { IfOk result (λ run. length run.tallies.items ≡ J.job.shape.workers) }
+    ensures tallies { IfOk result (λ run. (w : ℕ) (t : Told) → slice_get run.tallies.items w ≡ Some t
+        → IsTallyOf (table_of Q.facts J.job) J.job w t) }
+    ensures kept { keeps ≡ true → IfOk result (λ run.
+        TellFullLogs (outline_of (table_of Q.facts J.job) J.job) (map (λ v. v.items) run.kept.items)) }
+    ensures none_kept { keeps ≡ false → IfOk result (λ run. run.kept.items ≡ []) }
+{
+    let tallies = tallies_of(alloc, job, workers.as_slice())?;
+    let kept = kept_by(alloc, workers, keeps)?;
+    Ok(Ended { tallies, kept })
+}
+
+// The steps of finished workers, where they keep them.
+fn kept_by<Q: Query, J: Naming>(
+    alloc: Global,
+    workers: Vec<Worker<Q, J>>,
+    keeps: bool,
+) -> Result<Vec<Vec<Kept>>, AllocError>
+    requires finished { AreFinished (outline_of (table_of Q.facts J.job) J.job) workers.items }
+    requires keeps { All (λ s. is_some s.steps ≡ keeps) workers.items }
+    ensures kept { keeps ≡ true → IfOk result (λ kept.
+        TellFullLogs (outline_of (table_of Q.facts J.job) J.job) (map (λ v. v.items) kept.items)) }
+    ensures none_kept { keeps ≡ false → IfOk result (λ kept. kept.items ≡ []) }
+{
+    if keeps {
+        steps_of(alloc, workers)
+    } else {
+        Ok(Vec::new(alloc))
+    }
+}
+
+// The steps that finished workers kept.
+fn steps_of<Q: Query, J: Naming>(
+    alloc: Global,
+    workers: Vec<Worker<Q, J>>,
+) -> Result<Vec<Vec<Kept>>, AllocError>
+    requires finished { AreFinished (outline_of (table_of Q.facts J.job) J.job) workers.items }
+    requires keep { All (λ s. is_some s.steps ≡ true) workers.items }
+    ensures { IfOk result (λ kept.
+        TellFullLogs (outline_of (table_of Q.facts J.job) J.job) (map (λ v. v.items) kept.items)) }
+{
+    let mut kept = Vec::with_capacity(alloc, workers.len())?;
+    for worker in workers {
+        kept.push_reserved(steps_in(worker));
+    }
+    Ok(kept)
+}
+
+// Those of one that is finished.
+fn steps_in<Q: Query, J: Naming>(worker: Worker<Q, J>) -> Vec<Kept>
+    requires finished { IsFinished (outline_of (table_of Q.facts J.job) J.job) worker }
+    requires keeps { is_some worker.steps ≡ true }
+    ensures { KeptTellFullLog (outline_of (table_of Q.facts J.job) J.job) worker.entry.number result.items }
+{
+    worker.steps_are_known();
+    worker.into_steps()
 }
 
 // What each worker has done.

@@ -1,5 +1,6 @@
 -- What steps of a worker, one after the other, leave in a sink.
 use Rattle.std.proofs.Common.{◌≡◌, ◌≢◌, ◌≤◌, ⊎_elim, Bool, true, false, ℕ, List, Ok, Err, IfErr, OnOk, Option, refl, sym, ap, ◌∙◌, subst, arith}
+use Rattle.std.specs.Prelude.{is_some}
 use Rattle.std.specs.declared.result.Result.{Result}
 use Rattle.mp_names.specs.declared.kinds.Kind.{Kind}
 use Rattle.mp_names.specs.declared.kinds.Kind.TheVariants.{Exchange, Write}
@@ -35,6 +36,7 @@ module _ {Cell S : Type 0} (q : QueryFacts Cell) (job : JobFacts) (written : S �
   pub goes_none : (m : MemberState) (sink : S) → GoesOn q job written faults frame m m sink sink
   goes_none m sink = record {
     number = refl;
+    keeps = refl;
     on = omega arith;
     lines = λ before had. had;
     nothing = λ other. refl;
@@ -55,6 +57,7 @@ module _ {Cell S : Type 0} (q : QueryFacts Cell) (job : JobFacts) (written : S �
     pub goes_further : GoesOn q job written faults frame b c y z → GoesOn q job written faults frame a c x z
     goes_further then_on = record {
       number = then_on.number ∙ first.number;
+      keeps = then_on.keeps ∙ first.keeps;
       on = let early = first.on in let late = then_on.on in omega (arith, early, late);
       lines = λ before had. then_on.lines before (first.lines before had);
       nothing = λ other. then_on.nothing (still_other other) ∙ first.nothing other;
@@ -65,6 +68,7 @@ module _ {Cell S : Type 0} (q : QueryFacts Cell) (job : JobFacts) (written : S �
     pub stops_later : (why : Stop) → StopsBy q job written faults frame why b c y z → StopsBy q job written faults frame why a c x z
     stops_later why then_on = record {
       number = then_on.number ∙ first.number;
+      keeps = then_on.keeps ∙ first.keeps;
       part = λ zeroth before had. then_on.part (first.number ∙ zeroth) before (first.lines before had);
       nothing = λ other. then_on.nothing (still_other other) ∙ first.nothing other;
       failed = λ e. rose_later (faults x) (faults y) (faults z) first.appends.faults_grow (then_on.failed e);
@@ -106,17 +110,19 @@ module _ {Cell S : Type 0} (q : QueryFacts Cell) (job : JobFacts) (written : S �
     module _ (legal : LogIsLegal (outline_of q job) m.worker.number m.worker.log) (writing : (t : ℕ) → CanMake (outline_of q job) Write m.worker (Written t) → LogIsLegal (outline_of q job) 0 (with_settled m.worker.log (Written t))) where
       -- a step drives the worker
       pub step_drives : (r : Result Turn Stop) → Says r → Leaves r → OnOk r (progress m.worker ≤ progress now_m.worker) → IfErr r (λ why. (cause : Cause) → why ≡ stop.Other cause → SeesCause cause now_m.hub)
-          → Drives q job written faults frame r m now_m old now
-      step_drives (Ok turn) says leaves on saw = record {
+          → is_some now_m.worker.steps ≡ is_some m.worker.steps → Drives q job written faults frame r m now_m old now
+      step_drives (Ok turn) says leaves on saw keeps = record {
         number = number_stays had_room was_full was_empty (outline_of q job) kind m.worker now_m.worker (Ok turn) says;
+        keeps = keeps;
         on = on;
         lines = λ before had. lines_follow q job written faults had_room was_full was_empty kind m.worker now_m.worker old now others before had (Ok turn) says leaves;
         nothing = λ other. nothing_written q job written faults had_room was_full was_empty kind m.worker now_m.worker old now others other (Ok turn) says leaves;
         no_fault = no_fault_counted q job written faults had_room was_full was_empty kind m.worker now_m.worker old now others (Ok turn) (λ e. cc) says leaves;
         appends = appends;
       }
-      step_drives (Err why) says leaves on saw = record {
+      step_drives (Err why) says leaves on saw keeps = record {
         number = number_stays had_room was_full was_empty (outline_of q job) kind m.worker now_m.worker (Err why) says;
+        keeps = keeps;
         part = λ zeroth before had.
             part_begins q job written faults had_room was_full was_empty kind m.worker now_m.worker old now others before had (subst (λ (w : ℕ). LogIsLegal (outline_of q job) w m.worker.log) zeroth legal) writing (Err why) says leaves;
         nothing = λ other. nothing_written q job written faults had_room was_full was_empty kind m.worker now_m.worker old now others other (Err why) says leaves;

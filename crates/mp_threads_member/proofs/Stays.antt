@@ -1,7 +1,9 @@
 -- A worker stays at its ends and at its seat.
-use Rattle.std.proofs.Common.{◌≡◌, ◌≤◌, ◌==◌, ℕ, Bool, true, false, cond, List, [], length, Option, Some, Ok, Err, refl, sym, ap, ◌∙◌, subst, arith}
+use Rattle.std.proofs.Common.{◌≡◌, ◌≤◌, ◌==◌, ℕ, Bool, true, false, cond, List, [], length, Option, None, Some, Ok, Err, refl, sym, ap, ◌∙◌, subst, arith}
+use Rattle.std.specs.Prelude.{is_some}
 use Rattle.std.specs.Option.{unwrap_or}
 use Rattle.std.specs.declared.result.Result.{Result}
+use Rattle.mp_names.specs.declared.kinds.Kept.{Kept}
 use Rattle.mp_names.specs.declared.kinds.Kind.{Kind}
 use Rattle.mp_names.specs.declared.names.Name.{Name}
 use Rattle.mp_names.specs.Logs.{Log, LogGrows, empty_log}
@@ -15,6 +17,7 @@ use Rattle.mp_worker.specs.declared.turn.Stop.{Stop}
 use Rattle.mp_worker.specs.declared.turn.Stop.TheVariants as stop
 use Rattle.mp_worker.specs.declared.turn.Turn.{Turn}
 use Rattle.mp_worker.specs.declared.turn.Turn.TheVariants as turn
+use Rattle.mp_worker.specs.Keeping.{steps_after}
 use Rattle.mp_worker.specs.Turns.{Answers}
 use Rattle.mp_threads_hub.specs.Hubs.{HasLooked, IsSeatOf, own_row}
 use Rattle.mp_threads_member.specs.Members.{IsAtEnds, IsAtSeat, IsMember, MailFollows, MemberState, ends_denote}
@@ -57,6 +60,16 @@ number_stays f g h o kind old new (Ok turn.Busy) says = ap (λ (s : WorkerState)
 number_stays f g h o kind old new (Err stop.Write) says = ap (λ (s : WorkerState). s.number) says.1
 number_stays f g h o kind old new (Err stop.Memory) says = ap (λ (s : WorkerState). s.number) says
 number_stays f g h o kind old new (Err (stop.Other cause)) says = ap (λ (s : WorkerState). s.number) says.1
+
+-- and whether it keeps its steps
+pub keeps_on : (steps : Option (List Kept)) (kind : Kind) (r : Result Turn Stop) → is_some (steps_after steps kind r) ≡ is_some steps
+keeps_on None kind (Ok (turn.Did x n)) = refl
+keeps_on (Some kept) kind (Ok (turn.Did x n)) = refl
+keeps_on None kind (Ok (turn.Seen version)) = refl
+keeps_on (Some kept) kind (Ok (turn.Seen version)) = refl
+keeps_on steps kind (Ok turn.NotNow) = refl
+keeps_on steps kind (Ok turn.Busy) = refl
+keeps_on steps kind (Err stop) = refl
 
 -- where the mail followed its log, the worker is at its ends after the step
 pub member_stays : (o : Outline) (old new : MemberState) → IsMember o old → new.worker.number ≡ old.worker.number → MailFollows o old new → IsAtSeat o new.worker new.hub → IsMember o new

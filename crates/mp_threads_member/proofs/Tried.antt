@@ -45,9 +45,6 @@ some_names : (xs : List Name) (x : Name) → slice_get xs 0 ≡ Some x → 0 < l
 some_names [] x e = absurd cc
 some_names (y ∷ xs) x e = omega arith
 
-later : (a b : ℕ) → a ≤ b → (b ≡ a → ⊥) → a < b
-later a b l n = omega (arith, l, n)
-
 module _ (o : Outline) (kind : Kind) (old new : MemberState) where
   no_exchange : (x : Name) → CanMake o kind old.worker x → kind ≢ Exchange
   no_exchange x can is = (subst (λ (k : Kind). CanMake o k old.worker x) is can).next
@@ -62,14 +59,11 @@ module _ (o : Outline) (kind : Kind) (old new : MemberState) where
       let seen : new.worker.seen.version ≡ old.worker.seen.version = ap (λ (s : WorkerState). s.seen.version) makes.after in
       omega (arith, more, size, seen)
   came_further at (Ok (Seen version)) says board =
-      let e = board says.0 in
       let sees = says.1 in
       let size : log_size new.worker.log ≡ log_size old.worker.log = ap (λ (s : WorkerState). log_size s.log) sees.after in
-      let shown = e.2.0 in
-      let since = e.1.1.1 in
-      let saw = at.hub.later in
-      let rose : old.worker.seen.version < new.worker.seen.version = later old.worker.seen.version new.worker.seen.version (omega (arith, shown, since, saw)) (λ same. sees.is_new (sym sees.version_is ∙ same)) in
-      omega (arith, size, rose)
+      let saw = sees.version_is in
+      let rose = sees.later in
+      omega (arith, size, saw, rose)
   came_further at (Ok NotNow) says board = tt
   came_further at (Ok Busy) says board = tt
   came_further at (Err stop) says board = tt

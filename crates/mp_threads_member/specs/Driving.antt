@@ -1,5 +1,5 @@
 -- What a worker that is driven leaves of the answer in a sink, and how it ends.
-use Rattle.std.specs.Prelude.{◌≡◌, ◌≢◌, ℕ, ◌≤◌, List, Ok, Err, Option}
+use Rattle.std.specs.Prelude.{◌≡◌, ◌≢◌, ℕ, ◌≤◌, List, Ok, Err, Option, is_some}
 use Rattle.std.specs.declared.result.Result.{Result}
 use Rattle.mp_names.specs.Logs.{Log}
 use Rattle.mp_names.specs.Outlines.{Outline}
@@ -24,18 +24,20 @@ pub record IsFinished (o : Outline) (s : WorkerState) : Type 0 where
   pub full : LogIsFull o s.number s.log
 
 module _ {Cell S : Type 0} (q : QueryFacts Cell) (job : JobFacts) (written : S → Option (List ℕ)) (faults : S → ℕ) (frame : S → Beside) where
-  -- A worker goes on, and not back. What its log has as written is in the sink, as it was before; other workers than 0 write nothing. No write failed
+  -- A worker goes on, and not back, and keeps its steps if it did. What its log has as written is in the sink, as it was before; other workers than 0 write nothing. No write failed
   pub record GoesOn (old new : MemberState) (had has : S) : Type 0 where
     pub number : new.worker.number ≡ old.worker.number
+    pub keeps : is_some new.worker.steps ≡ is_some old.worker.steps
     pub on : progress old.worker ≤ progress new.worker
     pub lines : (before : Option (List ℕ)) → HasWritten q job.events before old.worker.log (written had) → HasWritten q job.events before new.worker.log (written has)
     pub nothing : old.worker.number ≢ 0 → written has ≡ written had
     pub no_fault : faults has ≡ faults had
     pub appends : OnlyAppends frame faults had has
 
-  -- A worker stops. In the sink of worker 0 a beginning of the answer stands; other workers write nothing. After `Write` a fault was counted, and after no other cause. After `Other` its seat has seen that cause
+  -- A worker stops, and keeps its steps if it did. In the sink of worker 0 a beginning of the answer stands; other workers write nothing. After `Write` a fault was counted, and after no other cause. After `Other` its seat has seen that cause
   pub record StopsBy (stop : Stop) (old new : MemberState) (had has : S) : Type 0 where
     pub number : new.worker.number ≡ old.worker.number
+    pub keeps : is_some new.worker.steps ≡ is_some old.worker.steps
     pub part : old.worker.number ≡ 0 → (before : Option (List ℕ)) → HasWritten q job.events before old.worker.log (written had) → HasBegun q job.events before (written has)
     pub nothing : old.worker.number ≢ 0 → written has ≡ written had
     pub failed : stop ≡ Write → Rose (faults had) (faults has)

@@ -1,5 +1,5 @@
 //! A worker with its ends of the mailboxes and its way to the board.
-ghost use Rattle.std.specs.Prelude.{◌≡◌, ◌≤◌, ℕ, [], ◌∷◌, Some, length};
+ghost use Rattle.std.specs.Prelude.{◌≡◌, ◌≤◌, ℕ, [], ◌∷◌, Some, is_some, length};
 ghost use Rattle.mp_names.specs.Logs.{empty_log};
 ghost use Rattle.mp_outline.specs.JobOutline.{outline_of};
 ghost use Rattle.mp_ruled.specs.Posts.{RuledStands};
@@ -62,6 +62,22 @@ impl<'a, Q: Query, J: Naming, R> Member<'a, Q, J, R> {
         ensures { result ≡ self.now.worker.number }
     {
         self.worker.number()
+    }
+
+    /// Whether the worker keeps its steps.
+    pub fn keeps_steps(&self) -> bool
+        ensures { result ≡ is_some self.now.worker.steps }
+    {
+        self.worker.keeps_steps()
+    }
+
+    /// From now on the worker keeps each step that it makes. It has made none.
+    pub fn keep_steps(&mut self)
+        requires log { self.old.worker.log ≡ empty_log }
+        requires version { self.old.worker.seen.version ≡ 0 }
+        ensures { self.new ≡ record self.old { worker = record self.old.worker { steps = Some [] } } }
+    {
+        self.worker.keep_steps();
     }
 
     /// The worker, without its ends and its seat.

@@ -66,11 +66,12 @@ loop-number-preserved g c =
       room = omega (arith, i.room, pushed.capacity);
       many = omega (arith, ap length pushed.items, length-append members (member ∷ []), i.many);
       numbers = one_more_at (λ k (m : MemberState). m.worker.number ≡ k) _ members member c.loop-number._number pushed.items i.many i.numbers (ap (λ (s : WorkerState). s.number) is ∙ new.number);
-      new = all_more HasDoneNothing _ members member pushed.items i.new (ap (λ (s : WorkerState). s.log) is ∙ new.log, ap (λ (s : WorkerState). s.posted) is ∙ new.posted);
+      new = all_more HasDoneNothing _ members member pushed.items i.new (ap (λ (s : WorkerState). s.log) is ∙ new.log, ap (λ (s : WorkerState). s.posted) is ∙ new.posted, ap (λ (s : WorkerState). s.seen.version) is ∙ new.version);
       workers = sym workers.1;
       hubs = sym hubs.1;
       posts = sym posts.1;
       seats_are = read_on (λ (m : MemberState). m.hub) _ members member c.loop-number.hubs.items _ c.in-Some-pop_front-2.hub _ pushed.items c.in-Some-pop_front-2.ensures.items c.new.ensures.hub i.seats_are;
+      workers_are = read_on (λ (m : MemberState). m.worker) _ members member c.loop-number.workers.items _ c.in-Some.worker _ pushed.items c.in-Some.ensures.items is i.workers_are;
       posts_are = read_on (λ (m : MemberState). m.post) _ members member c.loop-number.posts.items _ c.in-Some-pop_front.post _ pushed.items c.in-Some-pop_front.ensures.items c.new.ensures.post i.posts_are;
     }
 
@@ -89,6 +90,11 @@ pub returns-clause-posts : goal.returns-clause-posts
 returns-clause-posts g c =
     let i = c.loop-number.invariant in
     read_all (λ (m : MemberState). m.post) _ c.loop-number.posts.items c.args.posts.items i.posts_are (omega (arith, i.many, c.loop-number-test.false, c.loop-number.auto._number-end, c.len-count.ensures, c.requires.workers.0, c.requires.posts.0))
+
+pub returns-clause-workers : goal.returns-clause-workers
+returns-clause-workers g c =
+    let i = c.loop-number.invariant in
+    read_all (λ (m : MemberState). m.worker) _ c.loop-number.workers.items c.args.workers.items i.workers_are (omega (arith, i.many, c.loop-number-test.false, c.loop-number.auto._number-end, c.len-count.ensures))
 
 pub returns-clause-seats : goal.returns-clause-seats
 returns-clause-seats g c =

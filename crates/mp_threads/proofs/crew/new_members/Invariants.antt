@@ -1,5 +1,5 @@
 use Rattle.std.proofs.Common.{◌≡◌, ◌≤◌, ◌++◌, ℕ, All, Some, length, drop, vec_capacity}
-use Rattle.std.specs.Prelude.{slice_get}
+use Rattle.std.specs.Prelude.{map, slice_get}
 use Rattle.mp_threads_member.specs.Members.{MemberState}
 use Rattle.mp_threads.specs.Crews.{HasDoneNothing}
 use Rattle.mp_threads.specs.Crews.{posts_of, seats_of}
@@ -15,5 +15,6 @@ invariant-loop-number g l = record {
   hubs : l.hubs.items ≡ drop l._number l.fn.hubs.items;
   posts : l.posts.items ≡ drop l._number l.fn.posts.items;
   seats_are : seats_of l.members.items ++ l.hubs.items ≡ l.fn.hubs.items;
+  workers_are : map (λ (m : MemberState). m.worker) l.members.items ++ l.workers.items ≡ l.fn.workers.items;
   posts_are : posts_of l.members.items ++ l.posts.items ≡ l.fn.posts.items;
 }

@@ -20,13 +20,13 @@ returns-in-Over-clause-drives g c = goes_further _ _ _ _ _ _ _ _ _ _ _ c.loop.in
 pub loop-preserved-in-Made : goal.loop-preserved-in-Made
 loop-preserved-in-Made g c = record {
   on = goes_further _ _ _ _ _ _ _ _ _ _ _ c.loop.invariant.on c.in_ok-own.ensures.drives;
-  numbers = c.in-Ok.ensures.numbers ∙ c.loop.invariant.numbers;
+  marks = c.in-Ok.ensures.marks ∙ c.loop.invariant.marks;
   many = c.in-Ok.ensures.many ∙ c.loop.invariant.many;
 }
 
 pub loop-preserved : goal.loop-preserved
 loop-preserved g c = record {
   on = goes_further _ _ _ _ _ _ _ _ _ _ _ c.loop.invariant.on c.in_ok-own.ensures.drives;
-  numbers = c.in-Ok.ensures.numbers ∙ c.loop.invariant.numbers;
+  marks = c.in-Ok.ensures.marks ∙ c.loop.invariant.marks;
   many = c.in-Ok.ensures.many ∙ c.loop.invariant.many;
 }

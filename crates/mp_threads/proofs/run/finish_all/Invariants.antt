@@ -5,14 +5,14 @@ use Rattle.std.specs.Vec.Iter.{into_iter_items}
 use Rattle.mp_model.specs.Tables.{table_of}
 use Rattle.mp_outline.specs.JobOutline.{outline_of}
 use Rattle.mp_threads_member.specs.Driving.{IsFinished}
-use Rattle.mp_threads.specs.Places.{number_of}
+use Rattle.mp_threads.specs.Places.{mark_at, mark_of}
 use Rattle.mp_threads.proofs.run.finish_all.Given as goal
 
 abbrev pub invariant-loop-place : goal.invariant-loop-place
 invariant-loop-place g l = record {
   next : (goal.iterator-loop-place g).can_next l.place-iterator × (goal.iterator-loop-place g).is_finite l.place-iterator;
   over : IsTrue l.all → l.driven ≡ Ok true;
-  numbers : IsTrue l.all → map (λ s. s.number) l.done.items ++ map number_of (into_iter_items l.place-iterator) ≡ l.fn.first.number ∷ map number_of l.fn.places.items;
+  marks : IsTrue l.all → map mark_of l.done.items ++ map mark_at (into_iter_items l.place-iterator) ≡ mark_of l.fn.first ∷ map mark_at l.fn.places.items;
   room : length l.done.items + length (into_iter_items l.place-iterator) ≤ vec_capacity l.done;
   finished : IsTrue l.all → All (IsFinished (outline_of (table_of g.Q.Query.facts g.J.Naming.job) g.J.Naming.job)) l.done.items;
 }

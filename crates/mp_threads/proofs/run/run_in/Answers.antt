@@ -1,14 +1,15 @@
-use Rattle.std.proofs.Common.{◌∙◌, ◌++◌, ◌∷◌, All, ap, drop, length, map, refl, subst, sym, take}
+use Rattle.std.specs.Prelude.{IfOk}
+use Rattle.std.proofs.Common.{List, ◌≡◌, ◌∙◌, ◌++◌, ◌∷◌, All, ap, drop, length, map, refl, subst, sym, take}
 use Rattle.mp_names.specs.Logs.{LogIsLegal}
 use Rattle.mp_outline.specs.JobOutline.{outline_of}
 use Rattle.mp_worker_refinement.specs.State.{WorkerState}
 use Rattle.mp_threads_member.specs.Members.{MemberState}
 use Rattle.mp_threads_member.specs.Driving.{IsFinished}
 use Rattle.mp_threads.specs.Crews.{HasDoneNothing}
-use Rattle.mp_threads.specs.Places.{number_of}
-use Rattle.mp_threads.proofs.Coming.{all_come_back_if, first_begins, numbered_as}
+use Rattle.mp_threads.specs.Places.{mark_at, mark_of}
+use Rattle.mp_threads.proofs.Coming.{all_come_back_if, first_begins, marked_as}
 use Rattle.mp_answer_laws.proofs.Runs.{nothing_begun}
-use Rattle.mp_threads.proofs.Ended.{is_driven, run_leaves}
+use Rattle.mp_threads.proofs.Leaves.{is_driven, run_leaves}
 use Rattle.mp_threads.proofs.Lists.{all_tail, lent_back}
 use Rattle.mp_threads.proofs.run.run_in.Goals as goal
 use Rattle.mp_model.specs.Tables.{table_of}
@@ -30,8 +31,8 @@ settle_all-places-requires-clause-start g c κs within =
     let crew = sym c.into_iter-members.ensures.rest ∙ c.in-Some.ensures.items in
     all_tail HasDoneNothing _ _ _ crew (subst (All HasDoneNothing) (sym c.crew.view_is) c.requires.start)
 
-pub returns-clause-finished : goal.returns-clause-finished
-returns-clause-finished g c =
+pub returns-clause-marks : goal.returns-clause-marks
+returns-clause-marks g c =
     let q = table_of g.Q.Query.facts g.J.Naming.job in
     let o = outline_of q g.J.Naming.job in
     let s = g.S.Sink in
@@ -43,20 +44,28 @@ returns-clause-finished g c =
     let now = c.drive_here-driven.new.places in
     let were = c.settle_all-places.result.items in
     let back = lent_back c.settle_all-places.result.len now were (c.drive_here-driven.ensures.many ∙ ap length c.as_mut_slice.ensures.value) c.settle_all-places.result.ok.0 in
-    let of_worker = λ (w : WorkerState). w.number in
-    let of_member = λ (m : MemberState). m.worker.number in
+    let of_member = λ (m : MemberState). mark_of m.worker in
     let given = take c.settle_all-places.result.len (now ++ drop (length now) were) in
-    let first = ap of_worker c.into_worker-first.ensures ∙ l.number in
+    let first = ap mark_of c.into_worker-first.ensures ∙ l.mark in
     let others =
-    ap (map number_of) back
-    ∙ d.ensures.numbers
-    ∙ ap (map number_of) c.as_mut_slice.ensures.value
-    ∙ c.settle_all-places.ensures.numbers in
-    let same =
-    ap (λ n. n ∷ map number_of given) first
-    ∙ ap (λ l. c.in-Some.first.worker.number ∷ l) others
-    ∙ sym (ap (map of_member) crew) in
-    all_come_back_if c.finish_all.result (λ v. v.items) o c.crew.inside.members.items c.crew.invariant.1 (numbered_as c.finish_all.result (λ v. v.items) _ _ same c.finish_all.ensures.numbers) c.finish_all.ensures.finished
+    ap (map mark_at) back
+    ∙ d.ensures.marks
+    ∙ ap (map mark_at) c.as_mut_slice.ensures.value
+    ∙ c.settle_all-places.ensures.marks in
+    subst (λ (l : List MemberState). IfOk c.finish_all.result (λ v. map mark_of v.items ≡ map (λ (m : MemberState). mark_of m.worker) l)) c.crew.view_is
+    (marked_as c.finish_all.result (λ v. v.items) _ _
+    (ap (λ n. n ∷ map mark_at given) first
+    ∙ ap (λ l. mark_of c.in-Some.first.worker ∷ l) others
+    ∙ sym (ap (map of_member) crew))
+    c.finish_all.ensures.marks)
+
+pub returns-clause-finished : goal.returns-clause-finished
+returns-clause-finished g c =
+    let o = outline_of (table_of g.Q.Query.facts g.J.Naming.job) g.J.Naming.job in
+    let marks =
+    subst (λ (l : List MemberState). IfOk c.finish_all.result (λ v. map mark_of v.items ≡ map (λ (m : MemberState). mark_of m.worker) l)) (sym c.crew.view_is)
+    (returns-clause-marks g c) in
+    all_come_back_if c.finish_all.result (λ v. v.items) o c.crew.inside.members.items c.crew.invariant.1 marks c.finish_all.ensures.finished
 
 pub returns-clause-leaves : goal.returns-clause-leaves
 returns-clause-leaves g c =

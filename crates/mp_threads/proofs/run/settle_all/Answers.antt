@@ -2,7 +2,7 @@ use Rattle.std.proofs.Common.{◌∙◌, ◌++◌, ap, arith, length, map, rules
 use Rattle.std.specs.Vec.Iter.{into_iter_items}
 use Rattle.std.proofs.lemmas.List.{append-nil, length-map, nil_from_length}
 use Rattle.mp_threads.specs.Crews.{HasDoneNothing}
-use Rattle.mp_threads.specs.Places.{number_of}
+use Rattle.mp_threads.specs.Places.{mark_at, mark_of}
 use Rattle.mp_threads.proofs.Lists.{all_head, all_tail, passed_on, room_left}
 use Rattle.mp_threads.proofs.run.settle_all.Goals as goal
 
@@ -13,7 +13,7 @@ loop-member-preserved g c =
     let items = c.push_reserved.ensures.items in
     record {
       next = search rules;
-      numbers = passed_on number_of (λ m. m.worker.number) _ _ _ _ _ _ _ items s c.settle.ensures i.numbers;
+      marks = passed_on mark_at (λ m. mark_of m.worker) _ _ _ _ _ _ _ items s c.settle.ensures i.marks;
       start = all_tail HasDoneNothing _ _ _ s i.start;
       room = room_left _ _ _ _ _ _ _ _ items s (let e = c.push_reserved.ensures.capacity in omega arith) i.room;
     }
@@ -21,12 +21,12 @@ loop-member-preserved g c =
 pub settle-requires-clause-start : goal.settle-requires-clause-start
 settle-requires-clause-start g c κs within = all_head HasDoneNothing _ _ _ c.in-Some.ensures.steps.0 c.loop-member.invariant.start
 
-pub returns-clause-numbers : goal.returns-clause-numbers
-returns-clause-numbers g c =
-    let settled = map number_of c.loop-member.places.items in
+pub returns-clause-marks : goal.returns-clause-marks
+returns-clause-marks g c =
+    let settled = map mark_at c.loop-member.places.items in
     let over = nil_from_length (into_iter_items c.loop-member.member-iterator) (sym c.loop-member.member-iterator.rest.ok.0 ∙ c.in-None.ensures.steps.0) in
-    sym (append-nil settled) ∙ ap (λ left. settled ++ map (λ m. m.worker.number) left) (sym over) ∙ c.loop-member.invariant.numbers
+    sym (append-nil settled) ∙ ap (λ left. settled ++ map (λ m. mark_of m.worker) left) (sym over) ∙ c.loop-member.invariant.marks
 
 pub returns-clause-many : goal.returns-clause-many
 returns-clause-many g c =
-    sym (length-map c.loop-member.places.items number_of) ∙ ap length (returns-clause-numbers g c) ∙ length-map (into_iter_items c.args.members) (λ m. m.worker.number)
+    sym (length-map c.loop-member.places.items mark_at) ∙ ap length (returns-clause-marks g c) ∙ length-map (into_iter_items c.args.members) (λ m. mark_of m.worker)

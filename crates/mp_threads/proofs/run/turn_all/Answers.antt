@@ -1,14 +1,14 @@
 use Rattle.std.proofs.Common.{◌∙◌, arith, length-set}
 use Rattle.std.proofs.Math.Seq.{map-set_same}
 use Rattle.mp_ruled.proofs.Places.{set_here}
-use Rattle.mp_threads.specs.Places.{number_of}
-use Rattle.mp_threads.proofs.Ended.{on_err}
+use Rattle.mp_threads.specs.Places.{mark_at}
+use Rattle.mp_threads.proofs.Leaves.{on_err}
 use Rattle.mp_threads.proofs.run.turn_all.Goals as goal
 
-pub returns-in_err-one-clause-numbers : goal.returns-in_err-one-clause-numbers
-returns-in_err-one-clause-numbers g c =
-    map-set_same number_of c.loop-i.places c.loop-i.i c.turn_here.new.place c.index-places-i.result c.turn_here.ensures.number
-    ∙ c.loop-i.invariant.numbers
+pub returns-in_err-one-clause-marks : goal.returns-in_err-one-clause-marks
+returns-in_err-one-clause-marks g c =
+    map-set_same mark_at c.loop-i.places c.loop-i.i c.turn_here.new.place c.index-places-i.result c.turn_here.ensures.mark
+    ∙ c.loop-i.invariant.marks
 
 pub loop-i-preserved : goal.loop-i-preserved
 loop-i-preserved g c =
@@ -16,7 +16,7 @@ loop-i-preserved g c =
     let places = c.loop-i.places in
     let now = c.turn_here.new.place in
     record {
-      numbers = map-set_same number_of places c.loop-i.i now c.index-places-i.result c.turn_here.ensures.number ∙ i.numbers;
+      marks = map-set_same mark_at places c.loop-i.i now c.index-places-i.result c.turn_here.ensures.mark ∙ i.marks;
       many = length-set places c.loop-i.i now ∙ i.many;
     }
 

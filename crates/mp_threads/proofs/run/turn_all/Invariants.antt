@@ -1,10 +1,10 @@
 use Rattle.std.proofs.Common.{◌≡◌, length}
 use Rattle.std.specs.Prelude.{map}
-use Rattle.mp_threads.specs.Places.{number_of}
+use Rattle.mp_threads.specs.Places.{mark_at}
 use Rattle.mp_threads.proofs.run.turn_all.Given as goal
 
 abbrev pub invariant-loop-i : goal.invariant-loop-i
 invariant-loop-i g l = record {
-  numbers : map number_of l.places ≡ map number_of l.fn.places;
+  marks : map mark_at l.places ≡ map mark_at l.fn.places;
   many : length l.places ≡ length l.fn.places;
 }

@@ -1,4 +1,4 @@
-use Rattle.std.proofs.Common.{List, ℕ, ap, length, ◌≡◌, ◌∙◌, subst, sym}
+use Rattle.std.proofs.Common.{All, List, ℕ, ap, length, ◌≡◌, ◌∙◌, subst, sym}
 use Rattle.std.proofs.lemmas.List.{length-replicate}
 use Rattle.mp_names.specs.declared.names.Name.{Name}
 use Rattle.mp_names.specs.Logs.{Log, empty_log}
@@ -9,6 +9,10 @@ use Rattle.mp_outline.specs.JobOutline.{outline_of}
 use Rattle.mp_ruled.specs.Posts.{AreLinked, AreNewPosts, PostState}
 use Rattle.mp_seat.specs.Seats.{SeatState}
 use Rattle.mp_threads_hub.specs.Hubs.{AreNewHubs, AreOfOneLock, shared_version}
+use Rattle.mp_worker_refinement.specs.State.{WorkerState}
+use Rattle.mp_worker.specs.Keeping.{no_steps}
+use Rattle.mp_threads_member.specs.Members.{MemberState}
+use Rattle.mp_threads.proofs.Lists.{all_of_map}
 use Rattle.mp_threads.proofs.crew.Crew.open_by.Goals as goal
 
 pub open_hubs-requires-clause-logs : goal.open_hubs-requires-clause-logs
@@ -37,6 +41,11 @@ returns-clause-depth g c =
     let count = ap (λ s. s.workers) c.shape-count.ensures.shape ∙ ap (λ (job : JobFacts). job.shape.workers) c.requires.job in
     subst (λ (posts : List (PostState (List Name))). AreNewPosts g.J.Naming.job.shape.workers c.args.plan.depth posts) (sym c.in_ok-members.ensures.posts)
     (subst (λ (n : ℕ). AreNewPosts n c.args.plan.depth c.in_ok-posts.posts.items) count c.in_ok-posts.ensures.new)
+
+pub returns-clause-keep : goal.returns-clause-keep
+returns-clause-keep g c =
+    all_of_map (λ (s : WorkerState). s.steps ≡ no_steps c.args.plan.keeps) (λ (m : MemberState). m.worker) c.in_ok-members.members.items
+    (subst (All (λ (s : WorkerState). s.steps ≡ no_steps c.args.plan.keeps)) (sym c.in_ok-members.ensures.workers) c.in_ok-workers.ensures.keeps)
 
 pub returns-clause-linked : goal.returns-clause-linked
 returns-clause-linked g c = subst (λ (posts : List (PostState (List Name))). AreLinked posts) (sym c.in_ok-members.ensures.posts) c.in_ok-posts.ensures.linked

@@ -1,8 +1,10 @@
+use Rattle.std.proofs.Common.{◌∙◌, ap}
+use Rattle.std.specs.Prelude.{is_some}
 use Rattle.mp_outline.specs.JobOutline.{outline_of}
 use Rattle.mp_ruled.specs.Posts.{ReceiverWasEmpty, SenderHadRoom, SenderWasFull}
 use Rattle.mp_threads_member.specs.Members.{MemberState}
 use Rattle.mp_threads_member.proofs.Driven.{sees_why, step_drives}
-use Rattle.mp_threads_member.proofs.Stays.{member_stays, number_stays}
+use Rattle.mp_threads_member.proofs.Stays.{keeps_on, member_stays, number_stays}
 use Rattle.mp_threads_member.proofs.Tried.{came_further, not_back, was_hindered}
 use Rattle.mp_threads_member.proofs.member.Member.step.Goals as goal
 use Rattle.mp_model.specs.Tables.{table_of}
@@ -26,7 +28,7 @@ returns-clause-drives g c =
     let old : MemberState = record { worker = i.worker; post = i.post; hub = i.hub } in
     let new : MemberState = record { worker = c.step.new.self; post = c.step.new.post; hub = c.step.new.hub } in
     rw (← c.self.view_is)
-    (step_drives (table_of g.Q.Query.facts job) job g.S.Sink.written g.S.Sink.faults g.S.Sink.frame (SenderHadRoom i.post) (SenderWasFull i.post) (ReceiverWasEmpty i.post) c.args.kind old new c.args.sink.now c.step.new.sink e.others_write_nothing e.appends_only known.legal known.writing c.step.result e.answers e.writes (not_back o c.args.kind old new c.self.invariant c.step.result e.answers e.exchanges) (sees_why o c.args.kind old new c.step.result e.answers e.exchanges))
+    (step_drives (table_of g.Q.Query.facts job) job g.S.Sink.written g.S.Sink.faults g.S.Sink.frame (SenderHadRoom i.post) (SenderWasFull i.post) (ReceiverWasEmpty i.post) c.args.kind old new c.args.sink.now c.step.new.sink e.others_write_nothing e.appends_only known.legal known.writing c.step.result e.answers e.writes (not_back o c.args.kind old new c.self.invariant c.step.result e.answers e.exchanges) (sees_why o c.args.kind old new c.step.result e.answers e.exchanges) (ap is_some e.keeps ∙ keeps_on i.worker.steps c.args.kind c.step.result))
 
 pub returns-clause-made : goal.returns-clause-made
 returns-clause-made g c =

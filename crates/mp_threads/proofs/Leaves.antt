@@ -1,6 +1,6 @@
 -- What a worker that began with nothing leaves in a sink, and what the run then leaves.
-use Rattle.std.proofs.Common.{◌≡◌, ◌≢◌, ℕ, Bool, true, List, Some, Ok, Err, ap, ◌∙◌, subst, sym}
-use Rattle.std.specs.Prelude.{OnErr, OnOk}
+use Rattle.std.proofs.Common.{◌≡◌, ◌≢◌, ℕ, Bool, true, List, Some, Ok, Err, ap, refl, ◌∙◌, subst, sym}
+use Rattle.std.specs.Prelude.{OnErr, OnOk, is_some}
 use Rattle.std.specs.declared.option.Option.{Option}
 use Rattle.std.specs.declared.result.Result.{Result}
 use Rattle.std.proofs.lemmas.Option.{same_Some}
@@ -25,7 +25,8 @@ use Rattle.mp_answer_laws.specs.Lines.{HasBegun, HasWritten}
 use Rattle.mp_threads_member.specs.Members.{MemberState}
 use Rattle.mp_threads_member.specs.Driving.{Drives, GoesOn, IsFinished, IsTold}
 use Rattle.mp_threads_member.proofs.Driven.{answer_written}
-use Rattle.mp_threads.specs.Places.{ComesToEnd, worker_in}
+use Rattle.mp_threads.specs.Places.{ComesToEnd, mark_of, worker_in}
+use Rattle.mp_threads.specs.declared.back.Marked.{Marked}
 use Rattle.mp_answer_laws.specs.Runs.{RunLeaves}
 
 on_ok : {V E A B : Type 0} (r : Result V E) → OnOk r A → (A → B) → OnOk r B
@@ -36,6 +37,10 @@ pub on_err : {V E B : Type 0} (r : Result V E) → B → OnErr r B
 on_err (Ok v) b = tt
 on_err (Err e) b = b
 
+-- a worker keeps its mark with its number, where it keeps its steps as before
+pub same_mark : (a b : WorkerState) → a.number ≡ b.number → is_some a.steps ≡ is_some b.steps → mark_of a ≡ mark_of b
+same_mark a b number keeps = rw (number, keeps) refl
+
 -- a stop that is told is seen at the seat
 pub told_sees : (stop : Stop) (seat : SeatState Log) → IsTold stop seat → SeesStop seat
 told_sees Write seat told = told
@@ -43,9 +48,9 @@ told_sees Memory seat told = told
 told_sees (Other cause) seat told = (cause, told)
 
 -- a worker that came to its end
-pub worker_is_back : (o : Outline) (n : ℕ) (came : Result MemberState MemberState) (w : WorkerState) → ComesToEnd o n came → Some w ≡ worker_in came → (w.number ≡ n) × IsFinished o w
-worker_is_back o n (Ok m) w is e = subst (λ (s : WorkerState). (s.number ≡ n) × IsFinished o s) (sym (same_Some w m.worker e)) is
-worker_is_back o n (Err m) w is e = absurd (cc)
+pub worker_is_back : (o : Outline) (mark : Marked) (came : Result MemberState MemberState) (w : WorkerState) → ComesToEnd o mark came → Some w ≡ worker_in came → (mark_of w ≡ mark) × IsFinished o w
+worker_is_back o mark (Ok m) w is e = subst (λ (s : WorkerState). (mark_of s ≡ mark) × IsFinished o s) (sym (same_Some w m.worker e)) is
+worker_is_back o mark (Err m) w is e = absurd (cc)
 
 module _ {Cell S : Type 0} (q : QueryFacts Cell) (job : JobFacts) (written : S → Option (List ℕ)) (faults : S → ℕ) (frame : S → Beside) where
   -- before anything is written
@@ -65,16 +70,16 @@ module _ {Cell S : Type 0} (q : QueryFacts Cell) (job : JobFacts) (written : S �
 
     -- what worker 0 leaves, however it was driven
     pub record IsDriven (driven : Result Bool Stop) : Type 0 where
-      pub number : last.worker.number ≡ first.worker.number
+      pub mark : mark_of last.worker ≡ mark_of first.worker
       pub part : HasBegun q job.events (written old) (written new)
       pub failed : driven ≡ Err Write → Rose (faults old) (faults new)
       pub no_fault : driven ≢ Err Write → faults new ≡ faults old
       pub appends : OnlyAppends frame faults old new
 
     pub is_driven : (driven : Result Bool Stop) → Drives q job written faults frame driven first last old new → LogIsLegal (outline_of q job) last.worker.number last.worker.log → IsDriven driven
-    is_driven (Ok over) on legal = record { number = on.number; part = some_answer on legal; failed = λ e. absurd (cc); no_fault = λ other. on.no_fault; appends = on.appends }
+    is_driven (Ok over) on legal = record { mark = same_mark last.worker first.worker on.number on.keeps; part = some_answer on legal; failed = λ e. absurd (cc); no_fault = λ other. on.no_fault; appends = on.appends }
     is_driven (Err why) stops legal = record {
-      number = stops.number;
+      mark = same_mark last.worker first.worker stops.number stops.keeps;
       part = stops.part zeroth (written old) had_nothing;
       failed = λ e. stops.failed (cc);
       no_fault = λ other. stops.no_fault (λ e. other (ap Err e));

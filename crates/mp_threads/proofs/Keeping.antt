@@ -1,0 +1,42 @@
+-- Workers that keep their steps, as they come back.
+use Rattle.std.proofs.Common.{◌≡◌, ℕ, zero, suc, ◌+◌, Bool, true, false, List, [], ◌∷◌, All, Option, Some, None, length, refl, sym, ap, ◌∙◌, subst, arith}
+use Rattle.std.specs.Prelude.{is_some, map, slice_get}
+use Rattle.std.specs.Option.{unwrap_or}
+use Rattle.mp_names.specs.Outlines.{Outline}
+use Rattle.mp_names.specs.declared.kinds.Kept.{Kept}
+use Rattle.mp_journal_laws.specs.Telling.{KeptTellFullLog}
+use Rattle.mp_worker_refinement.specs.State.{WorkerState}
+use Rattle.mp_worker.specs.Keeping.{no_steps}
+use Rattle.mp_threads_member.specs.Members.{MemberState}
+use Rattle.mp_threads.specs.Places.{mark_of}
+use Rattle.mp_threads.specs.declared.back.Marked.{Marked}
+
+asked : (keeps : Bool) → is_some (no_steps keeps) ≡ keeps
+asked true = refl
+asked false = refl
+
+first_same : {A : Type 0} (x y : A) (xs ys : List A) → x ∷ xs ≡ y ∷ ys → x ≡ y
+first_same x y xs ys e = cc
+
+rest_same : {A : Type 0} (x y : A) (xs ys : List A) → x ∷ xs ≡ y ∷ ys → xs ≡ ys
+rest_same x y xs ys e = cc
+
+-- workers with the marks of a crew keep their steps where the crew was asked to
+pub still_keep : (workers : List WorkerState) (crew : List MemberState) (keeps : Bool) → map mark_of workers ≡ map (λ (m : MemberState). mark_of m.worker) crew → All (λ (m : MemberState). m.worker.steps ≡ no_steps keeps) crew → All (λ (s : WorkerState). is_some s.steps ≡ keeps) workers
+still_keep [] crew keeps same all k d l = absurd (omega (arith, l))
+still_keep (s ∷ ws) [] keeps same all k d l = absurd cc
+still_keep (s ∷ ws) (m ∷ ms) keeps same all zero d l =
+    ap (λ (k : Marked). k.keeps) (first_same _ _ _ _ same) ∙ ap is_some (all zero m (omega arith)) ∙ asked keeps
+still_keep (s ∷ ws) (m ∷ ms) keeps same all (suc k) d l =
+    still_keep ws ms keeps (rest_same _ _ _ _ same) (λ j e n. all (suc j) e (omega (arith, n))) k d (omega (arith, l))
+
+-- the steps of a worker that keeps them
+pub steps_told : (o : Outline) (w : ℕ) (steps : Option (List Kept)) → ((kept : List Kept) → steps ≡ Some kept → KeptTellFullLog o w kept) → is_some steps ≡ true → KeptTellFullLog o w (unwrap_or steps [])
+steps_told o w (Some kept) told some = told kept refl
+steps_told o w None told some = absurd cc
+
+-- what holds of each of a list at its place holds of what each is read as
+pub each_of_map : {A B : Type 0} (P : ℕ → B → Type 0) (f : A → B) (xs : List A) → ((k : ℕ) (x : A) → slice_get xs k ≡ Some x → P k (f x)) → (k : ℕ) (y : B) → slice_get (map f xs) k ≡ Some y → P k y
+each_of_map P f [] each k y at = absurd cc
+each_of_map P f (x ∷ xs) each zero y at = let same : f x ≡ y = cc in subst (P 0) same (each 0 x refl)
+each_of_map P f (x ∷ xs) each (suc k) y at = each_of_map (λ j. P (suc j)) f xs (λ j z e. each (suc j) z e) k y at
