@@ -1,0 +1,13 @@
+-- The records are those of a stage of the job.
+use Rattle.std.proofs.Common.{◌∙◌, All, List, ap, subst, sym}
+use Rattle.mp_names.specs.declared.names.Name.{Name}
+use Rattle.mp_names.specs.Names.{ascending}
+use Rattle.mp_parted.specs.Fitting.{FitsShape}
+use Rattle.mp_parted.proofs.Fitting.{records_fit}
+use Rattle.mp_group_lists.proofs.Held.{ascending_fits}
+use Rattle.mp_group_lists.proofs.making.records_of.Goals as goal
+
+pub entries_of-requires : goal.entries_of-requires
+entries_of-requires g c =
+    let o = g.L.OutlineLists.outline c.args.lists.now in
+    subst (λ (xs : List Name). All (FitsShape o) xs) (sym (c.deref.ensures.value ∙ c.in_ok-names.ensures ∙ ap ascending c.records.ensures)) (ascending_fits o (o.records c.args.stage) (records_fit o c.are_sound.ensures.sound c.args.stage))

@@ -1,0 +1,4 @@
+-- What the contracts of this crate cite.
+pub mod Moments
+pub mod Parts
+pub mod Lists

@@ -1,0 +1,91 @@
+-- Lists of work that grow.
+use Rattle.std.proofs.Common.{◌≡◌, ℕ, ◌+◌, ◌*◌, ◌<◌, ◌&&◌, ◌==◌, Bool, true, false, cond, List, [], ◌∷◌, ◌++◌, length, get_or, take, refl, sym, ap, ◌∙◌, subst, arith, add-zero}
+use Rattle.std.proofs.Math.ListN.{set}
+use Rattle.std.proofs.lemmas.Bool.{and_parts, eqb-true}
+use Rattle.std.proofs.lemmas.List.Elements.{All-set, All-push, All-get_or}
+use Rattle.std.proofs.lemmas.List.Sums.{sum_by-set, sum_by_push, sum_by_more}
+use Rattle.mp_names.specs.declared.locations.Loc.{Loc}
+use Rattle.mp_names.specs.Locations.{IsLocation}
+use Rattle.mp_stamps.specs.Counts.{same_loc}
+use Rattle.mp_stamps.proofs.Places.{same_loc-true}
+use Rattle.mp_left_counts.specs.declared.work.Work.{Work}
+use Rattle.mp_left_counts.specs.Left.{part_at, work_at}
+use Rattle.mp_left_counts.proofs.Parts.{part_here}
+use Rattle.mp_work_lists.specs.Parts.{HasMore, IsFit, times_at, work_of_times}
+
+pub no_more : (xs : List Work) → HasMore (λ a t. 0) xs xs
+no_more xs = record { work = λ a t. sym (add-zero (work_at a t xs)); fit = λ stages h fits. fits }
+
+pub more_and_more : (f g : Loc → ℕ → ℕ) (xs ys zs : List Work) → HasMore f xs ys → HasMore g ys zs → HasMore (λ a t. f a t + g a t) xs zs
+more_and_more f g xs ys zs h k =
+    record {
+      work = λ a t. let d = h.work a t in let e = k.work a t in omega arith;
+      fit = λ stages there fits. k.fit stages (λ a t l. there a t (omega arith)) (h.fit stages (λ a t l. there a t (omega arith)) fits);
+    }
+
+pub as_much : (f g : Loc → ℕ → ℕ) (xs ys : List Work) → ((a : Loc) (t : ℕ) → f a t ≡ g a t) → HasMore f xs ys → HasMore g xs ys
+as_much f g xs ys e h =
+    record {
+      work = λ a t. h.work a t ∙ ap (λ (n : ℕ). work_at a t xs + n) (e a t);
+      fit = λ stages there fits. h.fit stages (λ a t l. there a t (let d = e a t in omega arith)) fits;
+    }
+
+module _ (work : Work) (some : 0 < work.count) where
+  fits_there : (stages : ℕ) → ((a : Loc) (t : ℕ) → 0 < part_at a t work → IsLocation stages a) → IsFit stages work
+  fits_there stages there = (there work.loc work.time (let e = part_here work in omega arith), some)
+
+  pub more_by_push : (xs : List Work) → HasMore (λ a t. part_at a t work) xs (xs ++ work ∷ [])
+  more_by_push xs =
+      record {
+        work = λ a t. sum_by_push (part_at a t) xs work;
+        fit = λ stages there fits. All-push (IsFit stages) xs work fits (fits_there stages there);
+      }
+
+added_part : (b : Bool) (m n : ℕ) → cond b (m + n) 0 ≡ cond b m 0 + cond b n 0
+added_part true m n = refl
+added_part false m n = refl
+
+module _ (old work : Work) (is_like : (same_loc old.loc work.loc && old.time == work.time) ≡ true) (n : ℕ) (is_sum : n ≡ old.count + work.count) where
+  grown : Work
+  grown = record { loc = work.loc; time = work.time; count = n }
+
+  part_grows : (a : Loc) (t : ℕ) → part_at a t grown ≡ part_at a t old + part_at a t work
+  unfolding grown
+  part_grows a t =
+      let p = and_parts (same_loc old.loc work.loc) (old.time == work.time) is_like in
+      let same : old.loc ≡ work.loc = same_loc-true old.loc work.loc p.0 in
+      let at : old.time ≡ work.time = eqb-true old.time work.time p.1 in
+      let d = added_part (same_loc work.loc a && work.time == t) old.count work.count in
+      let e : (same_loc work.loc a && work.time == t) ≡ (same_loc old.loc a && old.time == t) = rw (same, at) refl in
+      ap (λ (m : ℕ). cond (same_loc work.loc a && work.time == t) m 0) is_sum
+      ∙ d
+      ∙ ap (λ (b : Bool). cond b old.count 0 + cond (same_loc work.loc a && work.time == t) work.count 0) e
+
+  pub more_by_set : (xs : List Work) (i : ℕ) → i < length xs → old ≡ get_or xs i old → HasMore (λ a t. part_at a t work) xs (set xs i (record { loc = work.loc; time = work.time; count = n }))
+  unfolding grown
+  more_by_set xs i l is =
+      record {
+        work = λ a t.
+            let d = sum_by-set (part_at a t) xs i grown old l in
+            let e = part_grows a t in
+            let f = ap (part_at a t) is in
+            omega arith;
+        fit = λ stages there fits.
+            let p = and_parts (same_loc old.loc work.loc) (old.time == work.time) is_like in
+            let one : IsFit stages old = subst (IsFit stages) (sym is) (All-get_or (IsFit stages) xs i old l fits) in
+            let there : IsLocation stages work.loc = subst (IsLocation stages) (same_loc-true old.loc work.loc p.0) one.0 in
+            All-set (IsFit stages) xs i grown (there, (let k = one.1 in omega arith)) fits;
+      }
+
+-- for one time more
+
+counted_part : (b c : Bool) (each n : ℕ) → cond b (each * (n + cond c 1 0)) 0 ≡ cond b (each * n) 0 + cond (b && c) each 0
+counted_part true true each n = omega arith
+counted_part true false each n = omega arith
+counted_part false c each n = refl
+
+pub work_of_more : (loc : Loc) (each : ℕ) (times : List ℕ) (i d : ℕ) (a : Loc) (t : ℕ) → i < length times → work_of_times loc each (take i times) a t + part_at a t (record { loc = loc; time = get_or times i d; count = each }) ≡ work_of_times loc each (take (i + 1) times) a t
+work_of_more loc each times i d a t l =
+    let e = sum_by_more (λ u. cond (u == t) 1 0) times i d l in
+    let f = counted_part (same_loc loc a) (get_or times i d == t) each (times_at t (take i times)) in
+    sym (ap (λ (n : ℕ). cond (same_loc loc a) (each * n) 0) e ∙ f)
