@@ -1,0 +1,6 @@
+-- The lemmas of this crate.
+mod Cuts
+mod Lines
+mod Making
+mod Packets
+mod Stages
