@@ -1,6 +1,5 @@
 -- The lemmas of this crate.
 mod One
-mod Noted
-mod Prefixes
+pub mod Prefixes
 mod Tallied
 mod Searched

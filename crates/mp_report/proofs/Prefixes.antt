@@ -1,12 +1,15 @@
 -- Beginnings of texts, and texts that grow piece by piece.
-use Rattle.std.proofs.Common.{◌≡◌, ◌∙◌, ◌++◌, ◌+◌, ◌<◌, ◌≤◌, ◌==◌, ℕ, true, false, zero, suc, List, [], ◌∷◌, ap, append_assoc, arith, drop, get_or, length, refl, subst, sym, take, ⊎_elim}
+use Rattle.std.proofs.Common.{◌≡◌, ◌∙◌, ◌++◌, ◌+◌, ◌<◌, ◌≤◌, ◌==◌, ℕ, true, false, zero, suc, Option, List, [], ◌∷◌, ap, append_assoc, arith, drop, get_or, length, refl, subst, sym, take, ⊎_elim}
 use Rattle.std.proofs.lemmas.Bool.{both_ways, cases_Bool, eq-eqb, eqb-true}
 use Rattle.std.specs.List.{flat_map}
 use Rattle.std.proofs.lemmas.Grind.{flat_map-append}
 use Rattle.std.proofs.lemmas.List.{append-nil, take-append-drop}
 use Rattle.std.proofs.Math.Seq.{take-suc}
 use Rattle.mp_names.specs.declared.controls.Move.{Move}
+use Rattle.mp_names.specs.declared.kinds.Kept.{Kept}
+use Rattle.mp_names.specs.declared.kinds.Kind.TheVariants.{Ingest}
 use Rattle.mp_names.specs.Names.{IsPrefix, joined_below}
+use Rattle.mp_outside.specs.Sink.{grown}
 
 pub prefix_then : (a b c : List ℕ) → IsPrefix a b → IsPrefix b c → IsPrefix a c
 prefix_then a b c h i = (h.0 ++ i.0, sym (append_assoc a h.0 i.0) ∙ ap (λ (l : List ℕ). l ++ i.0) h.1 ∙ i.1)
@@ -18,6 +21,10 @@ part_of_next a piece k = (drop k piece, append_assoc a (take k piece) (drop k pi
 -- what stands where there is no move
 abbrev pub no_move : Move
 no_move = record { time = 0; stage = 0; bin = 0; from = 0; to = 0 }
+
+-- what stands where there is no step
+abbrev pub no_step : Kept
+no_step = record { kind = Ingest; version = 0 }
 
 module _ {X : Type 0} (f : X → List ℕ) (xs : List X) where
   -- the pieces of one item more
@@ -71,3 +78,7 @@ prefix_taken a b h = sym (subst (λ (l : List ℕ). take (length a) l ≡ a) h.1
     taken : (a r : List ℕ) → take (length a) (a ++ r) ≡ a
     taken [] r = refl
     taken (x ∷ xs) r = ap (λ (l : List ℕ). x ∷ l) (taken xs r)
+
+-- a beginning that was added is so many of the first bytes
+pub part_taken : (before now : Option (List ℕ)) (a b : List ℕ) → IsPrefix a b → now ≡ grown before a → (k : ℕ) × (now ≡ grown before (take k b))
+part_taken before now a b h is = (length a, is ∙ ap (grown before) (prefix_taken a b h))

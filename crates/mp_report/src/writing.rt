@@ -10,9 +10,9 @@ ghost use Rattle.mp_report.specs.Told.{groups_told, keys_in, rank_of_packet};
 ghost use Rattle.mp_model.specs.Tables.{table_of};
 
 use crate::lines::{line_of_move, line_of_worker};
-use crate::owners::moves_of;
 use crate::told::{keys_in, packets_told};
 use mp_job::Job;
+use mp_job_owners::moves_of;
 use mp_model::Query;
 use mp_names::Move;
 use mp_output::OutRefused;
