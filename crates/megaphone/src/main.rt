@@ -8,6 +8,7 @@ ghost use Rattle.std.specs.Prelude.{◌≡◌, None};
 ghost use Rattle.std.specs.Process.{exit_status};
 ghost use Rattle.mp_outside.specs.Files.{SameFiles};
 ghost use Rattle.mp_words.specs.Words.{command_in};
+ghost use Rattle.mp_cli.specs.Keeping.{IsKeptBy};
 ghost use Rattle.mp_command.specs.Ends.{CameTo, ComesWhere, IsCommandAnswered, IsRefusal, SaysLine};
 ghost use Rattle.mp_command.specs.Outcome.{Outcome, line_said, status_of};
 
@@ -47,7 +48,7 @@ fn answer<D: Depot, S: Sink, R: Threads + Wait + Sync + AllocGlobal>(
 ) -> ExitCode
     ensures usage { ComesWhere 2 (exit_status result) (command_in words.now ≡ None) }
     ensures answer { exit_status result ≡ 0
-        → IsCommandAnswered (command_in words.now) (D.files depot.old) (D.files depot.new) }
+        → IsCommandAnswered IsKeptBy (command_in words.now) (D.files depot.old) (D.files depot.new) }
     ensures untouched { IsRefusal (exit_status result) → SameFiles (D.files depot.old) (D.files depot.new) }
     ensures said { (outcome : Outcome)
         × CameTo D.files D.found D.read_faults D.write_faults

@@ -1,4 +1,2 @@
-mod Asked
-mod Bins
-mod OwnTable
-mod Parted
+-- The lemmas of this crate.
+mod Kept

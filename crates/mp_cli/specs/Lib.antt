@@ -1,4 +1,5 @@
 -- What the contracts of this crate cite.
-pub mod Jobs
+pub mod Keeping
 pub mod Running
 pub mod Stopped
+pub mod Wrote

@@ -1,5 +1,5 @@
 //! The run of a job, and the answer's way into its file.
-ghost use Rattle.std.specs.Prelude.{◌≡◌, ◌<◌, ◌≤◌, ◌∷◌, [], IfErr, IfOk, OnErr, OnOk};
+ghost use Rattle.std.specs.Prelude.{◌≡◌, ◌<◌, ◌≤◌, ◌∷◌, [], IfErr, IfOk, IsSome, OnErr, OnOk, length, map};
 ghost use Rattle.mp_model.specs.Answers.{one_thread_answer};
 ghost use Rattle.mp_model.specs.Tables.{table_of};
 ghost use Rattle.mp_outline.specs.JobOutline.{outline_of};
@@ -12,9 +12,10 @@ ghost use Rattle.mp_report.specs.Report.{AreTalliesOf};
 ghost use Rattle.mp_words.specs.Limits.{AreWithinLimits};
 ghost use Rattle.mp_command.specs.Calls.{StopsAnswer};
 ghost use Rattle.mp_command.specs.Refused.{EndsAs, outcome_of};
-ghost use Rattle.mp_cli.specs.Jobs.{run_of};
+ghost use Rattle.mp_command.specs.Config.{run_of};
+ghost use Rattle.mp_command.specs.Writing.{WritesSome, answer_at};
+ghost use Rattle.mp_cli.specs.Keeping.{IsKeptBy};
 ghost use Rattle.mp_cli.specs.Running.{TellsSteps};
-ghost use Rattle.mp_command.specs.Writing.{IsTextOfJob, WritesSome, answer_at};
 
 use crate::causes::refused_after;
 use mp_command::Refusal;
@@ -22,6 +23,7 @@ use mp_drive::{Replayed, RunPlan, replay_with_tallies};
 use mp_gate::Gate;
 use mp_job::Job;
 use mp_model::Query;
+use mp_names::Kept;
 use mp_outside::{Depot, DepotSink, Fault, Sink};
 use mp_tally::Tally;
 use mp_threads::run_with_tallies;
@@ -37,9 +39,12 @@ pub struct Ran {
     pub steps: Option<u64>,
     /// What each worker has done, by the workers' numbers.
     pub tallies: Vec<Tally>,
+    /// The steps that each worker made, by the workers' numbers, where a journal is asked for; else nothing.
+    pub kept: Vec<Vec<Kept>>,
 }
 
-/// Runs a job as the command asks, at its depth, paced or not, and makes the file hold the answer: what the run came to.
+/// Runs a job as the command asks, at its depth, paced or not, and makes the file hold the answer: what the run came to. Its workers
+/// keep their steps where a journal is asked for.
 /// `WriteFault`: the file couldn't be begun or appended to; `NoMemory`: no memory.
 pub fn answer_to<
     'a,
@@ -60,9 +65,14 @@ pub fn answer_to<
         IfOk result (λ run. TellsSteps o options.now.depth options.now.schedule run.steps) }
     ensures tallies { IfOk result (λ run.
         AreTalliesOf (table_of Q.facts job.now) job.now run.tallies.items) }
+    ensures kept { let o = outline_of (table_of Q.facts job.now) (run_of options.now.paced job.now) in
+        IfOk result (λ run. IsSome options.now.journal
+        → IsKeptBy o options.now.depth options.now.schedule (map (λ v. v.items) run.kept.items)) }
+    ensures lists { IfOk result (λ run. length run.kept.items ≤ job.now.shape.workers) }
     ensures whole { let answer = one_thread_answer (table_of Q.facts job.now) job.now.events in
         OnOk result (D.files depot.new ≡ with_file (D.files depot.old) options.now.out.now answer) }
-    ensures part { OnErr result (WritesSome (IsTextOfJob (table_of Q.facts job.now) job.now)
+    ensures part { let answer = one_thread_answer (table_of Q.facts job.now) job.now.events in
+        OnErr result (WritesSome (λ _ text. text ≡ answer)
         (answer_at options.now.out.now ∷ []) (D.files depot.old) (D.files depot.new)) }
     ensures refused { IfErr result (λ r. StopsAnswer (outcome_of r)) }
 
@@ -90,6 +100,10 @@ fn run_into<'a, Q: Query + Send, G: Gate + Sync, S: Sink, R: Threads + Wait + Sy
         IfOk result (λ run. TellsSteps o options.now.depth options.now.schedule run.steps) }
     ensures tallies { IfOk result (λ run.
         AreTalliesOf (table_of Q.facts job.now) job.now run.tallies.items) }
+    ensures kept { let o = outline_of (table_of Q.facts job.now) (run_of options.now.paced job.now) in
+        IfOk result (λ run. IsSome options.now.journal
+        → IsKeptBy o options.now.depth options.now.schedule (map (λ v. v.items) run.kept.items)) }
+    ensures lists { IfOk result (λ run. length run.kept.items ≤ job.now.shape.workers) }
     ensures answer { let answer = one_thread_answer (table_of Q.facts job.now) job.now.events in
         OnOk result (S.written sink.new ≡ grown (S.written sink.old) answer) }
     ensures part { OnErr result
@@ -102,13 +116,15 @@ fn run_into<'a, Q: Query + Send, G: Gate + Sync, S: Sink, R: Threads + Wait + Sy
     let plan = RunPlan {
         depth: options.depth,
         paced: options.paced,
+        keeps: options.journal.is_some(),
     };
     match options.schedule {
         Schedule::Threads => {
             match run_with_tallies::<Q, Brand, _, _, _>(rt, rt.alloc(), job, plan, gate, sink) {
-                Ok(tallies) => Ok(Ran {
+                Ok(run) => Ok(Ran {
                     steps: None,
-                    tallies,
+                    tallies: run.tallies,
+                    kept: run.kept,
                 }),
                 Err(cause) => Err(refused_after(cause)),
             }
@@ -118,6 +134,7 @@ fn run_into<'a, Q: Query + Send, G: Gate + Sync, S: Sink, R: Threads + Wait + Sy
                 Ok(run) => Ok(Ran {
                     steps: Some(run.steps),
                     tallies: run.tallies,
+                    kept: run.kept,
                 }),
                 Err(cause) => Err(refused_after(cause)),
             }

@@ -3,11 +3,13 @@ ghost use Rattle.std.specs.Prelude.{◌≡◌, Some};
 ghost use Rattle.mp_words.specs.Limits.{AreWithinLimits, IsWithinLimits};
 ghost use Rattle.mp_words.specs.Values.{options_in};
 ghost use Rattle.mp_words.specs.Words.{Run, asked_in, command_in};
+ghost use Rattle.mp_cli.specs.Keeping.{IsKeptBy};
 ghost use Rattle.mp_command.specs.Ends.{CameTo, EndsWith, Leaves};
 ghost use Rattle.mp_command.specs.Refused.{outcome_in};
 
 use crate::demo::demo;
 use crate::writing::write_answer;
+use mp_audit_command::audit;
 use mp_command::{InputFiles, Refusal, check, make, read_inputs};
 use mp_gate::Gate;
 use mp_outside::Depot;
@@ -25,7 +27,7 @@ pub fn serve<'a, D: Depot, G: Gate + Sync, R: Threads + Wait + Sync + AllocGloba
 ) -> Result<Vec<u8>, Refusal<'a>>
     ensures came { CameTo D.files D.found D.read_faults D.write_faults
         (command_in words.now) (outcome_in result) depot.old depot.new }
-    ensures ends { EndsWith (command_in words.now) (outcome_in result)
+    ensures ends { EndsWith IsKeptBy (command_in words.now) (outcome_in result)
         (D.files depot.old) (D.files depot.new) }
 {
     match parse(rt.alloc(), words) {
@@ -45,7 +47,7 @@ fn carry_out<'a, D: Depot, G: Gate + Sync, R: Threads + Wait + Sync + AllocGloba
     requires { IsWithinLimits command }
     ensures came { CameTo D.files D.found D.read_faults D.write_faults
         (Some (asked_in command.entry)) (outcome_in result) depot.old depot.new }
-    ensures left { Leaves (asked_in command.entry) (outcome_in result)
+    ensures left { Leaves IsKeptBy (asked_in command.entry) (outcome_in result)
         (D.files depot.old) (D.files depot.new) }
 {
     match command {
@@ -53,6 +55,7 @@ fn carry_out<'a, D: Depot, G: Gate + Sync, R: Threads + Wait + Sync + AllocGloba
         Command::Check(options) => check(rt.alloc(), depot, &options),
         Command::Make(options) => make(rt.alloc(), depot, &options),
         Command::Demo(options) => demo(rt, &options, gate),
+        Command::Audit(options) => audit(rt.alloc(), depot, &options),
     }
 }
 
@@ -66,7 +69,7 @@ fn answer<'a, D: Depot, G: Gate + Sync, R: Threads + Wait + Sync + AllocGlobal>(
     requires { AreWithinLimits options.now }
     ensures came { CameTo D.files D.found D.read_faults D.write_faults
         (Some (Run (options_in options.now))) (outcome_in result) depot.old depot.new }
-    ensures left { Leaves (Run (options_in options.now)) (outcome_in result)
+    ensures left { Leaves IsKeptBy (Run (options_in options.now)) (outcome_in result)
         (D.files depot.old) (D.files depot.new) }
 {
     let read = read_inputs(rt.alloc(), depot, &InputFiles::of_run(options))?;

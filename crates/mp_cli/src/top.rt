@@ -4,7 +4,9 @@ ghost use Rattle.mp_outside.specs.Fault.{Rose};
 ghost use Rattle.mp_outside.specs.Files.{SameFiles};
 ghost use Rattle.mp_outside.specs.Sink.{grown};
 ghost use Rattle.mp_words.specs.Words.{Asked, command_in};
-ghost use Rattle.mp_command.specs.Ends.{CameTo, ComesWhere, IsCommandAnswered, IsCommandAnsweredInPart};
+ghost use Rattle.mp_cli.specs.Keeping.{IsKeptBy};
+ghost use Rattle.mp_command.specs.Audits.{MayRefute};
+ghost use Rattle.mp_command.specs.Ends.{CameTo, ComesWhere, IsCommandAnswered, IsCommandAnsweredInPart, IsCommandRefuted};
 ghost use Rattle.mp_command.specs.Ends.{IsRefusal, LacksInput, OthersStay, SaysAnswer, SaysLine, WritesFile};
 ghost use Rattle.mp_command.specs.Calls.{MayCome, called_for};
 ghost use Rattle.mp_command.specs.Outcome.{Outcome, line_said, status_of};
@@ -17,18 +19,20 @@ use std::sync::Wait;
 use std::thread::Threads;
 
 /// Does what the words of the command line ask for, on the files of a depot. `words` begins with the
-/// program's name. A refusal says one line on `said`; `check` and `demo` say theirs there.
+/// program's name. A refusal says one line on `said`; `check`, `demo` and `audit` say theirs there.
 ///
 /// The command is `run` or `replay` with `--query` (`q1` to `q8`, or `pipe` with `--pipe`), `--events`, `--config` and
-/// `--out`, and perhaps `--report`, `--workers` (1, up to 64), `--bins` (16, a power of two up to 4096),
+/// `--out`, and perhaps `--report`, `--journal`, `--workers` (1, up to 64), `--bins` (16, a power of two up to 4096),
 /// `--depth` (64, up to 1024) and the flag `--paced`; `replay` also takes `--seed` (0, up to 2^48). In a paced run
 /// control records of a time wait until the moves of earlier times have arrived; the answer is the same. The report
-/// is begun where the whole answer is written. `check` reads what these read; `make` writes events that are made from `--seed`, so many as
+/// is begun where the whole answer is written, and the journal behind it: the steps that each worker made. `check` reads what these read; `make` writes events that are made from `--seed`, so many as
 /// `--count` says (up to 1,000,000), to `--out`; `demo` makes events, runs them in memory and says a summary of
-/// the answer. The statuses are this project's profile: 0 all is done; 2 the words are no command; 3 the event
+/// the answer. `audit` has the options of `run` but `--report`; it reads what `run` reads, and then `--out` and `--journal`, and says
+/// how many steps the journal has, where some order of all of them is a run that writes this answer. The statuses are this project's profile: 0 all is done; 2 the words are no command; 3 the event
 /// file has a bad line; 4 the configuration has a bad line; 5 a file isn't there; 6 a find or a read failed; 7
 /// a begin or an append failed, or a write to `said` of what is its answer; 8 an allocation failed; 9 a file
-/// has more than 2^28 bytes; 12 the pipeline's file has a bad line, or ends without a stage. The refusals 3, 4 and 12
+/// has more than 2^28 bytes; 12 the pipeline's file has a bad line, or ends without a stage; 13 no order of a
+/// journal's steps is a run that writes the answer; 14 the journal has a bad line. The refusals 3, 4, 12 and 14
 /// say the number of the first bad line and the first check that it fails.
 ///
 /// `run` and `demo` work on threads, one for each worker: this one drives worker 0, and each worker for which no thread
@@ -53,27 +57,31 @@ pub fn run<D: Depot, S: Sink, G: Gate + Sync, R: Threads + Wait + Sync + AllocGl
     ensures said_fault { SaysAnswer (command_in words.now) → result.code ≡ 7
         → Rose (S.faults said.old) (S.faults said.new) }
     // Well-formed input is answered, but for a fault of the depot, or of `said` where it takes the answer, or an
-    // allocation failure.
+    // allocation failure; `audit` answers by status 0 or 13.
     ensures complete { (asked : Asked) → command_in words.now ≡ Some asked
         → IsSome (D.files depot.old) → status_of (called_for (D.files depot.old) asked) ≡ 0
         → ¬ (Rose (D.read_faults depot.old) (D.read_faults depot.new))
         → ¬ (Rose (D.write_faults depot.old) (D.write_faults depot.new))
         → ¬ (SaysAnswer (Some asked) × Rose (S.faults said.old) (S.faults said.new))
-        → (result.code ≡ 0) ⊎ (result.code ≡ 8) }
+        → (result.code ≡ 0) ⊎ ((result.code ≡ 8) ⊎ ((result.code ≡ 13) × MayRefute asked)) }
 
     // The answer theorem: what a run that answers 0 wrote is exactly the query's one-thread answer to the events, with the
     // values that the configuration gives to the query's rules, or that of the pipeline that its file says; and the report,
-    // where one is asked for, of the job with its first owners and control records. `check` has then found its files
-    // well-formed, and `make` has written the lines of the events that are made.
+    // where one is asked for, of the job with its first owners and control records; and the journal, where one is asked for,
+    // tells the steps of its workers: of `replay` those of the seed's schedule, of `run` for each worker all that it has to do.
+    // `check` has then found its files well-formed, and `make` has written the lines of the events that are made. Of `audit`
+    // some order of all steps of the journal is a run of the job of the files, and the answer is the one-thread answer.
     ensures answer { result.code ≡ 0
-        → IsCommandAnswered (command_in words.now) (D.files depot.old) (D.files depot.new) }
+        → IsCommandAnswered IsKeptBy (command_in words.now) (D.files depot.old) (D.files depot.new) }
+    // An audit refutes a journal only where no order of its steps is such a run, or the answer is another.
+    ensures no_run { result.code ≡ 13 → IsCommandRefuted (command_in words.now) (D.files depot.old) }
     ensures untouched { IsRefusal result.code → SameFiles (D.files depot.old) (D.files depot.new) }
     ensures part { (result.code ≡ 7) ⊎ (result.code ≡ 8)
-        → IsCommandAnsweredInPart (command_in words.now) (D.files depot.old) (D.files depot.new) }
+        → IsCommandAnsweredInPart IsKeptBy (command_in words.now) (D.files depot.old) (D.files depot.new) }
     ensures others { OthersStay (command_in words.now) (D.files depot.old) (D.files depot.new) }
 
     // With status 0 what is said is what the command calls for: of `check` how much the files hold, of `demo` the
-    // summary of the one-thread answer, of the others nothing.
+    // summary of the one-thread answer, of `audit` how many steps the journal has, of the others nothing.
     ensures printed { result.code ≡ 0 → OnSome (D.files depot.old) (IfSome (command_in words.now) (λ asked.
         S.written said.new
         ≡ grown (S.written said.old) (line_said (called_for (D.files depot.old) asked)))) }

@@ -1,4 +1,4 @@
-//! The answer's way into its file, and the report's after it.
+//! The answer's way into its file, and the report's and the journal's after it.
 ghost use Rattle.std.specs.Prelude.{◌≡◌, ℕ, List, IfErr, IfOk};
 ghost use Rattle.mp_control.specs.Settings.{settings_in};
 ghost use Rattle.mp_model.specs.Legal.{EventsAreLegal};
@@ -13,19 +13,19 @@ ghost use Rattle.mp_words.specs.Values.{options_in};
 ghost use Rattle.mp_words.specs.Words.{Run};
 ghost use Rattle.mp_command.specs.declared.flow.FlowQuery.TheVariants.{Named};
 ghost use Rattle.mp_command.specs.Calls.{StopsAnswer};
-ghost use Rattle.mp_command.specs.Config.{SettingsFit, SettingsFitFlow, flow_of, flow_with};
+ghost use Rattle.mp_command.specs.Config.{SettingsFit, SettingsFitFlow, flow_for, flow_of, flow_with, job_with, run_of, shape_with};
 ghost use Rattle.mp_command.specs.InputFiles.{found_in};
 ghost use Rattle.mp_command.specs.Queries.{IsSound};
 ghost use Rattle.mp_command.specs.Refused.{EndsAs, outcome_of};
 ghost use Rattle.mp_command.specs.Writing.{IsTextOf, IsTextOfFlow, IsTextOfJob, targets_of};
-ghost use Rattle.mp_cli.specs.Jobs.{Wrote, flow_for, job_for, run_of, shape_for};
+ghost use Rattle.mp_cli.specs.Keeping.{IsKeptBy};
 ghost use Rattle.mp_cli.specs.Running.{TellsSteps};
+ghost use Rattle.mp_cli.specs.Wrote.{Wrote};
 
 use crate::running::{Ran, answer_to};
-use mp_command::{FlowQuery, Inputs, JobParts, Refusal, report_to};
-use mp_control::Settings;
+use mp_command::{FlowQuery, Inputs, JobParts, Refusal, job_for, journal_to, report_to};
 use mp_gate::Gate;
-use mp_job::{Job, Shape};
+use mp_job::Job;
 use mp_model::Query;
 use mp_outside::Depot;
 use mp_q_auction::{Q4, Q6};
@@ -36,8 +36,8 @@ use mp_words::{QueryName, RunOptions};
 use std::sync::Wait;
 use std::thread::Threads;
 
-/// Runs the dataflow that a command asks for on what was read, and makes its file hold the answer, and then that of the report,
-/// where one is asked for, the report: what the run came to, as [`run_asked`] says. `WriteFault`: a file couldn't be begun or
+/// Runs the dataflow that a command asks for on what was read, and makes its file hold the answer, and then, where they are asked for,
+/// the files of the report and of the journal hold these: what the run came to, as [`run_asked`] says. `WriteFault`: a file couldn't be begun or
 /// appended to; `NoMemory`: no memory.
 pub fn write_answer<'a, D: Depot, G: Gate + Sync, R: Threads + Wait + Sync + AllocGlobal>(
     rt: &R,
@@ -52,7 +52,7 @@ pub fn write_answer<'a, D: Depot, G: Gate + Sync, R: Threads + Wait + Sync + All
     requires events { EventsAreLegal read.parts.events.items }
     requires settings { SettingsFitFlow read.flow (settings_in read.parts.settings) }
     ensures wrote { let asked = Run (options_in options.now) in
-        Wrote (IsTextOf asked (found_in read)) (targets_of asked) result (D.files depot.old) (D.files depot.new) }
+        Wrote (IsTextOf IsKeptBy asked (found_in read)) (targets_of asked) result (D.files depot.old) (D.files depot.new) }
     ensures refused { IfErr result (λ r. StopsAnswer (outcome_of r)) }
 
     ensures failed { IfErr result (λ r. EndsAs r 7
@@ -76,9 +76,10 @@ fn write_named<'a, D: Depot, G: Gate + Sync, R: Threads + Wait + Sync + AllocGlo
 ) -> Result<Ran, Refusal<'a>>
     requires options { AreWithinLimits options.now }
     requires events { EventsAreLegal parts.events.items }
-    requires settings { SettingsFitFlow (flow_for (options_in options.now) (Named name)) (settings_in parts.settings) }
+    requires settings { SettingsFitFlow (flow_for (flow_of (options_in options.now)) (Named name)) (settings_in parts.settings) }
     ensures wrote { let asked = options_in options.now in
-        let IsText = IsTextOfFlow (flow_for asked (Named name)) parts.events.items (settings_in parts.settings) in
+        let flow = flow_for (flow_of asked) (Named name) in
+        let IsText = IsTextOfFlow IsKeptBy asked flow parts.events.items (settings_in parts.settings) in
         Wrote IsText (targets_of (Run asked)) result (D.files depot.old) (D.files depot.new) }
     ensures refused { IfErr result (λ r. StopsAnswer (outcome_of r)) }
 
@@ -112,54 +113,40 @@ fn run_asked<'a, D: Depot, Q: Query + Send, G: Gate + Sync, R: Threads + Wait + 
     requires options { AreWithinLimits options.now }
     requires events { EventsAreLegal parts.events.items }
     requires settings { let stages = (Q.facts (Q.values given)).stages in
-        SettingsFit (shape_for (options_in options.now) stages) (Q.rules given) (settings_in parts.settings) }
+        SettingsFit (shape_with options.now.workers options.now.bins stages) (Q.rules given) (settings_in parts.settings) }
     requires rows { (numbers : List ℕ) → GivesRows (Q.facts numbers) }
     ensures made { let asked = options_in options.now in
         let numbers = numbers_with (Q.rules given) (Q.values given) parts.settings.values in
         let stages = (Q.facts (Q.values given)).stages in
-        let job = job_for asked stages numbers parts.events.items (settings_in parts.settings) in
+        let shape = shape_with asked.workers asked.bins stages in
+        let job = job_with shape numbers parts.events.items (settings_in parts.settings) in
         let o = outline_of (Q.facts numbers) (run_of asked.paced job) in
         IfOk result (λ run. TellsSteps o asked.depth asked.schedule run.steps) }
     ensures tallies { let asked = options_in options.now in
         let numbers = numbers_with (Q.rules given) (Q.values given) parts.settings.values in
         let stages = (Q.facts (Q.values given)).stages in
-        let job = job_for asked stages numbers parts.events.items (settings_in parts.settings) in
+        let shape = shape_with asked.workers asked.bins stages in
+        let job = job_with shape numbers parts.events.items (settings_in parts.settings) in
         IfOk result (λ run. AreTalliesOf (Q.facts numbers) job run.tallies.items) }
     ensures wrote { let asked = options_in options.now in
         let numbers = numbers_with (Q.rules given) (Q.values given) parts.settings.values in
         let stages = (Q.facts (Q.values given)).stages in
-        let job = job_for asked stages numbers parts.events.items (settings_in parts.settings) in
-        Wrote (IsTextOfJob (Q.facts numbers) job) (targets_of (Run asked)) result
+        let shape = shape_with asked.workers asked.bins stages in
+        let job = job_with shape numbers parts.events.items (settings_in parts.settings) in
+        let Keeps = IsKeptBy (outline_of (Q.facts numbers) (run_of asked.paced job)) asked.depth asked.schedule in
+        Wrote (IsTextOfJob (Q.facts numbers) job Keeps) (targets_of (Run asked)) result
         (D.files depot.old) (D.files depot.new) }
     ensures refused { IfErr result (λ r. StopsAnswer (outcome_of r)) }
 
     ensures failed { IfErr result (λ r. EndsAs r 7
         → Rose (D.write_faults depot.old) (D.write_faults depot.new)) }
 {
-    let JobParts { events, settings } = parts;
-    let Settings {
-        firsts,
-        values,
-        controls,
-    } = settings;
-    let query = given.with(values.as_slice());
-    let shape = Shape {
-        workers: options.workers,
-        bins: options.bins,
-        stages: query.stages(),
-    };
-    let job = Job::with_firsts(rt.alloc(), query, events, controls, shape, firsts)?;
-    write_both(rt, depot, options, &job, gate)
+    let job = job_for(rt.alloc(), given, options.workers, options.bins, parts)?;
+    write_all(rt, depot, options, &job, gate)
 }
 
-/// Runs a job, and makes the files hold its answer and its report: what the run came to.
-fn write_both<
-    'a,
-    D: Depot,
-    Q: Query + Send,
-    G: Gate + Sync,
-    R: Threads + Wait + Sync + AllocGlobal,
->(
+/// Runs a job, and makes the files hold its answer, its report and its journal: what the run came to.
+fn write_all<'a, D: Depot, Q: Query + Send, G: Gate + Sync, R: Threads + Wait + Sync + AllocGlobal>(
     rt: &R,
     depot: &mut D,
     options: &RunOptions<'a>,
@@ -168,11 +155,14 @@ fn write_both<
 ) -> Result<Ran, Refusal<'a>>
     requires options { AreWithinLimits options.now }
     requires rows { GivesRows (table_of Q.facts job.now) }
+    requires size { job.now.shape.workers ≡ options.now.workers }
     ensures made { let o = outline_of (table_of Q.facts job.now) (run_of options.now.paced job.now) in
         IfOk result (λ run. TellsSteps o options.now.depth options.now.schedule run.steps) }
     ensures tallies { IfOk result (λ run. AreTalliesOf (table_of Q.facts job.now) job.now run.tallies.items) }
-    ensures wrote { let asked = Run (options_in options.now) in
-        Wrote (IsTextOfJob (table_of Q.facts job.now) job.now) (targets_of asked) result
+    ensures wrote { let asked = options_in options.now in
+        let q = table_of Q.facts job.now in
+        let Keeps = IsKeptBy (outline_of q (run_of asked.paced job.now)) asked.depth asked.schedule in
+        Wrote (IsTextOfJob q job.now Keeps) (targets_of (Run asked)) result
         (D.files depot.old) (D.files depot.new) }
     ensures refused { IfErr result (λ r. StopsAnswer (outcome_of r)) }
 
@@ -180,8 +170,13 @@ fn write_both<
         → Rose (D.write_faults depot.old) (D.write_faults depot.new)) }
 {
     let run = answer_to(rt, depot, options, job, gate)?;
-    if let Some(name) = options.report {
-        report_to(rt.alloc(), depot, name, job, run.tallies.as_slice())?;
-    }
+    report_to(
+        rt.alloc(),
+        depot,
+        options.report,
+        job,
+        run.tallies.as_slice(),
+    )?;
+    journal_to(rt.alloc(), depot, options.journal, run.kept.as_slice())?;
     Ok(run)
 }

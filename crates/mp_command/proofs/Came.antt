@@ -1,6 +1,6 @@
 -- What a command came to, by what was read and written.
 use Rattle.std.proofs.Common.{ℕ, ◌≡◌, ◌⊎◌, inl, inr, Bool, Option, Some, None, Result, Ok, Err, List, refl, sym, ap, subst, ◌∙◌, arith}
-use Rattle.std.specs.Prelude.{IfErr, IfOk}
+use Rattle.std.specs.Prelude.{IfErr, IfOk, OnSome}
 use Rattle.std.specs.Global.{Global}
 use Rattle.std.specs.declared.vec.Vec.{Vec}
 use Rattle.mp_outside.specs.Fault.{Rose}
@@ -8,13 +8,15 @@ use Rattle.mp_outside.specs.Files.{Files}
 use Rattle.mp_words.specs.declared.options.DemoOptions.{DemoOptions}
 use Rattle.mp_words.specs.Words.{Asked, Demo}
 use Rattle.mp_command.specs.declared.refusal.Refusal.{Refusal}
-use Rattle.mp_command.specs.Calls.{MayCome, StopsAnswer}
+use Rattle.mp_command.specs.Audits.{IsRefuted, MayRefute}
+use Rattle.mp_command.specs.Calls.{MayCome, Refutes, StopsAnswer}
 use Rattle.mp_command.specs.Ends.{CameTo, IsRefusal, LacksOne, Leaves, WritesFile}
 use Rattle.mp_command.specs.Inputs.{Found, Input, inputs_of, nothing_found}
 use Rattle.mp_command.specs.Lines.{demo_line, line_after}
-use Rattle.mp_command.specs.Outcome.{Outcome, Answered, NoMemory, Usage, status_of}
+use Rattle.mp_command.specs.Outcome.{Outcome, Answered, NoMemory, NoRun, Usage, status_of}
 use Rattle.mp_command.specs.Reading.{ReadsAll, RefusesOne}
 use Rattle.mp_command.specs.Refused.{outcome_in, outcome_of}
+use Rattle.mp_command.specs.Writing.{Keeping}
 use Rattle.mp_command.proofs.Coming.{may_answer, may_lack_memory, may_refuse, may_stop, refuses_as_refusal}
 use Rattle.mp_command.proofs.Leaving.{leaves_alone, no_both, no_refusal}
 
@@ -35,7 +37,7 @@ module _ {D : Type 0} (files : D → Option Files) (found : D → List ℕ → B
       → (status_of o ≡ 5 → LacksOne found (inputs_of asked) new) → (status_of o ≡ 6 → Rose (read_faults old) (read_faults new))
       → CameTo files found read_faults write_faults (Some asked) o old new
   came_refused o r lacks fault = record {
-    may = may_refuse (inputs_of asked) (line_after asked) (files old) o r;
+    may = inl (may_refuse (inputs_of asked) (line_after asked) (files old) o r);
     not_found = lacks;
     read_fault = fault;
     write_fault = λ seven. absurd (no_seven seven (refuses_as_refusal (files old) (inputs_of asked) nothing_found o r));
@@ -49,7 +51,7 @@ module _ {D : Type 0} (files : D → Option Files) (found : D → List ℕ → B
   pub came_answered : (read : Found) → ReadsAll (files old) (inputs_of asked) nothing_found read
       → CameTo files found read_faults write_faults (Some asked) (Answered (line_after asked read)) old new
   came_answered read r = record {
-    may = may_answer (inputs_of asked) (line_after asked) (files old) read r;
+    may = inl (may_answer (inputs_of asked) (line_after asked) (files old) read r);
     not_found = λ e. absurd (omega (arith, e));
     read_fault = λ e. absurd (omega (arith, e));
     write_fault = λ e. absurd (omega (arith, e));
@@ -60,7 +62,7 @@ module _ {D : Type 0} (files : D → Option Files) (found : D → List ℕ → B
       → (status_of o ≡ 7 → WritesFile (Some asked) × Rose (write_faults old) (write_faults new))
       → CameTo files found read_faults write_faults (Some asked) o old new
   came_stopped read o r stops fault = record {
-    may = may_stop (inputs_of asked) (line_after asked) (files old) read o r stops;
+    may = inl (may_stop (inputs_of asked) (line_after asked) (files old) read o r stops);
     not_found = λ e. absurd (neither 5 stops e (λ h. omega (arith, h)) (λ h. omega (arith, h)));
     read_fault = λ e. absurd (neither 6 stops e (λ h. omega (arith, h)) (λ h. omega (arith, h)));
     write_fault = fault;
@@ -70,9 +72,23 @@ module _ {D : Type 0} (files : D → Option Files) (found : D → List ℕ → B
       neither n (inl e) at no_seven no_eight = no_seven (sym at ∙ ap status_of e)
       neither n (inr e) at no_seven no_eight = no_eight (sym at ∙ ap status_of e)
 
+  -- all was read, and what was found is refuted
+  pub came_refuted : (read : Found) → ReadsAll (files old) (inputs_of asked) nothing_found read → MayRefute asked → IsRefuted asked read
+      → CameTo files found read_faults write_faults (Some asked) NoRun old new
+  came_refuted read r may refuted = record {
+    may = inr (refl, may, told_refuted (files old) (read, r, refuted));
+    not_found = λ e. absurd (omega (arith, e));
+    read_fault = λ e. absurd (omega (arith, e));
+    write_fault = λ e. absurd (omega (arith, e));
+  }
+    where
+      told_refuted : (told : Option Files) → Refutes told asked → OnSome told (Refutes told asked)
+      told_refuted None refutes = tt
+      told_refuted (Some told) refutes = refutes
+
 -- where a file was refused nothing has changed
-pub refused_leaves : (asked : Asked) (told : Option Files) (o : Outcome) (old new : Option Files) → RefusesOne told (inputs_of asked) nothing_found o → new ≡ old → Leaves asked o old new
-refused_leaves asked told o old new r same = leaves_alone asked o old new (λ zero. no_zero zero (refuses_as_refusal told (inputs_of asked) nothing_found o r)) same
+pub refused_leaves : (AreKept : Keeping) (asked : Asked) (told : Option Files) (o : Outcome) (old new : Option Files) → RefusesOne told (inputs_of asked) nothing_found o → new ≡ old → Leaves AreKept asked o old new
+refused_leaves AreKept asked told o old new r same = leaves_alone AreKept asked o old new (λ zero. no_zero zero (refuses_as_refusal told (inputs_of asked) nothing_found o r)) same
   where
     no_zero : status_of o ≡ 0 → IsRefusal (status_of o) ⊎ (o ≡ NoMemory) → ⊥
     no_zero zero (inl refusal) = no_refusal (status_of o) refusal zero
@@ -109,5 +125,5 @@ module _ {D : Type 0} (files : D → Option Files) (found : D → List ℕ → B
       subst (λ (o : Outcome). CameTo files found read_faults write_faults (Some (Demo asked)) o old new) (sym refused) (came_short (Some (Demo asked)))
 
 -- and leaves the files alone
-pub demo_leaves : (asked : DemoOptions) (o : Outcome) (told : Option Files) → Leaves (Demo asked) o told told
-demo_leaves asked o told = record { whole = λ e. (nothing_found, refl, refl); part = λ stop. inl refl; untouched = λ refusal. refl }
+pub demo_leaves : (AreKept : Keeping) (asked : DemoOptions) (o : Outcome) (told : Option Files) → Leaves AreKept (Demo asked) o told told
+demo_leaves AreKept asked o told = record { whole = λ e. (nothing_found, refl, tt, refl); part = λ stop. inl refl; untouched = λ refusal. refl }

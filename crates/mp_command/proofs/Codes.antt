@@ -6,12 +6,14 @@ use Rattle.mp_names.specs.Limits.{most_bytes}
 use Rattle.mp_outside.specs.Fault.{Rose}
 use Rattle.mp_outside.specs.Files.{Files, SameFiles, file_at}
 use Rattle.mp_outside.specs.Sink.{grown}
-use Rattle.mp_words.specs.Words.{Asked, Run, Check, Make, Demo}
-use Rattle.mp_command.specs.Calls.{ComesOf, IsRefusalOf, MayCome, MayEnd, MayFail, called_for, files_call_for, unless_refused, with_text}
-use Rattle.mp_command.specs.Ends.{ComesWhere, EndsWith, IsCommandAnsweredInPart, IsRefusal, IsStop, SaysAnswer, SaysLine, WritesFile, status_at_fault}
-use Rattle.mp_command.specs.Inputs.{ConfigFile, EventFile, Found, Input, PipeFile, inputs_of, nothing_found, read_as}
+use Rattle.mp_words.specs.Words.{Asked, Run, Check, Make, Demo, Audit}
+use Rattle.mp_command.specs.Audits.{MayRefute}
+use Rattle.mp_command.specs.Calls.{ComesOf, IsRefusalOf, MayCome, MayEnd, MayEndRefuted, MayFail, Refutes, called_for, files_call_for, unless_refused, with_text}
+use Rattle.mp_command.specs.Ends.{ComesWhere, EndsWith, IsCommandAnsweredInPart, IsCommandRefuted, IsRefusal, IsStop, SaysAnswer, SaysLine, WritesFile, status_at_fault}
+use Rattle.mp_command.specs.Inputs.{AnswerFile, ConfigFile, EventFile, Found, Input, JournalFile, PipeFile, inputs_of, nothing_found, read_as}
 use Rattle.mp_command.specs.Lines.{line_after}
 use Rattle.mp_command.specs.Outcome.{Outcome, Answered, NoMemory, TooLarge, WriteFault, line_said, status_of}
+use Rattle.mp_command.specs.Writing.{Keeping}
 use Rattle.mp_command.proofs.Coming.{may_lack_memory, refusal_of_text}
 use Rattle.mp_command.proofs.Leaving.{no_both, no_stop, status_is, stopped_alone}
 
@@ -19,19 +21,24 @@ use Rattle.mp_command.proofs.Leaving.{no_both, no_stop, status_is, stopped_alone
 
 -- a status that no file that is read gives
 abbrev IsNoFileStatus : ℕ → Type 0
-IsNoFileStatus n = (n ≡ 3 → ⊥) × (n ≡ 4 → ⊥) × (n ≡ 5 → ⊥) × (n ≡ 6 → ⊥) × (n ≡ 9 → ⊥) × (n ≡ 12 → ⊥)
+IsNoFileStatus n = (n ≡ 3 → ⊥) × (n ≡ 4 → ⊥) × (n ≡ 5 → ⊥) × (n ≡ 6 → ⊥) × (n ≡ 9 → ⊥) × (n ≡ 12 → ⊥) × (n ≡ 14 → ⊥)
 
 done_is : IsNoFileStatus 0
-done_is = ((λ e. omega (arith, e)), (λ e. omega (arith, e)), (λ e. omega (arith, e)), (λ e. omega (arith, e)), (λ e. omega (arith, e)), (λ e. omega (arith, e)))
+done_is = ((λ e. omega (arith, e)), (λ e. omega (arith, e)), (λ e. omega (arith, e)), (λ e. omega (arith, e)), (λ e. omega (arith, e)), (λ e. omega (arith, e)), (λ e. omega (arith, e)))
 
 usage_is : IsNoFileStatus 2
-usage_is = ((λ e. omega (arith, e)), (λ e. omega (arith, e)), (λ e. omega (arith, e)), (λ e. omega (arith, e)), (λ e. omega (arith, e)), (λ e. omega (arith, e)))
+usage_is = ((λ e. omega (arith, e)), (λ e. omega (arith, e)), (λ e. omega (arith, e)), (λ e. omega (arith, e)), (λ e. omega (arith, e)), (λ e. omega (arith, e)), (λ e. omega (arith, e)))
+
+refuted_is : IsNoFileStatus 13
+refuted_is = ((λ e. omega (arith, e)), (λ e. omega (arith, e)), (λ e. omega (arith, e)), (λ e. omega (arith, e)), (λ e. omega (arith, e)), (λ e. omega (arith, e)), (λ e. omega (arith, e)))
 
 module _ (n : ℕ) (no_file : IsNoFileStatus n) where
   text_refused : (input : Input) (o : Outcome) → IsRefusalOf input o → status_of o ≡ n → ⊥
   text_refused EventFile o (line, why, is) at = no_file.0 (sym at ∙ ap status_of is)
   text_refused PipeFile o (line, why, is) at = no_file.5 (sym at ∙ ap status_of is)
   text_refused (ConfigFile flow) o (line, why, is) at = no_file.1 (sym at ∙ ap status_of is)
+  text_refused AnswerFile o none at = none
+  text_refused (JournalFile flow) o (line, why, is) at = no_file.6 (sym at ∙ ap status_of is)
 
   comes_otherwise : (inputs : List (Input × List ℕ)) (o : Outcome) → ComesOf inputs o → status_of o ≡ n → ⊥
   comes_otherwise [] o comes at = comes
@@ -78,13 +85,22 @@ module _ (n : ℕ) (no_file : IsNoFileStatus n) where
 
 -- an outcome with status 0 is the line of what was found
 done_line : (asked : Asked) (told : Option Files) (o : Outcome) → MayCome (Some asked) told o → status_of o ≡ 0 → (found : Found) × (o ≡ Answered (line_after asked found))
-done_line asked told o may at = line_at_end 0 done_is (line_after asked) told (inputs_of asked) o may at (λ e. omega (arith, e)) (λ e. omega (arith, e))
+done_line asked told o (inl may) at = line_at_end 0 done_is (line_after asked) told (inputs_of asked) o may at (λ e. omega (arith, e)) (λ e. omega (arith, e))
+done_line asked told o (inr refuted) at = absurd (omega (arith, at, ap status_of refuted.0))
 
 -- a command ends otherwise than as usage
 not_usage : (asked : Asked) (told : Option Files) (o : Outcome) → MayCome (Some asked) told o → status_of o ≡ 2 → ⊥
-not_usage asked told o may at =
+not_usage asked told o (inl may) at =
     let said = line_at_end 2 usage_is (line_after asked) told (inputs_of asked) o may at (λ e. omega (arith, e)) (λ e. omega (arith, e)) in
     omega (arith, at, ap status_of said.1)
+not_usage asked told o (inr refuted) at = omega (arith, at, ap status_of refuted.0)
+
+-- an outcome with status 13 is that of an audit, whose files refute the journal
+only_refuted : (asked : Asked) (told : Option Files) (o : Outcome) → MayCome (Some asked) told o → status_of o ≡ 13 → OnSome told (Refutes told asked)
+only_refuted asked told o (inl may) at =
+    let said = line_at_end 13 refuted_is (line_after asked) told (inputs_of asked) o may at (λ e. omega (arith, e)) (λ e. omega (arith, e)) in
+    absurd (omega (arith, at, ap status_of said.1))
+only_refuted asked told o (inr refuted) at = refuted.2
 
 -- a command writes a file or says its answer, and not both
 one_of_both : (command : Option Asked) → WritesFile command → SaysAnswer command → ⊥
@@ -93,6 +109,7 @@ one_of_both (Some (Run asked)) w s = s
 one_of_both (Some (Check asked)) w s = w
 one_of_both (Some (Make asked)) w s = s
 one_of_both (Some (Demo asked)) w s = w
+one_of_both (Some (Audit asked)) w s = w
 
 -- How the status of a call follows from the outcome's: it is that, or the line was not said whole
 abbrev pub TellsCode : Outcome → ℕ → Type 0 → Type 0
@@ -148,6 +165,7 @@ module _ (command : Option Asked) (told : Option Files) (o : Outcome) (code : �
       go None (inr e) = absurd (omega (arith, done, ap status_of e))
       go (Some (Check asked)) may = tt
       go (Some (Demo asked)) may = tt
+      go (Some (Audit asked)) may = tt
       go (Some (Run asked)) may =
           let said = done_line (Run asked) told o may done in
           absurd (omega (arith, some, ap (λ (x : Outcome). length (line_said x)) said.1))
@@ -185,11 +203,12 @@ module _ (command : Option Asked) (told : Option Files) (o : Outcome) (code : �
       go : (command : Option Asked) (told : Option Files) → MayCome command told o → MayCome command told WriteFault
       go None told (inl e) = absurd (omega (arith, done, ap status_of e))
       go None told (inr e) = absurd (omega (arith, done, ap status_of e))
-      go (Some asked) None may = inr (inr (inl refl))
-      go (Some asked) (Some files) (inl called) = inr (inr (inl (refl, sym (ap status_of called) ∙ done)))
-      go (Some asked) (Some files) (inr (inl (e, some))) = absurd (omega (arith, done, ap status_of e))
-      go (Some asked) (Some files) (inr (inr (inl (e, answered)))) = absurd (omega (arith, done, ap status_of e))
-      go (Some asked) (Some files) (inr (inr (inr e))) = absurd (omega (arith, done, ap status_of e))
+      go (Some asked) told (inr refuted) = absurd (omega (arith, done, ap status_of refuted.0))
+      go (Some asked) None (inl may) = inl (inr (inr (inl refl)))
+      go (Some asked) (Some files) (inl (inl called)) = inl (inr (inr (inl (refl, sym (ap status_of called) ∙ done))))
+      go (Some asked) (Some files) (inl (inr (inl (e, some)))) = absurd (omega (arith, done, ap status_of e))
+      go (Some asked) (Some files) (inl (inr (inr (inl (e, answered))))) = absurd (omega (arith, done, ap status_of e))
+      go (Some asked) (Some files) (inl (inr (inr (inr e)))) = absurd (omega (arith, done, ap status_of e))
 
   -- the status is that of an outcome that may come
   pub outcome_at : (x : Outcome) × MayCome command told x × (status_of x ≡ code)
@@ -221,27 +240,43 @@ module _ (command : Option Asked) (told : Option Files) (o : Outcome) (code : �
   -- well-formed input is answered, but for faults
   pub complete_at : (reads writes : Type 0) → (status_of o ≡ 6 → reads) → (status_of o ≡ 7 → WritesFile command × writes)
       → (asked : Asked) → command ≡ Some asked → IsSome told → status_of (called_for told asked) ≡ 0
-      → (reads → ⊥) → (writes → ⊥) → (SaysAnswer (Some asked) × rose → ⊥) → (code ≡ 0) ⊎ (code ≡ 8)
+      → (reads → ⊥) → (writes → ⊥) → (SaysAnswer (Some asked) × rose → ⊥) → (code ≡ 0) ⊎ ((code ≡ 8) ⊎ ((code ≡ 13) × MayRefute asked))
   complete_at reads writes read write asked is some answered no_reads no_writes no_rose = go tells
     where
       called_at : (command : Option Asked) (told : Option Files) → MayCome command told o → command ≡ Some asked → IsSome told
-          → (o ≡ called_for told asked) ⊎ MayFail (inputs_of asked) (called_for told asked) o
+          → (o ≡ called_for told asked) ⊎ (MayFail (inputs_of asked) (called_for told asked) o ⊎ MayEndRefuted told asked o)
       called_at None told may is some = cc
       called_at (Some given) None may is some = cc
       called_at (Some given) (Some files) may is some =
           let same : given ≡ asked = cc in
-          subst (λ (x : Asked). (o ≡ called_for (Some files) x) ⊎ MayFail (inputs_of x) (called_for (Some files) x) o) same may
+          subst (λ (x : Asked). (o ≡ called_for (Some files) x) ⊎ (MayFail (inputs_of x) (called_for (Some files) x) o ⊎ MayEndRefuted (Some files) x o)) same (in_turn may)
+        where
+          in_turn : MayCome (Some given) (Some files) o → (o ≡ called_for (Some files) given) ⊎ (MayFail (inputs_of given) (called_for (Some files) given) o ⊎ MayEndRefuted (Some files) given o)
+          in_turn (inl (inl called)) = inl called
+          in_turn (inl (inr fails)) = inr (inl fails)
+          in_turn (inr refuted) = inr (inr refuted)
 
-      own : code ≡ status_of o → (o ≡ called_for told asked) ⊎ MayFail (inputs_of asked) (called_for told asked) o → (code ≡ 0) ⊎ (code ≡ 8)
+      own : code ≡ status_of o → (o ≡ called_for told asked) ⊎ (MayFail (inputs_of asked) (called_for told asked) o ⊎ MayEndRefuted told asked o) → (code ≡ 0) ⊎ ((code ≡ 8) ⊎ ((code ≡ 13) × MayRefute asked))
       own e (inl called) = inl (e ∙ ap status_of called ∙ answered)
-      own e (inr (inl (fault, some))) = absurd (no_reads (read (ap status_of fault)))
-      own e (inr (inr (inl (fault, done)))) = absurd (no_writes (write (ap status_of fault)).1)
-      own e (inr (inr (inr memory))) = inr (e ∙ ap status_of memory)
+      own e (inr (inl (inl (fault, some)))) = absurd (no_reads (read (ap status_of fault)))
+      own e (inr (inl (inr (inl (fault, done))))) = absurd (no_writes (write (ap status_of fault)).1)
+      own e (inr (inl (inr (inr memory)))) = inr (inl (e ∙ ap status_of memory))
+      own e (inr (inr refuted)) = inr (inr (e ∙ ap status_of refuted.0, refuted.1))
 
-      go : TellsCode o code rose → (code ≡ 0) ⊎ (code ≡ 8)
+      go : TellsCode o code rose → (code ≡ 0) ⊎ ((code ≡ 8) ⊎ ((code ≡ 13) × MayRefute asked))
       go (inl e) = own e (called_at command told may is some)
       go (inr (inl (done, e, speaking, r))) = absurd (no_rose (subst (λ (c : Option Asked). SaysAnswer c) is (speaks done speaking), r))
-      go (inr (inr (e, speaking))) = inr e
+      go (inr (inr (e, speaking))) = inr (inl e)
+
+  -- a journal is refuted only by what the files say
+  pub refuted_at : code ≡ 13 → IsCommandRefuted command told
+  refuted_at at = go command told may (status_at 13 at (λ h. omega (arith, h)) (λ h. omega (arith, h)))
+    where
+      go : (command : Option Asked) (told : Option Files) → MayCome command told o → status_of o ≡ 13 → IsCommandRefuted command told
+      go command None may is = tt
+      go None (Some files) (inl e) is = absurd (omega (arith, is, ap status_of e))
+      go None (Some files) (inr e) is = absurd (omega (arith, is, ap status_of e))
+      go (Some asked) (Some files) may is = only_refuted asked (Some files) o may is
 
   -- a refusal's status is the outcome's
   refusal_at : IsRefusal code → IsRefusal (status_of o)
@@ -252,31 +287,32 @@ module _ (command : Option Asked) (told : Option Files) (o : Outcome) (code : �
       go (inr (inl (done, e, some, r))) = absurd (no_both code (inl e) refusal)
       go (inr (inr (e, some))) = absurd (no_both code (inr e) refusal)
 
-  module _ (new : Option Files) (ends : EndsWith command o told new) where
+  module _ (AreKept : Keeping) (new : Option Files) (ends : EndsWith AreKept command o told new) where
     pub untouched_at : IsRefusal code → SameFiles told new
     untouched_at refusal name = ap (λ (files : Option Files). file_at files name) (ends.untouched (refusal_at refusal))
 
     -- a call that was stopped has written a part, or its command writes nothing
-    pub part_at : IsStop code → IsCommandAnsweredInPart command told new
+    pub part_at : IsStop code → IsCommandAnsweredInPart AreKept command told new
     part_at stop = go (status_is o)
       where
-        silent : (command : Option Asked) (told : Option Files) → SaysAnswer command → IsCommandAnsweredInPart command told new
+        silent : (command : Option Asked) (told : Option Files) → SaysAnswer command → IsCommandAnsweredInPart AreKept command told new
         silent None told s = absurd s
         silent (Some asked) None s = tt
         silent (Some (Check asked)) (Some files) s = inl (λ i d low. absurd (omega (arith, low)))
         silent (Some (Demo asked)) (Some files) s = inl (λ i d low. absurd (omega (arith, low)))
+        silent (Some (Audit asked)) (Some files) s = inl (λ i d low. absurd (omega (arith, low)))
         silent (Some (Run asked)) (Some files) s = absurd s
         silent (Some (Make asked)) (Some files) s = absurd s
 
-        of_done : status_of o ≡ 0 → TellsCode o code rose → IsCommandAnsweredInPart command told new
+        of_done : status_of o ≡ 0 → TellsCode o code rose → IsCommandAnsweredInPart AreKept command told new
         of_done done (inl e) = absurd (no_stop code stop (e ∙ done))
         of_done done (inr (inl (d, e, some, r))) = silent command told (speaks done some)
         of_done done (inr (inr (e, some))) = silent command told (speaks done some)
 
-        go : (status_of o ≡ 0) ⊎ (IsStop (status_of o) ⊎ IsRefusal (status_of o)) → IsCommandAnsweredInPart command told new
+        go : (status_of o ≡ 0) ⊎ (IsStop (status_of o) ⊎ IsRefusal (status_of o)) → IsCommandAnsweredInPart AreKept command told new
         go (inl done) = of_done done tells
         go (inr (inl own)) = ends.part own
-        go (inr (inr refusal)) = stopped_alone command told new (ends.untouched refusal)
+        go (inr (inr refusal)) = stopped_alone AreKept command told new (ends.untouched refusal)
 
   -- with status 0 what is said is the line that the files call for
   pub printed_at : (before now : Option (List ℕ)) → (code ≡ 0 → now ≡ grown before (line_said o)) → code ≡ 0
@@ -290,7 +326,8 @@ module _ (command : Option Asked) (told : Option Files) (o : Outcome) (code : �
       go None None may = tt
       go None (Some files) may = tt
       go (Some asked) None may = tt
-      go (Some asked) (Some files) (inl called) = whole done ∙ ap (λ (x : Outcome). grown before (line_said x)) called
-      go (Some asked) (Some files) (inr (inl (e, some))) = absurd (omega (arith, zero_is, ap status_of e))
-      go (Some asked) (Some files) (inr (inr (inl (e, answered)))) = absurd (omega (arith, zero_is, ap status_of e))
-      go (Some asked) (Some files) (inr (inr (inr e))) = absurd (omega (arith, zero_is, ap status_of e))
+      go (Some asked) (Some files) (inr refuted) = absurd (omega (arith, zero_is, ap status_of refuted.0))
+      go (Some asked) (Some files) (inl (inl called)) = whole done ∙ ap (λ (x : Outcome). grown before (line_said x)) called
+      go (Some asked) (Some files) (inl (inr (inl (e, some)))) = absurd (omega (arith, zero_is, ap status_of e))
+      go (Some asked) (Some files) (inl (inr (inr (inl (e, answered))))) = absurd (omega (arith, zero_is, ap status_of e))
+      go (Some asked) (Some files) (inl (inr (inr (inr e)))) = absurd (omega (arith, zero_is, ap status_of e))

@@ -6,7 +6,10 @@ use Rattle.mp_control.specs.declared.refused.ControlReason.{ControlReason}
 use Rattle.mp_control.specs.Settings.{SettingsFacts, settings_of}
 use Rattle.mp_events.specs.declared.refused.EventsReason.{EventsReason}
 use Rattle.mp_events.specs.Events.{events_of}
+use Rattle.mp_journal.specs.declared.refused.JournalReason.{JournalReason}
+use Rattle.mp_journal.specs.Journals.{journal_of}
 use Rattle.mp_model.specs.declared.record.Event.{Event}
+use Rattle.mp_names.specs.declared.kinds.Kept.{Kept}
 use Rattle.mp_names.specs.Limits.{most_bytes}
 use Rattle.mp_outside.specs.Files.{Files, file_at, IsThereWith}
 use Rattle.mp_pipe_file.specs.declared.refused.PipeReason.{PipeReason}
@@ -17,8 +20,8 @@ use Rattle.mp_command.specs.Calls.{ComesOf, IsOfCommand, IsRefusalOf, MayCome, M
 use Rattle.mp_command.specs.declared.flow.Flow.{Flow}
 use Rattle.mp_command.specs.Config.{flow_with, shape_of}
 use Rattle.mp_command.specs.Ends.{IsRefusal}
-use Rattle.mp_command.specs.Inputs.{ConfigFile, EventFile, Found, Input, PipeFile, nothing_found, read_as, with_events, with_pipe, with_settings}
-use Rattle.mp_command.specs.Outcome.{Outcome, Answered, ConfigRefused, EventsRefused, NoMemory, PipeRefused, ReadFault, status_of}
+use Rattle.mp_command.specs.Inputs.{AnswerFile, ConfigFile, EventFile, Found, Input, JournalFile, PipeFile, nothing_found, read_as, with_events, with_journal, with_pipe, with_settings}
+use Rattle.mp_command.specs.Outcome.{Outcome, Answered, ConfigRefused, EventsRefused, JournalRefused, NoMemory, PipeRefused, ReadFault, status_of}
 use Rattle.mp_command.specs.Queries.{rules_of}
 use Rattle.mp_command.specs.Reading.{CannotRead, IsRead, ReadsAll, ReadsAs, RefusesAs, RefusesOne, absent, failed, large, no_memory}
 
@@ -58,12 +61,21 @@ refusal_of_text (ConfigFile asked) found text o e =
     either (Ok settings) h = cc
     either (Err bad) h =
         let is : ConfigRefused bad.0 bad.1 ≡ o = cc in (bad.0, bad.1, sym is)
+refusal_of_text AnswerFile found text o e = cc
+refusal_of_text (JournalFile asked) found text o e = either (journal_of text (shape_of (flow_with asked found.pipe))) e
+  where
+    either : (lists : Result (List (List Kept)) (ℕ × JournalReason)) → with_journal found lists ≡ Err o → IsRefusalOf (JournalFile asked) o
+    either (Ok lists) h = cc
+    either (Err bad) h =
+        let is : JournalRefused bad.0 bad.1 ≡ o = cc in (bad.0, bad.1, sym is)
 
 -- such a refusal has the status of one
 status_of_text : (input : Input) (o : Outcome) → IsRefusalOf input o → IsRefusal (status_of o)
 status_of_text EventFile o (line, why, is) = inr (inl (ap status_of is))
-status_of_text PipeFile o (line, why, is) = inr (inr (inr (inr (inr (inr (ap status_of is))))))
+status_of_text PipeFile o (line, why, is) = inr (inr (inr (inr (inr (inr (inl (ap status_of is)))))))
 status_of_text (ConfigFile asked) o (line, why, is) = inr (inr (inl (ap status_of is)))
+status_of_text AnswerFile o none = absurd none
+status_of_text (JournalFile asked) o (line, why, is) = inr (inr (inr (inr (inr (inr (inr (inr (ap status_of is))))))))
 
 -- files that can't be read, or are refused, end the call with a refusal, or for want of memory
 pub refuses_as_refusal : (told : Option Files) (inputs : List (Input × List ℕ)) (before : Found) (o : Outcome) → RefusesOne told inputs before o → IsRefusal (status_of o) ⊎ (o ≡ NoMemory)
@@ -170,5 +182,5 @@ module _ (inputs : List (Input × List ℕ)) (line : Found → List ℕ) where
 -- want of memory may always come
 pub may_lack_memory : (command : Option Asked) (told : Option Files) → MayCome command told NoMemory
 may_lack_memory None told = inr refl
-may_lack_memory (Some asked) None = inr (inr (inr refl))
-may_lack_memory (Some asked) (Some files) = inr (inr (inr refl))
+may_lack_memory (Some asked) None = inl (inr (inr (inr refl)))
+may_lack_memory (Some asked) (Some files) = inl (inr (inr (inr refl)))

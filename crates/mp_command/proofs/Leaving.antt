@@ -1,6 +1,6 @@
 -- What a command has written, and what the files then hold.
-use Rattle.std.proofs.Common.{ℕ, zero, suc, true, ◌≡◌, ◌⊎◌, inl, inr, Option, Some, None, List, [], ◌∷◌, ◌++◌, take, refl, sym, ap, ◌∙◌, arith}
-use Rattle.std.specs.Prelude.{All, IfSome, OnSome, is_some, not, slice_index_or, ◌≢◌}
+use Rattle.std.proofs.Common.{ℕ, zero, suc, Bool, true, false, ◌||◌, ◌≡◌, ◌⊎◌, inl, inr, Option, Some, None, List, [], ◌∷◌, ◌++◌, take, map, refl, sym, ap, ◌∙◌, arith}
+use Rattle.std.specs.Prelude.{All, OnSome, is_some, not, slice_index_or, ◌≢◌}
 use Rattle.std.proofs.lemmas.List.Elements.{All-cons, All-head, All-nil, All-tail}
 use Rattle.std.proofs.lemmas.List.Kept.{AllPairs-cons}
 use Rattle.std.specs.Option.{option_to_list}
@@ -11,14 +11,14 @@ use Rattle.mp_outside.specs.Files.{Files, file_at, with_file}
 use Rattle.mp_outside.proofs.FileLemmas.{file_at-with_file, file_at-with_file-other, told-with_file}
 use Rattle.mp_words.specs.Limits.{AreWithinLimits, IsWithinLimits}
 use Rattle.mp_words.specs.Values.{Options, are_apart, is_among, options_in, read_names}
-use Rattle.mp_words.specs.Words.{Asked, Run, asked_in}
+use Rattle.mp_words.specs.Words.{Asked, Run, Check, Make, Demo, Audit, asked_in}
 use Rattle.mp_words.specs.declared.options.Command.{Command}
 use Rattle.mp_words.specs.declared.options.Command.TheVariants as read
 use Rattle.mp_words.specs.declared.options.RunOptions.{RunOptions}
 use Rattle.mp_command.specs.Calls.{StopsAnswer}
-use Rattle.mp_command.specs.Ends.{AreInPart, EndsWith, IsCommandAnsweredInPart, IsDone, IsDoneInPart, IsLeft, IsRefusal, IsSame, IsStop, IsWhole, Leaves}
-use Rattle.mp_command.specs.Outcome.{Outcome, Answered, ConfigRefused, EventsRefused, NoFile, NoMemory, PipeRefused, ReadFault, TooLarge, Usage, WriteFault, status_of}
-use Rattle.mp_command.specs.Writing.{AreApart, IsTextOf, Purpose, Report, Target, WritesAll, WritesPart, WritesSome, WritesWhole, answer_at, report_in, targets_of}
+use Rattle.mp_command.specs.Ends.{AreInPart, EndsWith, IsCommandAnsweredInPart, IsDone, IsDoneInPart, IsLeft, IsRefusal, IsSame, IsStop, IsWhole, Leaves, MakesNoRun}
+use Rattle.mp_command.specs.Outcome.{Outcome, Answered, ConfigRefused, EventsRefused, JournalRefused, NoFile, NoMemory, NoRun, PipeRefused, ReadFault, TooLarge, Usage, WriteFault, status_of}
+use Rattle.mp_command.specs.Writing.{AreApart, IsTextOf, Journal, Keeping, NoneKept, Purpose, Report, Target, WritesAll, WritesPart, WritesSome, WritesWhole, answer_at, target_in, targets_of}
 
 -- a target is behind the first of a list, so it has another name; and so is the rest apart
 later : (one : Target) (more : List Target) → AreApart (one ∷ more) → All (λ other. other.name ≢ one.name) more
@@ -92,34 +92,45 @@ module _ (IsText : Purpose → List ℕ → Type 0) where
 makes_apart : (target : Target) → AreApart (target ∷ [])
 makes_apart target = λ i j d less low. absurd (omega (arith, less, low))
 
--- of names that are apart the second isn't the first
-second_apart : (one other : List ℕ) (more read : List (List ℕ)) → are_apart (one ∷ other ∷ more) read ≡ true → other ≢ one
-second_apart one other more read apart same =
-    let hit : bytes_eq one other ≡ true = (bytes_eq-Decides one other).1 (sym same) in
-    let missed = (and_parts (not (is_among one (other ∷ (more ++ read)))) (are_apart (other ∷ more) read) apart).0 in
-    false≢true (rw hit at missed)
+-- no two of none or one
+not_both : (a b : Bool) → not (a || b) ≡ true → (a ≡ false) × (not b ≡ true)
+not_both true b none = absurd (false≢true none)
+not_both false b none = (refl, none)
 
-run_apart : (out : Target) (report : Option (List ℕ)) → IfSome report (λ name. name ≢ out.name) → AreApart (out ∷ report_in report)
-run_apart out None apart = makes_apart out
-run_apart out (Some name) apart =
+-- a name that is none of these isn't that of a target among them
+none_named : (one : List ℕ) (targets : List Target) (read : List (List ℕ)) → not (is_among one (map (λ (target : Target). target.name) targets ++ read)) ≡ true → All (λ other. other.name ≢ one) targets
+none_named one [] read none = All-nil (λ other. other.name ≢ one)
+none_named one (target ∷ more) read none =
+    let parts = not_both (bytes_eq one target.name) (is_among one (map (λ (target : Target). target.name) more ++ read)) none in
+    All-cons (λ other. other.name ≢ one) target more (λ same. false≢true (sym parts.0 ∙ (bytes_eq-Decides one target.name).1 (sym same))) (none_named one more read parts.1)
+
+-- targets whose names are apart are so
+names_apart : (targets : List Target) (read : List (List ℕ)) → are_apart (map (λ (target : Target). target.name) targets) read ≡ true → AreApart targets
+names_apart [] read apart = λ i j d less low. absurd (omega (arith, low))
+names_apart (target ∷ more) read apart =
     let Differs : Target → Target → Type 0 = λ one other. other.name ≢ one.name in
-    let report : Target = record { purpose = Report; name = name } in
-    AllPairs-cons Differs out (report ∷ []) (All-cons (Differs out) report [] apart (All-nil (Differs out))) (makes_apart report)
+    let names : List (List ℕ) = map (λ (target : Target). target.name) more in
+    let both = and_parts (not (is_among target.name (names ++ read))) (are_apart names read) apart in
+    AllPairs-cons Differs target more (none_named target.name more read both.0) (names_apart more read both.1)
 
 run_is_apart : (options : RunOptions) → AreWithinLimits options → AreApart (targets_of (Run (options_in options)))
 run_is_apart options within =
-    let asked : Options = options_in options in
-    run_apart (answer_at asked.out) asked.report (go asked.report within.names)
+    let asked : Options = options_in options in go asked.report asked.journal within.names
   where
-    go : (report : Option (List ℕ)) → are_apart (options.out.now ∷ option_to_list report) (read_names (options_in options)) ≡ true → IfSome report (λ name. name ≢ options.out.now)
-    go None apart = tt
-    go (Some name) apart = second_apart options.out.now name [] (read_names (options_in options)) apart
+    go : (report journal : Option (List ℕ)) → are_apart (options.out.now ∷ (option_to_list report ++ option_to_list journal)) (read_names (options_in options)) ≡ true
+        → AreApart (answer_at options.out.now ∷ (target_in Report report ++ target_in Journal journal))
+    go None None apart = names_apart (answer_at options.out.now ∷ []) (read_names (options_in options)) apart
+    go (Some report) None apart = names_apart (answer_at options.out.now ∷ target_in Report (Some report)) (read_names (options_in options)) apart
+    go None (Some journal) apart = names_apart (answer_at options.out.now ∷ target_in Journal (Some journal)) (read_names (options_in options)) apart
+    go (Some report) (Some journal) apart =
+        names_apart (answer_at options.out.now ∷ (target_in Report (Some report) ++ target_in Journal (Some journal))) (read_names (options_in options)) apart
 
 pub command_is_apart : (command : Command) → IsWithinLimits command → AreApart (targets_of (asked_in command))
 command_is_apart (read.Run options) within = run_is_apart options within
 command_is_apart (read.Check options) within = λ i j d less low. absurd (omega (arith, low))
 command_is_apart (read.Make options) within = makes_apart _
 command_is_apart (read.Demo options) within = λ i j d less low. absurd (omega (arith, low))
+command_is_apart (read.Audit options) within = λ i j d less low. absurd (omega (arith, low))
 
 -- each status is that of an end, of a stop or of a refusal
 pub status_is : (o : Outcome) → (status_of o ≡ 0) ⊎ (IsStop (status_of o) ⊎ IsRefusal (status_of o))
@@ -132,7 +143,9 @@ status_is ReadFault = inr (inr (inr (inr (inr (inr (inl refl))))))
 status_is WriteFault = inr (inl (inl refl))
 status_is NoMemory = inr (inl (inr refl))
 status_is (TooLarge name) = inr (inr (inr (inr (inr (inr (inr (inl refl)))))))
-status_is (PipeRefused line why) = inr (inr (inr (inr (inr (inr (inr (inr refl)))))))
+status_is (PipeRefused line why) = inr (inr (inr (inr (inr (inr (inr (inr (inl refl))))))))
+status_is NoRun = inr (inr (inr (inr (inr (inr (inr (inr (inr (inl refl)))))))))
+status_is (JournalRefused line why) = inr (inr (inr (inr (inr (inr (inr (inr (inr (inr refl)))))))))
 
 -- a stop is no end and no refusal
 pub no_stop : (code : ℕ) → IsStop code → code ≡ 0 → ⊥
@@ -146,7 +159,9 @@ no_refusal code (inr (inr (inl e))) done = omega (arith, e, done)
 no_refusal code (inr (inr (inr (inl e)))) done = omega (arith, e, done)
 no_refusal code (inr (inr (inr (inr (inl e))))) done = omega (arith, e, done)
 no_refusal code (inr (inr (inr (inr (inr (inl e)))))) done = omega (arith, e, done)
-no_refusal code (inr (inr (inr (inr (inr (inr e)))))) done = omega (arith, e, done)
+no_refusal code (inr (inr (inr (inr (inr (inr (inl e))))))) done = omega (arith, e, done)
+no_refusal code (inr (inr (inr (inr (inr (inr (inr (inl e)))))))) done = omega (arith, e, done)
+no_refusal code (inr (inr (inr (inr (inr (inr (inr (inr e)))))))) done = omega (arith, e, done)
 
 other : (code n : ℕ) → IsStop code → code ≡ n → (n ≡ 7 → ⊥) → (n ≡ 8 → ⊥) → ⊥
 other code n (inl e) is no_seven no_eight = no_seven (sym is ∙ e)
@@ -159,22 +174,24 @@ no_both code stop (inr (inr (inl e))) = other code 4 stop e (λ h. omega (arith,
 no_both code stop (inr (inr (inr (inl e)))) = other code 5 stop e (λ h. omega (arith, h)) (λ h. omega (arith, h))
 no_both code stop (inr (inr (inr (inr (inl e))))) = other code 6 stop e (λ h. omega (arith, h)) (λ h. omega (arith, h))
 no_both code stop (inr (inr (inr (inr (inr (inl e)))))) = other code 9 stop e (λ h. omega (arith, h)) (λ h. omega (arith, h))
-no_both code stop (inr (inr (inr (inr (inr (inr e)))))) = other code 12 stop e (λ h. omega (arith, h)) (λ h. omega (arith, h))
+no_both code stop (inr (inr (inr (inr (inr (inr (inl e))))))) = other code 12 stop e (λ h. omega (arith, h)) (λ h. omega (arith, h))
+no_both code stop (inr (inr (inr (inr (inr (inr (inr (inl e)))))))) = other code 13 stop e (λ h. omega (arith, h)) (λ h. omega (arith, h))
+no_both code stop (inr (inr (inr (inr (inr (inr (inr (inr e)))))))) = other code 14 stop e (λ h. omega (arith, h)) (λ h. omega (arith, h))
 
 -- What a command leaves
 
 -- nothing has changed
-pub leaves_alone : (asked : Asked) (o : Outcome) (old new : Option Files) → (status_of o ≡ 0 → ⊥) → new ≡ old → Leaves asked o old new
-leaves_alone asked o old new not_done same = record { whole = λ e. absurd (not_done e); part = λ stop. inl same; untouched = λ refusal. same }
+pub leaves_alone : (AreKept : Keeping) (asked : Asked) (o : Outcome) (old new : Option Files) → (status_of o ≡ 0 → ⊥) → new ≡ old → Leaves AreKept asked o old new
+leaves_alone AreKept asked o old new not_done same = record { whole = λ e. absurd (not_done e); part = λ stop. inl same; untouched = λ refusal. same }
 
 -- all was written
-pub leaves_whole : (asked : Asked) (line : List ℕ) (old new : Option Files) → WritesWhole asked old new → Leaves asked (Answered line) old new
-leaves_whole asked line old new w =
+pub leaves_whole : (AreKept : Keeping) (asked : Asked) (line : List ℕ) (old new : Option Files) → WritesWhole AreKept asked old new → Leaves AreKept asked (Answered line) old new
+leaves_whole AreKept asked line old new w =
     record { whole = λ e. w; part = λ stop. absurd (no_stop 0 stop refl); untouched = λ refusal. absurd (no_refusal 0 refusal refl) }
 
 -- the writing was stopped
-pub leaves_part : (asked : Asked) (o : Outcome) (old new : Option Files) → StopsAnswer o → WritesPart asked old new → Leaves asked o old new
-leaves_part asked o old new stops w =
+pub leaves_part : (AreKept : Keeping) (asked : Asked) (o : Outcome) (old new : Option Files) → StopsAnswer o → WritesPart AreKept asked old new → Leaves AreKept asked o old new
+leaves_part AreKept asked o old new stops w =
     let stop : IsStop (status_of o) = stop_of stops in
     record { whole = λ e. absurd (no_stop _ stop e); part = λ stop. w; untouched = λ refusal. absurd (no_both _ stop refusal) }
   where
@@ -182,39 +199,47 @@ leaves_part asked o old new stops w =
     stop_of (inl e) = inl (ap status_of e)
     stop_of (inr e) = inr (ap status_of e)
 
+-- a command that makes no run leaves the same, whatever is known of the steps that runs keep
+pub leaves_without_run : (AreKept : Keeping) (asked : Asked) (o : Outcome) (old new : Option Files) → MakesNoRun asked → Leaves NoneKept asked o old new → Leaves AreKept asked o old new
+leaves_without_run AreKept (Run asked) o old new none left = absurd none
+leaves_without_run AreKept (Check asked) o old new none left = record { whole = left.whole; part = left.part; untouched = left.untouched }
+leaves_without_run AreKept (Make asked) o old new none left = record { whole = left.whole; part = left.part; untouched = left.untouched }
+leaves_without_run AreKept (Demo asked) o old new none left = record { whole = left.whole; part = left.part; untouched = left.untouched }
+leaves_without_run AreKept (Audit asked) o old new none left = record { whole = left.whole; part = left.part; untouched = left.untouched }
+
 -- What the files hold then
 
-module _ (asked : Asked) (old new : Option Files) (apart : AreApart (targets_of asked)) where
-  whole_is_done : WritesWhole asked old new → OnSome old (IsDone old new asked)
+module _ (AreKept : Keeping) (asked : Asked) (old new : Option Files) (apart : AreApart (targets_of asked)) where
+  whole_is_done : WritesWhole AreKept asked old new → OnSome old (IsDone AreKept old new asked)
   whole_is_done = go old
     where
-      go : (old : Option Files) → WritesWhole asked old new → OnSome old (IsDone old new asked)
+      go : (old : Option Files) → WritesWhole AreKept asked old new → OnSome old (IsDone AreKept old new asked)
       go None w = tt
-      go (Some files) w = (w.0, w.1, all_whole (IsTextOf asked w.0) (targets_of asked) (Some files) new refl apart w.2)
+      go (Some files) w = (w.0, w.1, w.2, all_whole (IsTextOf AreKept asked w.0) (targets_of asked) (Some files) new refl apart w.3)
 
-  part_is_done : WritesPart asked old new → OnSome old (IsDoneInPart old new asked)
+  part_is_done : WritesPart AreKept asked old new → OnSome old (IsDoneInPart AreKept old new asked)
   part_is_done = go old
     where
-      go : (old : Option Files) → WritesPart asked old new → OnSome old (IsDoneInPart old new asked)
+      go : (old : Option Files) → WritesPart AreKept asked old new → OnSome old (IsDoneInPart AreKept old new asked)
       go None w = tt
       go (Some files) (inl same) = inl (λ i d low. ap (λ (told : Option Files). file_at told (slice_index_or (targets_of asked) i d).name) same)
-      go (Some files) (inr w) = inr (w.0, w.1, in_part (IsTextOf asked w.0) (targets_of asked) (Some files) (Some files) new refl apart (λ i d low. refl) w.2)
+      go (Some files) (inr w) = inr (w.0, w.1, in_part (IsTextOf AreKept asked w.0) (targets_of asked) (Some files) (Some files) new refl apart (λ i d low. refl) w.2)
 
   -- no other name has changed
-  others_stay : (o : Outcome) → Leaves asked o old new → (name : List ℕ) → IsLeft name asked → file_at new name ≡ file_at old name
+  others_stay : (o : Outcome) → Leaves AreKept asked o old new → (name : List ℕ) → IsLeft name asked → file_at new name ≡ file_at old name
   others_stay o left name other = go (status_is o)
     where
-      of_part : WritesPart asked old new → file_at new name ≡ file_at old name
+      of_part : WritesPart AreKept asked old new → file_at new name ≡ file_at old name
       of_part (inl same) = ap (λ (told : Option Files). file_at told name) same
-      of_part (inr w) = kept_by_some (IsTextOf asked w.0) (targets_of asked) old new name w.2 other
+      of_part (inr w) = kept_by_some (IsTextOf AreKept asked w.0) (targets_of asked) old new name w.2 other
 
       go : (status_of o ≡ 0) ⊎ (IsStop (status_of o) ⊎ IsRefusal (status_of o)) → file_at new name ≡ file_at old name
-      go (inl done) = let w = left.whole done in kept_by_all (IsTextOf asked w.0) (targets_of asked) old new name w.2 other
+      go (inl done) = let w = left.whole done in kept_by_all (IsTextOf AreKept asked w.0) (targets_of asked) old new name w.3 other
       go (inr (inl stop)) = of_part (left.part stop)
       go (inr (inr refusal)) = ap (λ (told : Option Files). file_at told name) (left.untouched refusal)
 
   -- what a command leaves is what its end promises
-  pub ends_so : (o : Outcome) → Leaves asked o old new → EndsWith (Some asked) o old new
+  pub ends_so : (o : Outcome) → Leaves AreKept asked o old new → EndsWith AreKept (Some asked) o old new
   ends_so o left = record {
     answered = λ e. whole_is_done (left.whole e);
     part = λ stop. part_is_done (left.part stop);
@@ -223,16 +248,16 @@ module _ (asked : Asked) (old new : Option Files) (apart : AreApart (targets_of 
   }
 
 -- where nothing has changed, what is promised of a stop holds
-pub stopped_alone : (command : Option Asked) (old new : Option Files) → new ≡ old → IsCommandAnsweredInPart command old new
-stopped_alone command None new same = tt
-stopped_alone None (Some files) new same = tt
-stopped_alone (Some asked) (Some files) new same = inl (λ i d low. ap (λ (told : Option Files). file_at told (slice_index_or (targets_of asked) i d).name) same)
+pub stopped_alone : (AreKept : Keeping) (command : Option Asked) (old new : Option Files) → new ≡ old → IsCommandAnsweredInPart AreKept command old new
+stopped_alone AreKept command None new same = tt
+stopped_alone AreKept None (Some files) new same = tt
+stopped_alone AreKept (Some asked) (Some files) new same = inl (λ i d low. ap (λ (told : Option Files). file_at told (slice_index_or (targets_of asked) i d).name) same)
 
 -- and so does all that is promised of an end
-pub ends_alone : (command : Option Asked) (o : Outcome) (old new : Option Files) → (status_of o ≡ 0 → ⊥) → new ≡ old → EndsWith command o old new
-ends_alone command o old new not_done same = record {
+pub ends_alone : (AreKept : Keeping) (command : Option Asked) (o : Outcome) (old new : Option Files) → (status_of o ≡ 0 → ⊥) → new ≡ old → EndsWith AreKept command o old new
+ends_alone AreKept command o old new not_done same = record {
   answered = λ e. absurd (not_done e);
-  part = λ stop. stopped_alone command old new same;
+  part = λ stop. stopped_alone AreKept command old new same;
   untouched = λ refusal. same;
   others = λ name other. ap (λ (told : Option Files). file_at told name) same;
 }

@@ -1,10 +1,12 @@
-mod Behind
+pub mod Asked
+pub mod Behind
 pub mod Came
 pub mod Codes
 pub mod Coming
 pub mod GivingRows
 mod Joined
 pub mod Leaving
+pub mod Parted
 mod Parts
 pub mod TwoMoves
 pub mod Written

@@ -8,7 +8,7 @@ use Rattle.mp_command.specs.declared.flow.FlowQuery.TheVariants.{Named, Piped}
 use Rattle.mp_command.specs.declared.reading.InputFiles.{InputFiles}
 use Rattle.mp_command.specs.declared.reading.Inputs.{Inputs as InputsRead}
 use Rattle.mp_command.specs.Config.{FlowAsked}
-use Rattle.mp_command.specs.Inputs.{Found, Input, files_of, no_pipe}
+use Rattle.mp_command.specs.Inputs.{Found, Input, files_of, no_pipe, nothing_found}
 
 -- the dataflow that they are read for
 abbrev pub flow_in : InputFiles → FlowAsked
@@ -25,4 +25,4 @@ pipe_in (Piped pipe) = pipe
 
 -- what they say
 abbrev pub found_in : InputsRead → Found
-found_in read = record { events = read.parts.events.items; pipe = pipe_in read.flow.query; settings = settings_in read.parts.settings }
+found_in read = record nothing_found { events = read.parts.events.items; pipe = pipe_in read.flow.query; settings = settings_in read.parts.settings }

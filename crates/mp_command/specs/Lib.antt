@@ -1,4 +1,5 @@
 -- What the contracts of this crate cite.
+pub mod Audits
 pub mod Calls
 pub mod Config
 pub mod Ends

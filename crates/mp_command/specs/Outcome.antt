@@ -5,6 +5,8 @@ use Rattle.mp_control.specs.declared.refused.ControlReason.{ControlReason}
 use Rattle.mp_control.specs.Reasons.{reason_text as text_of_control}
 use Rattle.mp_events.specs.declared.refused.EventsReason.{EventsReason}
 use Rattle.mp_events.specs.Reasons.{reason_text}
+use Rattle.mp_journal.specs.declared.refused.JournalReason.{JournalReason}
+use Rattle.mp_journal.specs.Reasons.{reason_text as text_of_journal}
 use Rattle.mp_pipe_file.specs.declared.refused.PipeReason.{PipeReason}
 use Rattle.mp_pipe_file.specs.Reasons.{reason_text as text_of_pipe}
 
@@ -20,6 +22,8 @@ pub data Outcome : Type 0 where
   NoMemory : Outcome
   TooLarge : (name : List ℕ) → Outcome
   PipeRefused : (line : ℕ) (why : PipeReason) → Outcome
+  NoRun : Outcome
+  JournalRefused : (line : ℕ) (why : JournalReason) → Outcome
 
 -- the status of the process
 abbrev pub status_of : Outcome → ℕ
@@ -33,11 +37,13 @@ status_of WriteFault = 7
 status_of NoMemory = 8
 status_of (TooLarge name) = 9
 status_of (PipeRefused line why) = 12
+status_of NoRun = 13
+status_of (JournalRefused line why) = 14
 
 -- the line that is said, with its line feed
 abbrev pub line_said : Outcome → List ℕ
 line_said (Answered line) = line
-line_said Usage = codes "usage: megaphone run|replay|check|make|demo\n"
+line_said Usage = codes "usage: megaphone run|replay|check|make|demo|audit\n"
 line_said (EventsRefused line why) =
     codes "events line " ++ (decimal line ++ (codes ": " ++ (reason_text why ++ codes "\n")))
 line_said (ConfigRefused line why) =
@@ -49,10 +55,14 @@ line_said NoMemory = codes "no memory\n"
 line_said (TooLarge name) = codes "too large: " ++ (name ++ codes "\n")
 line_said (PipeRefused line why) =
     codes "pipe line " ++ (decimal line ++ (codes ": " ++ (text_of_pipe why ++ codes "\n")))
+line_said NoRun = codes "no legal run\n"
+line_said (JournalRefused line why) =
+    codes "journal line " ++ (decimal line ++ (codes ": " ++ (text_of_journal why ++ codes "\n")))
 
 -- the number of the line that is spoken of, and 0 where none is
 abbrev pub number_in : Outcome → ℕ
 number_in (EventsRefused line why) = line
 number_in (ConfigRefused line why) = line
 number_in (PipeRefused line why) = line
+number_in (JournalRefused line why) = line
 number_in _ = 0

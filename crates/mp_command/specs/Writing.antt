@@ -1,26 +1,32 @@
 -- The files that a command writes, one after the other, and what they hold.
-use Rattle.std.specs.Prelude.{ℕ, ◌≡◌, ◌≢◌, ◌⊎◌, Option, Some, None, List, [], ◌∷◌, take}
+use Rattle.std.specs.Prelude.{ℕ, ◌≡◌, ◌≢◌, ◌⊎◌, ◌++◌, Option, Some, None, List, [], ◌∷◌, take}
 use Rattle.std.specs.List.{AllPairs, flat_map}
 use Rattle.mp_events.specs.Written.{line_of_event}
 use Rattle.mp_make.specs.Made.{made_events}
 use Rattle.mp_model.specs.declared.record.Event.{Event}
 use Rattle.mp_model.specs.Answers.{one_thread_answer}
 use Rattle.mp_model.specs.Facts.{JobFacts, QueryFacts}
+use Rattle.mp_names.specs.declared.kinds.Kept.{Kept}
+use Rattle.mp_names.specs.Outlines.{Outline}
 use Rattle.mp_outside.specs.Files.{Files, with_file}
+use Rattle.mp_report.specs.Journal.{journal_text}
 use Rattle.mp_report.specs.Report.{IsReport}
-use Rattle.mp_words.specs.Values.{MakeAsked}
-use Rattle.mp_words.specs.Words.{Asked, Run, Check, Make, Demo}
+use Rattle.mp_words.specs.declared.options.Schedule.{Schedule}
+use Rattle.mp_words.specs.Values.{MakeAsked, Options}
+use Rattle.mp_words.specs.Words.{Asked, Run, Check, Make, Demo, Audit}
 use Rattle.mp_control.specs.Settings.{SettingsFacts}
 use Rattle.mp_command.specs.declared.flow.Flow.{Flow}
-use Rattle.mp_command.specs.Config.{flow_of, flow_with, job_asked}
+use Rattle.mp_command.specs.Audits.{IsConfirmed}
+use Rattle.mp_command.specs.Config.{flow_of, flow_with, job_asked, outline_asked}
 use Rattle.mp_command.specs.Inputs.{Found, inputs_of, nothing_found}
 use Rattle.mp_command.specs.Queries.{query_of}
 use Rattle.mp_command.specs.Reading.{ReadsAll}
 
--- what a file that is written is for: the answer, the job's report, or events that are made
+-- what a file that is written is for: the answer, the job's report, its workers' journal, or events that are made
 pub data Purpose : Type 0 where
   Answer : Purpose
   Report : Purpose
+  Journal : Purpose
   MadeEvents : Purpose
 
 -- a file that is written
@@ -32,17 +38,18 @@ pub record Target : Type 0 where
 abbrev pub answer_at : List ℕ → Target
 answer_at name = record { purpose = Answer; name = name }
 
--- the report's file, where one is asked for
-abbrev pub report_in : Option (List ℕ) → List Target
-report_in None = []
-report_in (Some name) = record { purpose = Report; name = name } ∷ []
+-- the file for a purpose, where one is asked for
+abbrev pub target_in : Purpose → Option (List ℕ) → List Target
+target_in purpose None = []
+target_in purpose (Some name) = record { purpose = purpose; name = name } ∷ []
 
 -- the files that a command writes, in their order
 abbrev pub targets_of : Asked → List Target
-targets_of (Run asked) = answer_at asked.out ∷ report_in asked.report
+targets_of (Run asked) = answer_at asked.out ∷ (target_in Report asked.report ++ target_in Journal asked.journal)
 targets_of (Check asked) = []
 targets_of (Make asked) = record { purpose = MadeEvents; name = asked.out } ∷ []
 targets_of (Demo asked) = []
+targets_of (Audit asked) = []
 
 -- no two of them have one name
 abbrev pub AreApart : List Target → Type 0
@@ -56,23 +63,22 @@ event_file events = flat_map line_of_event events
 abbrev pub made_file : MakeAsked → List ℕ
 made_file asked = event_file (made_events asked.count asked.seed)
 
--- the text that a run writes for a purpose, by the query's table and the job: the answer is the one-thread answer to the job's events
-abbrev pub IsTextOfJob : {Cell : Type 0} → QueryFacts Cell → JobFacts → Purpose → List ℕ → Type 0
-IsTextOfJob q job Answer text = text ≡ one_thread_answer q job.events
-IsTextOfJob q job Report text = IsReport q job text
-IsTextOfJob q job MadeEvents text = ⊥
+-- The text that a run writes for a purpose, by the query's table and the job: the answer is the one-thread answer to the job's
+-- events, and the journal has steps by worker that are kept so
+abbrev pub IsTextOfJob : {Cell : Type 0} → QueryFacts Cell → JobFacts → (List (List Kept) → Type 0) → Purpose → List ℕ → Type 0
+IsTextOfJob q job AreKept Answer text = text ≡ one_thread_answer q job.events
+IsTextOfJob q job AreKept Report text = IsReport q job text
+IsTextOfJob q job AreKept Journal text = (lists : List (List Kept)) × AreKept lists × (text ≡ journal_text lists)
+IsTextOfJob q job AreKept MadeEvents text = ⊥
 
--- the text that a run of a dataflow writes for a purpose: that of the job of the events and the settings, by the query's table with the values
--- of the configuration
-abbrev pub IsTextOfFlow : Flow → List Event → SettingsFacts → Purpose → List ℕ → Type 0
-IsTextOfFlow flow events settings purpose text =
-    IsTextOfJob ((query_of flow.query).facts settings.values) (job_asked flow events settings) purpose text
+-- what is known of the steps that the workers of a run keep, by worker: that of the machine's outline, at the depth of the mailboxes and
+-- by the schedule of the run
+abbrev pub Keeping : Type 1
+Keeping = Outline → ℕ → Schedule → List (List Kept) → Type 0
 
--- the text that a command writes for a purpose, by what it has read
-abbrev pub IsTextOf : Asked → Found → Purpose → List ℕ → Type 0
-IsTextOf (Run asked) found purpose text = IsTextOfFlow (flow_with (flow_of asked) found.pipe) found.events found.settings purpose text
-IsTextOf (Make asked) found MadeEvents text = text ≡ made_file asked
-IsTextOf _ found purpose text = ⊥
+-- of a command that makes no run there are no such steps
+abbrev pub NoneKept : Keeping
+NoneKept o depth schedule lists = ⊥
 
 module _ (IsText : Purpose → List ℕ → Type 0) where
   -- each file in its turn holds a text for its purpose, and nothing else has changed
@@ -89,13 +95,27 @@ module _ (IsText : Purpose → List ℕ → Type 0) where
       ⊎ ((text : List ℕ) × IsText target.purpose text
       × (((k : ℕ) × (new ≡ with_file old target.name (take k text))) ⊎ WritesSome more (with_file old target.name text) new))
 
--- what a command read, and wrote by that
-abbrev pub WritesWhole : Asked → Option Files → Option Files → Type 0
-WritesWhole asked old new =
-    (found : Found) × ReadsAll old (inputs_of asked) nothing_found found × WritesAll (IsTextOf asked found) (targets_of asked) old new
+module _ (AreKept : Keeping) where
+  -- the text that a run of a dataflow writes for a purpose: that of the job of the events and the settings, by the query's table with the
+  -- values of the configuration
+  abbrev pub IsTextOfFlow : Options → Flow → List Event → SettingsFacts → Purpose → List ℕ → Type 0
+  IsTextOfFlow asked flow events settings purpose text =
+      let Keeps = AreKept (outline_asked asked.paced flow events settings) asked.depth asked.schedule in
+      IsTextOfJob ((query_of flow.query).facts settings.values) (job_asked flow events settings) Keeps purpose text
 
--- nothing has changed; or what a command read, and which part it wrote by that
-abbrev pub WritesPart : Asked → Option Files → Option Files → Type 0
-WritesPart asked old new =
-    (new ≡ old)
-    ⊎ ((found : Found) × ReadsAll old (inputs_of asked) nothing_found found × WritesSome (IsTextOf asked found) (targets_of asked) old new)
+  -- the text that a command writes for a purpose, by what it has read
+  abbrev pub IsTextOf : Asked → Found → Purpose → List ℕ → Type 0
+  IsTextOf (Run asked) found purpose text = IsTextOfFlow asked (flow_with (flow_of asked) found.pipe) found.events found.settings purpose text
+  IsTextOf (Make asked) found MadeEvents text = text ≡ made_file asked
+  IsTextOf _ found purpose text = ⊥
+
+  -- what a command read, which is as it wants it, and wrote by that
+  abbrev pub WritesWhole : Asked → Option Files → Option Files → Type 0
+  WritesWhole asked old new =
+      (found : Found) × ReadsAll old (inputs_of asked) nothing_found found × IsConfirmed asked found × WritesAll (IsTextOf asked found) (targets_of asked) old new
+
+  -- nothing has changed; or what a command read, and which part it wrote by that
+  abbrev pub WritesPart : Asked → Option Files → Option Files → Type 0
+  WritesPart asked old new =
+      (new ≡ old)
+      ⊎ ((found : Found) × ReadsAll old (inputs_of asked) nothing_found found × WritesSome (IsTextOf asked found) (targets_of asked) old new)

@@ -6,6 +6,7 @@ ghost use Rattle.mp_words.specs.Words.{Check};
 ghost use Rattle.mp_command.specs.Ends.{CameTo, Leaves};
 ghost use Rattle.mp_command.specs.Lines.{ok_line};
 ghost use Rattle.mp_command.specs.Refused.{outcome_in};
+ghost use Rattle.mp_command.specs.Writing.{NoneKept};
 
 use crate::reading::{InputFiles, read_inputs};
 use crate::refusal::Refusal;
@@ -24,7 +25,7 @@ pub fn check<'a, D: Depot>(
     requires { CheckIsWithinLimits options.now }
     ensures came { CameTo D.files D.found D.read_faults D.write_faults
         (Some (Check (check_in options.now))) (outcome_in result) depot.old depot.new }
-    ensures left { Leaves (Check (check_in options.now)) (outcome_in result)
+    ensures left { Leaves NoneKept (Check (check_in options.now)) (outcome_in result)
         (D.files depot.old) (D.files depot.new) }
 {
     let read = read_inputs(alloc, depot, &InputFiles::of_check(options))?;

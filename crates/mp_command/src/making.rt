@@ -7,9 +7,8 @@ ghost use Rattle.mp_words.specs.Values.{make_in};
 ghost use Rattle.mp_words.specs.Words.{Make};
 ghost use Rattle.mp_command.specs.Calls.{StopsAnswer};
 ghost use Rattle.mp_command.specs.Ends.{CameTo, Leaves};
-ghost use Rattle.mp_command.specs.Inputs.{nothing_found};
 ghost use Rattle.mp_command.specs.Refused.{EndsAs, outcome_in, outcome_of};
-ghost use Rattle.mp_command.specs.Writing.{IsTextOf, WritesAll, WritesSome, event_file, targets_of};
+ghost use Rattle.mp_command.specs.Writing.{NoneKept, WritesAll, WritesSome, event_file, made_file, targets_of};
 
 use crate::refusal::Refusal;
 use mp_events::write_event;
@@ -28,7 +27,7 @@ pub fn make<'a, D: Depot>(
 ) -> Result<Vec<u8>, Refusal<'a>>
     ensures came { CameTo D.files D.found D.read_faults D.write_faults
         (Some (Make (make_in options.now))) (outcome_in result) depot.old depot.new }
-    ensures left { Leaves (Make (make_in options.now)) (outcome_in result)
+    ensures left { Leaves NoneKept (Make (make_in options.now)) (outcome_in result)
         (D.files depot.old) (D.files depot.new) }
 {
     make_file(alloc, depot, options)?;
@@ -42,10 +41,10 @@ fn make_file<'a, D: Depot>(
     depot: &mut D,
     options: &MakeOptions<'a>,
 ) -> Result<(), Refusal<'a>>
-    ensures whole { let asked = Make (make_in options.now) in OnOk result
-        (WritesAll (IsTextOf asked nothing_found) (targets_of asked) (D.files depot.old) (D.files depot.new)) }
-    ensures part { let asked = Make (make_in options.now) in OnErr result
-        (WritesSome (IsTextOf asked nothing_found) (targets_of asked) (D.files depot.old) (D.files depot.new)) }
+    ensures whole { let asked = make_in options.now in OnOk result
+        (WritesAll (λ _ text. text ≡ made_file asked) (targets_of (Make asked)) (D.files depot.old) (D.files depot.new)) }
+    ensures part { let asked = make_in options.now in OnErr result
+        (WritesSome (λ _ text. text ≡ made_file asked) (targets_of (Make asked)) (D.files depot.old) (D.files depot.new)) }
     ensures refused { IfErr result (λ r. StopsAnswer (outcome_of r)) }
     ensures failed { IfErr result (λ r. EndsAs r 7
         → Rose (D.write_faults depot.old) (D.write_faults depot.new)) }

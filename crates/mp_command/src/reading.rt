@@ -5,12 +5,12 @@ ghost use Rattle.mp_model.specs.declared.record.Event.{Event};
 ghost use Rattle.mp_model.specs.Legal.{EventsAreLegal};
 ghost use Rattle.mp_outside.specs.Fault.{Rose};
 ghost use Rattle.mp_pipeline.specs.Pipes.{are_sound};
-ghost use Rattle.mp_words.specs.Values.{check_in, options_in, query_in};
+ghost use Rattle.mp_words.specs.Values.{audit_in, check_in, options_in, query_in};
 ghost use Rattle.mp_words.specs.Words.{Check, Run};
-ghost use Rattle.mp_command.specs.Config.{FlowAsked, SettingsFitFlow, flow_of, flow_to_check, flow_with};
+ghost use Rattle.mp_command.specs.Config.{FlowAsked, SettingsFitFlow, flow_of, flow_to_audit, flow_to_check, flow_with};
 ghost use Rattle.mp_command.specs.Ends.{LacksOne};
 ghost use Rattle.mp_command.specs.InputFiles.{flow_in, found_in, inputs_in, pipe_in};
-ghost use Rattle.mp_command.specs.Inputs.{ConfigFile, EventFile, Found, PipeFile, inputs_of, nothing_found, pipe_input};
+ghost use Rattle.mp_command.specs.Inputs.{ConfigFile, EventFile, Found, PipeFile, files_of, inputs_of, nothing_found, pipe_input};
 ghost use Rattle.mp_command.specs.Queries.{IsSound, query_with};
 ghost use Rattle.mp_command.specs.Reading.{CannotRead, IsRead, ReadsAll, ReadsAs, RefusesAs, RefusesOne};
 ghost use Rattle.mp_command.specs.Refused.{EndsAs, outcome_of};
@@ -23,7 +23,7 @@ use mp_model::Event;
 use mp_names::limits::MAX_BYTES;
 use mp_outside::{Depot, ReadRefused, read_all};
 use mp_pipe_file::{Pipe, PipeRefused, read_pipe};
-use mp_words::{CheckOptions, QueryOption, RunOptions};
+use mp_words::{AuditOptions, CheckOptions, QueryOption, RunOptions};
 use std::alloc::Global;
 
 /// The files that a command reads, by their names, and the size of the dataflow that they are read for.
@@ -46,6 +46,21 @@ impl<'a> InputFiles<'a> {
     pub fn of_run(options: &RunOptions<'a>) -> InputFiles<'a>
         ensures files { inputs_in result ≡ inputs_of (Run (options_in options.now)) }
         ensures flow { flow_in result ≡ flow_of (options_in options.now) }
+    {
+        InputFiles {
+            events: options.events,
+            query: options.query,
+            config: options.config,
+            workers: options.workers,
+            bins: options.bins,
+        }
+    }
+
+    /// Those that `audit` reads before the answer.
+    pub fn of_audit(options: &AuditOptions<'a>) -> InputFiles<'a>
+        ensures files { let asked = audit_in options.now in
+            inputs_in result ≡ files_of asked.events asked.config (flow_to_audit asked) }
+        ensures flow { flow_in result ≡ flow_to_audit (audit_in options.now) }
     {
         InputFiles {
             events: options.events,
@@ -112,6 +127,7 @@ pub fn read_inputs<'a, D: Depot>(
         → Rose (D.read_faults depot.old) (D.read_faults depot.new)) }
     ensures not_found { IfErr result (λ r. EndsAs r 5 → LacksOne D.found (inputs_in files.now) depot.new) }
     ensures files { D.files depot.new ≡ D.files depot.old }
+    ensures reads { D.read_faults depot.old ≤ D.read_faults depot.new }
     ensures writes { D.write_faults depot.new ≡ D.write_faults depot.old }
 {
     let events = events_in(alloc, depot, files.events)?;
@@ -226,6 +242,7 @@ fn settings_in<'a, D: Depot>(
         → Rose (D.read_faults depot.old) (D.read_faults depot.new)) }
     ensures not_found { IfErr result (λ r. EndsAs r 5 → D.found depot.old name.now false depot.new) }
     ensures files { D.files depot.new ≡ D.files depot.old }
+    ensures reads { D.read_faults depot.old ≤ D.read_faults depot.new }
     ensures writes { D.write_faults depot.new ≡ D.write_faults depot.old }
 {
     let text = read_named(alloc, depot, name)?;
@@ -236,8 +253,9 @@ fn settings_in<'a, D: Depot>(
     }
 }
 
-/// The bytes of the file of this name.
-fn read_named<'a, D: Depot>(
+/// The bytes of the file of this name. `NoFile`: it isn't there; `ReadFault`: a find or a read failed; `TooLarge`: it has more
+/// bytes than are allowed; `NoMemory`: no memory.
+pub fn read_named<'a, D: Depot>(
     alloc: Global,
     depot: &mut D,
     name: &'a str,

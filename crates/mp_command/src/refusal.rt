@@ -9,6 +9,7 @@ ghost use Rattle.mp_command.specs.Refused.{line_of, outcome_of};
 
 use mp_control::ControlReason;
 use mp_events::EventsReason;
+use mp_journal::JournalReason;
 use mp_outside::{Fault, Sink, write_piece};
 use mp_pipe_file::PipeReason;
 
@@ -33,6 +34,10 @@ pub enum Refusal<'a> {
     TooLarge(&'a str),
     /// The pipeline's file has a first bad line, or ends without a stage.
     PipeRefused { line: u64, why: PipeReason },
+    /// The journal isn't that of a run that writes the answer.
+    NoRun,
+    /// The journal has a first bad line.
+    JournalRefused { line: u64, why: JournalReason },
 }
 
 impl<'a> Refusal<'a> {
@@ -50,6 +55,8 @@ impl<'a> Refusal<'a> {
             Refusal::NoMemory => 8,
             Refusal::TooLarge(_) => 9,
             Refusal::PipeRefused { .. } => 12,
+            Refusal::NoRun => 13,
+            Refusal::JournalRefused { .. } => 14,
         }
     }
 
@@ -61,6 +68,7 @@ impl<'a> Refusal<'a> {
             Refusal::EventsRefused { line, .. } => *line,
             Refusal::ConfigRefused { line, .. } => *line,
             Refusal::PipeRefused { line, .. } => *line,
+            Refusal::JournalRefused { line, .. } => *line,
             _ => 0,
         }
     }
@@ -72,7 +80,12 @@ impl<'a> Refusal<'a> {
             ≡ result.0.now ++ (result.1.now ++ (result.2.now ++ (result.3.now ++ codes "\n"))) }
     {
         match self {
-            Refusal::Usage => ("usage: megaphone run|replay|check|make|demo", "", "", ""),
+            Refusal::Usage => (
+                "usage: megaphone run|replay|check|make|demo|audit",
+                "",
+                "",
+                "",
+            ),
             Refusal::EventsRefused { why, .. } => ("events line ", digits, ": ", why.text()),
             Refusal::ConfigRefused { why, .. } => ("config line ", digits, ": ", why.text()),
             Refusal::NoFile(name) => ("no file ", *name, "", ""),
@@ -81,6 +94,8 @@ impl<'a> Refusal<'a> {
             Refusal::NoMemory => ("no memory", "", "", ""),
             Refusal::TooLarge(name) => ("too large: ", *name, "", ""),
             Refusal::PipeRefused { why, .. } => ("pipe line ", digits, ": ", why.text()),
+            Refusal::NoRun => ("no legal run", "", "", ""),
+            Refusal::JournalRefused { why, .. } => ("journal line ", digits, ": ", why.text()),
         }
     }
 

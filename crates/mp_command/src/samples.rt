@@ -30,6 +30,7 @@ pub fn run_in_memory(options: &DemoOptions) -> RunOptions<'static>
     ensures paced { result.paced ≡ false }
     ensures out { result.out.now ≡ answer_name }
     ensures report { result.report ≡ None }
+    ensures journal { result.journal ≡ None }
 {
     RunOptions {
         query: QueryOption::Named(options.query),
@@ -37,6 +38,7 @@ pub fn run_in_memory(options: &DemoOptions) -> RunOptions<'static>
         config: "config",
         out: ANSWER,
         report: None,
+        journal: None,
         workers: options.workers,
         bins: options.bins,
         depth: options.depth,

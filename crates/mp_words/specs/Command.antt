@@ -32,9 +32,13 @@ size_rules = defaulted (codes "workers") (codes "1") ∷ defaulted (codes "bins"
 abbrev pub depth_rules : List Rule
 depth_rules = defaulted (codes "depth") (codes "64") ∷ []
 
+-- those of the machine that runs
+abbrev pub machine_rules : List Rule
+machine_rules = flag (codes "paced") ∷ (size_rules ++ depth_rules)
+
 -- the options that both commands have which write an answer
 abbrev pub shared_rules : List Rule
-shared_rules = input_rules ++ needed (codes "out") ∷ valued (codes "report") ∷ flag (codes "paced") ∷ (size_rules ++ depth_rules)
+shared_rules = input_rules ++ needed (codes "out") ∷ valued (codes "report") ∷ valued (codes "journal") ∷ machine_rules
 
 -- a command with these options
 abbrev pub shared_shape : List ℕ → Shape
@@ -62,6 +66,10 @@ demo_shape = record (new_shape (codes "demo")) {
   rules = needed (codes "query") ∷ needed (codes "count") ∷ valued (codes "seed") ∷ (size_rules ++ depth_rules);
 }
 
+-- `audit` reads what `run` reads, and then an answer and a journal
+abbrev pub audit_shape : Shape
+audit_shape = record (new_shape (codes "audit")) { rules = input_rules ++ needed (codes "out") ∷ needed (codes "journal") ∷ machine_rules }
+
 -- no option of the program itself, none for help or the version, no command `help`, and a subcommand has to be there
 abbrev pub bare : Shape → Shape
 bare s = record s { disable_help_flag = true; disable_version_flag = true; disable_help_subcommand = true; subcommand_required = true }
@@ -70,10 +78,14 @@ bare s = record s { disable_help_flag = true; disable_version_flag = true; disab
 abbrev pub with_runs : App → App
 with_runs program = with_subcommand (with_subcommand program run_shape) replay_shape
 
--- the program with the others
+-- the program with those that write none
 abbrev pub with_others : App → App
 with_others program = with_subcommand (with_subcommand (with_subcommand program check_shape) make_shape) demo_shape
 
+-- the program with the one that reads an answer
+abbrev pub with_audit : App → App
+with_audit program = with_subcommand program audit_shape
+
 -- the program with its subcommands
 unfoldable pub command_app : App
-command_app = with_others (with_runs (on_top bare (new_app (codes "megaphone"))))
+command_app = with_audit (with_others (with_runs (on_top bare (new_app (codes "megaphone")))))

@@ -1,9 +1,10 @@
 -- What holds of whatever a command asks for.
 use Rattle.std.specs.Prelude.{◌≡◌, ◌≤◌, ◌^◌, ℕ, true}
 use Rattle.mp_names.specs.Limits.{deepest_mailbox, greatest_seed, most_events, most_workers}
+use Rattle.mp_words.specs.declared.options.AuditOptions.{AuditOptions}
 use Rattle.mp_words.specs.declared.options.CheckOptions.{CheckOptions}
 use Rattle.mp_words.specs.declared.options.Command.{Command}
-use Rattle.mp_words.specs.declared.options.Command.TheVariants.{Run, Check, Make, Demo}
+use Rattle.mp_words.specs.declared.options.Command.TheVariants.{Run, Check, Make, Demo, Audit}
 use Rattle.mp_words.specs.declared.options.DemoOptions.{DemoOptions}
 use Rattle.mp_words.specs.declared.options.MakeOptions.{MakeOptions}
 use Rattle.mp_words.specs.declared.options.RunOptions.{RunOptions}
@@ -50,9 +51,16 @@ pub record DemoIsWithinLimits (options : DemoOptions) : Type 0 where
   pub bins : IsBinCount options.bins
   pub depth : IsPositiveUpTo deepest_mailbox options.depth
 
+-- the numbers of `audit` are within their limits
+pub record AuditIsWithinLimits (options : AuditOptions) : Type 0 where
+  pub workers : IsPositiveUpTo most_workers options.workers
+  pub bins : IsBinCount options.bins
+  pub depth : IsPositiveUpTo deepest_mailbox options.depth
+
 -- what a command asks for is within its limits
 abbrev pub IsWithinLimits : Command → Type 0
 IsWithinLimits (Run options) = AreWithinLimits options
 IsWithinLimits (Check options) = CheckIsWithinLimits options
 IsWithinLimits (Make options) = MakeIsWithinLimits options
 IsWithinLimits (Demo options) = DemoIsWithinLimits options
+IsWithinLimits (Audit options) = AuditIsWithinLimits options

@@ -8,6 +8,7 @@ use Rattle.std.specs.Str.{bytes_eq}
 use Rattle.mp_text.specs.Numbers.{number_of}
 use Rattle.clap.specs.Words.{Row, first_of}
 use Rattle.mp_names.specs.Limits.{deepest_mailbox, greatest_seed, most_bins, most_events, most_workers}
+use Rattle.mp_words.specs.declared.options.AuditOptions.{AuditOptions}
 use Rattle.mp_words.specs.declared.options.CheckOptions.{CheckOptions}
 use Rattle.mp_words.specs.declared.options.DemoOptions.{DemoOptions}
 use Rattle.mp_words.specs.declared.options.MakeOptions.{MakeOptions}
@@ -17,7 +18,7 @@ use Rattle.mp_words.specs.declared.options.QueryOption.{QueryOption}
 use Rattle.mp_words.specs.declared.options.QueryOption.TheVariants as option
 use Rattle.mp_words.specs.declared.options.RunOptions.{RunOptions}
 use Rattle.mp_words.specs.declared.options.Schedule.{Schedule}
-use Rattle.mp_words.specs.declared.options.Schedule.TheVariants.{Seeded}
+use Rattle.mp_words.specs.declared.options.Schedule.TheVariants.{Seeded, Threads}
 
 -- the query of a dataflow that runs on files: that of a name, or the pipeline that the file of this name says
 pub data QueryAsked : Type 0 where
@@ -31,6 +32,7 @@ pub record Options : Type 0 where
   pub config : List ℕ
   pub out : List ℕ
   pub report : Option (List ℕ)
+  pub journal : Option (List ℕ)
   pub workers : ℕ
   pub bins : ℕ
   pub depth : ℕ
@@ -44,6 +46,18 @@ pub record CheckAsked : Type 0 where
   pub config : List ℕ
   pub workers : ℕ
   pub bins : ℕ
+
+-- what `audit` asks for
+pub record AuditAsked : Type 0 where
+  pub query : QueryAsked
+  pub events : List ℕ
+  pub config : List ℕ
+  pub out : List ℕ
+  pub journal : List ℕ
+  pub workers : ℕ
+  pub bins : ℕ
+  pub depth : ℕ
+  pub paced : Bool
 
 -- what `make` asks for
 pub record MakeAsked : Type 0 where
@@ -64,6 +78,7 @@ options_in o = record {
   config = o.config.now;
   out = o.out.now;
   report = option_map (λ name. name.now) o.report;
+  journal = option_map (λ name. name.now) o.journal;
   workers = o.workers;
   bins = o.bins;
   depth = o.depth;
@@ -74,6 +89,20 @@ options_in o = record {
 -- what those of `check` ask for
 abbrev pub check_in : CheckOptions → CheckAsked
 check_in o = record { query = query_in o.query; events = o.events.now; config = o.config.now; workers = o.workers; bins = o.bins }
+
+-- what those of `audit` ask for
+abbrev pub audit_in : AuditOptions → AuditAsked
+audit_in o = record {
+  query = query_in o.query;
+  events = o.events.now;
+  config = o.config.now;
+  out = o.out.now;
+  journal = o.journal.now;
+  workers = o.workers;
+  bins = o.bins;
+  depth = o.depth;
+  paced = o.paced;
+}
 
 -- what those of `make` ask for
 abbrev pub make_in : MakeOptions → MakeAsked
@@ -142,7 +171,7 @@ read_names o = o.events ∷ o.config ∷ pipe_names o.query
 
 -- the names that it writes
 abbrev pub written_names : Options → List (List ℕ)
-written_names o = o.out ∷ option_to_list o.report
+written_names o = o.out ∷ (option_to_list o.report ++ option_to_list o.journal)
 
 -- a name is one of these
 abbrev pub is_among : List ℕ → List (List ℕ) → Bool
@@ -162,10 +191,10 @@ abbrev pub only_apart : Options → Option Options
 only_apart o = if names_are_apart o then Some o else None
 
 -- all of them, where the names are apart
-abbrev pub together : Schedule → Bool → Option QueryAsked → Option (List ℕ) → Option (List ℕ) → Option (List ℕ) → Option (List ℕ) → Option ℕ → Option ℕ → Option ℕ → Option Options
-together schedule paced (Some query) (Some events) (Some config) (Some out) report (Some workers) (Some bins) (Some depth) =
-    only_apart (record { query = query; events = events; config = config; out = out; report = report; workers = workers; bins = bins; depth = depth; schedule = schedule; paced = paced })
-together _ _ _ _ _ _ _ _ _ _ = None
+abbrev pub together : Schedule → Bool → Option QueryAsked → Option (List ℕ) → Option (List ℕ) → Option (List ℕ) → Option (List ℕ) → Option (List ℕ) → Option ℕ → Option ℕ → Option ℕ → Option Options
+together schedule paced (Some query) (Some events) (Some config) (Some out) report journal (Some workers) (Some bins) (Some depth) =
+    only_apart (record { query = query; events = events; config = config; out = out; report = report; journal = journal; workers = workers; bins = bins; depth = depth; schedule = schedule; paced = paced })
+together _ _ _ _ _ _ _ _ _ _ _ = None
 
 -- what the values that clap found for the options of `run` or `replay` ask for, if each is allowed, with this schedule
 abbrev pub options_of : Schedule → List Row → Option Options
@@ -175,6 +204,7 @@ options_of schedule rows = together schedule (is_set (codes "paced") rows)
     (first_of (codes "config") rows)
     (first_of (codes "out") rows)
     (first_of (codes "report") rows)
+    (first_of (codes "journal") rows)
     (option_and_then (positive_up_to most_workers) (first_of (codes "workers") rows))
     (option_and_then (power_up_to most_bins) (first_of (codes "bins") rows))
     (option_and_then (positive_up_to deepest_mailbox) (first_of (codes "depth") rows))
@@ -182,6 +212,16 @@ options_of schedule rows = together schedule (is_set (codes "paced") rows)
 -- what those of `replay` ask for: the schedule is that of its seed
 abbrev pub replay_of : List Row → Option Options
 replay_of rows = option_and_then (λ seed. options_of (Seeded seed) rows) (seed_of (first_of (codes "seed") rows))
+
+-- what `audit` asks for with the options of a run that writes a journal
+abbrev pub audit_for : Options → Option (List ℕ) → Option AuditAsked
+audit_for o None = None
+audit_for o (Some journal) =
+    Some (record { query = o.query; events = o.events; config = o.config; out = o.out; journal = journal; workers = o.workers; bins = o.bins; depth = o.depth; paced = o.paced })
+
+-- what the values for the options of `audit` ask for, if each is allowed: it reads what `run` would write with them
+abbrev pub audit_of : List Row → Option AuditAsked
+audit_of rows = option_and_then (λ o. audit_for o o.journal) (options_of Threads rows)
 
 -- all that `check` asks for
 abbrev pub together_to_check : Option QueryAsked → Option (List ℕ) → Option (List ℕ) → Option ℕ → Option ℕ → Option CheckAsked

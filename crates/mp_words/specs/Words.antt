@@ -8,7 +8,7 @@ use Rattle.mp_words.specs.declared.options.Command.{Command}
 use Rattle.mp_words.specs.declared.options.Command.TheVariants as read
 use Rattle.mp_words.specs.declared.options.DemoOptions.{DemoOptions}
 use Rattle.mp_words.specs.declared.options.Schedule.TheVariants.{Threads}
-use Rattle.mp_words.specs.Values.{Options, CheckAsked, MakeAsked, check_in, check_of, demo_of, make_in, make_of, options_in, options_of, replay_of}
+use Rattle.mp_words.specs.Values.{AuditAsked, Options, CheckAsked, MakeAsked, audit_in, audit_of, check_in, check_of, demo_of, make_in, make_of, options_in, options_of, replay_of}
 
 -- what a command asks for
 pub data Asked : Type 0 where
@@ -16,6 +16,7 @@ pub data Asked : Type 0 where
   Check : (options : CheckAsked) → Asked
   Make : (options : MakeAsked) → Asked
   Demo : (options : DemoOptions) → Asked
+  Audit : (options : AuditAsked) → Asked
 
 -- what the command that was read asks for
 abbrev pub asked_in : Command → Asked
@@ -23,6 +24,7 @@ asked_in (read.Run options) = Run (options_in options)
 asked_in (read.Check options) = Check (check_in options)
 asked_in (read.Make options) = Make (make_in options)
 asked_in (read.Demo options) = Demo options
+asked_in (read.Audit options) = Audit (audit_in options)
 
 -- what the subcommand of this name asks for by the values of its options, if each is allowed
 abbrev pub asked_of : List ℕ × List Row → Option Asked
@@ -32,6 +34,7 @@ asked_of used =
     else if bytes_eq used.0 (codes "check") then option_map Check (check_of used.1)
     else if bytes_eq used.0 (codes "make") then option_map Make (make_of used.1)
     else if bytes_eq used.0 (codes "demo") then option_map Demo (demo_of used.1)
+    else if bytes_eq used.0 (codes "audit") then option_map Audit (audit_of used.1)
     else None
 
 -- the subcommand that was met, where the words have no fault

@@ -2,13 +2,14 @@
 ghost use Rattle.std.specs.Prelude.{◌≡◌, IfOk, false};
 ghost use Rattle.clap.specs.Words.{app_of, rule_of};
 ghost use Rattle.mp_words.specs.Adding.{AddsRules, Denotes};
-ghost use Rattle.mp_words.specs.Command.{check_shape, command_app, demo_shape, make_shape, replay_shape, shared_shape, with_others, with_runs};
-ghost use Rattle.mp_words.specs.Command.{defaulted, depth_rules, flag, input_rules, needed, size_rules, valued};
+ghost use Rattle.mp_words.specs.Command.{audit_shape, check_shape, command_app, demo_shape, make_shape, replay_shape, shared_shape};
+ghost use Rattle.mp_words.specs.Command.{with_audit, with_others, with_runs};
+ghost use Rattle.mp_words.specs.Command.{defaulted, depth_rules, flag, input_rules, machine_rules, needed, size_rules, valued};
 
 use clap::{Arg, ArgAction, Command};
 use std::alloc::{AllocError, Global};
 
-/// The program with its five subcommands. `--help`, `--version` and `help` are unknown words. `AllocError`: no memory.
+/// The program with its six subcommands. `--help`, `--version` and `help` are unknown words. `AllocError`: no memory.
 pub fn command<'a>(alloc: Global) -> Result<Command<'a>, AllocError>
     ensures { IfOk result (λ c. app_of c ≡ command_app) }
 {
@@ -19,7 +20,7 @@ pub fn command<'a>(alloc: Global) -> Result<Command<'a>, AllocError>
         .disable_help_subcommand(true)
         .subcommand_required(true);
     let runs = with_runs(alloc, program)?;
-    with_others(alloc, runs)
+    with_audit(alloc, with_others(alloc, runs)?)
 }
 
 /// The program with the subcommands that write an answer.
@@ -30,13 +31,20 @@ fn with_runs<'a>(alloc: Global, program: Command<'a>) -> Result<Command<'a>, All
     run.subcommand(replay_command(alloc)?)
 }
 
-/// The program with the other subcommands.
+/// The program with those that write none.
 fn with_others<'a>(alloc: Global, program: Command<'a>) -> Result<Command<'a>, AllocError>
     ensures { IfOk result (λ c. app_of c ≡ with_others (app_of program.entry)) }
 {
     let check = program.subcommand(check_command(alloc)?)?;
     let make = check.subcommand(make_command(alloc)?)?;
     make.subcommand(demo_command(alloc)?)
+}
+
+/// The program with the one that reads an answer.
+fn with_audit<'a>(alloc: Global, program: Command<'a>) -> Result<Command<'a>, AllocError>
+    ensures { IfOk result (λ c. app_of c ≡ with_audit (app_of program.entry)) }
+{
+    program.subcommand(audit_command(alloc)?)
 }
 
 /// The command of this name, with the options that both have which write an answer.
@@ -46,8 +54,8 @@ fn shared_command<'a>(alloc: Global, name: &'a str) -> Result<Command<'a>, Alloc
     let command = with_inputs(alloc, Command::new(alloc, name))?
         .arg(needed(alloc, "out"))?
         .arg(valued(alloc, "report"))?
-        .arg(flag(alloc, "paced"))?;
-    with_depth(alloc, with_size(alloc, command)?)
+        .arg(valued(alloc, "journal"))?;
+    with_machine(alloc, command)
 }
 
 /// `replay`, which may have a seed beside them.
@@ -85,6 +93,16 @@ fn demo_command<'a>(alloc: Global) -> Result<Command<'a>, AllocError>
     with_depth(alloc, with_size(alloc, command)?)
 }
 
+/// `audit`, which reads what `run` reads, and then an answer and a journal.
+fn audit_command<'a>(alloc: Global) -> Result<Command<'a>, AllocError>
+    ensures { IfOk result (Denotes audit_shape) }
+{
+    let command = with_inputs(alloc, Command::new(alloc, "audit"))?
+        .arg(needed(alloc, "out"))?
+        .arg(needed(alloc, "journal"))?;
+    with_machine(alloc, command)
+}
+
 /// The command with the options of what a job reads: its query, with the file of a pipeline, its event file and its configuration.
 fn with_inputs<'a>(alloc: Global, command: Command<'a>) -> Result<Command<'a>, AllocError>
     ensures { IfOk result (AddsRules command.entry input_rules) }
@@ -110,6 +128,14 @@ fn with_depth<'a>(alloc: Global, command: Command<'a>) -> Result<Command<'a>, Al
     ensures { IfOk result (AddsRules command.entry depth_rules) }
 {
     command.arg(defaulted(alloc, "depth", "64"))
+}
+
+/// The command with the options of the machine that runs: whether it is paced, its size and its mailboxes' depth.
+fn with_machine<'a>(alloc: Global, command: Command<'a>) -> Result<Command<'a>, AllocError>
+    ensures { IfOk result (AddsRules command.entry machine_rules) }
+{
+    let paced = command.arg(flag(alloc, "paced"))?;
+    with_depth(alloc, with_size(alloc, paced)?)
 }
 
 /// The option `--name`, which takes one value.

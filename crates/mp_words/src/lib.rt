@@ -2,8 +2,8 @@
 //!
 //! The words of megaphone's command line: what they ask for, or that they are no command.
 //!
-//! clap reads the words, with each value as text: the name of the program, `run`, `replay`, `check`, `make` or
-//! `demo`, and the options of that command, each at most once. The query, the numbers, their ranges and the
+//! clap reads the words, with each value as text: the name of the program, `run`, `replay`, `check`, `make`, `demo`
+//! or `audit`, and the options of that command, each at most once. The query, the numbers, their ranges and the
 //! names are checked after it.
 #![tactic(auto)]
 
@@ -14,7 +14,8 @@ mod values;
 mod words;
 
 pub use options::{
-    CheckOptions, Command, DemoOptions, MakeOptions, QueryName, QueryOption, RunOptions, Schedule,
+    AuditOptions, CheckOptions, Command, DemoOptions, MakeOptions, QueryName, QueryOption,
+    RunOptions, Schedule,
 };
 pub use refused::WordsRefused;
 pub use words::parse;

@@ -41,6 +41,8 @@ pub enum Command<'a> {
     Make(MakeOptions<'a>),
     /// `demo`: to run a dataflow on events that are made from a seed, and sum up its answer.
     Demo(DemoOptions),
+    /// `audit`: to find out whether a journal is that of a run that writes an answer.
+    Audit(AuditOptions<'a>),
 }
 
 /// How the workers of a run take turns.
@@ -65,6 +67,8 @@ pub struct RunOptions<'a> {
     pub out: &'a str,
     /// The name that the report is written to, if one is asked for: neither that of the answer nor one that is read.
     pub report: Option<&'a str>,
+    /// The name that the journal is written to, if one is asked for: neither of the others that are written nor one that is read.
+    pub journal: Option<&'a str>,
     /// How many workers run the dataflow, from 1 to [`MAX_WORKERS`](mp_names::limits::MAX_WORKERS).
     pub workers: u32,
     /// How many bins a keyed state is cut into: a power of two from 1 to [`MAX_BINS`](mp_names::limits::MAX_BINS).
@@ -118,4 +122,27 @@ pub struct DemoOptions {
     pub bins: u32,
     /// How many messages a mailbox holds at most, from 1 to [`MAX_DEPTH`](mp_names::limits::MAX_DEPTH).
     pub depth: u32,
+}
+
+/// What `audit` is to read, and the machine that it asks for.
+#[derive(Clone, Copy, PartialEq, Eq, Debug)]
+pub struct AuditOptions<'a> {
+    /// The query of the dataflow.
+    pub query: QueryOption<'a>,
+    /// The name of the event file.
+    pub events: &'a str,
+    /// The name of the configuration.
+    pub config: &'a str,
+    /// The name of the answer, which is none of the others.
+    pub out: &'a str,
+    /// The name of the journal, which is none of the others.
+    pub journal: &'a str,
+    /// How many workers the dataflow has, from 1 to [`MAX_WORKERS`](mp_names::limits::MAX_WORKERS).
+    pub workers: u32,
+    /// How many bins a keyed state is cut into: a power of two from 1 to [`MAX_BINS`](mp_names::limits::MAX_BINS).
+    pub bins: u32,
+    /// How many messages a mailbox holds at most, from 1 to [`MAX_DEPTH`](mp_names::limits::MAX_DEPTH).
+    pub depth: u32,
+    /// Whether control records of a time wait until the moves of the time before are passed.
+    pub paced: bool,
 }

@@ -1,15 +1,17 @@
 //! The values of the options, checked one by one.
-ghost use Rattle.std.specs.Prelude.{◌≡◌, ◌≤◌, IfSome, codes, option_map, option_and_then};
+ghost use Rattle.std.specs.Prelude.{◌≡◌, ◌≤◌, ◌&&◌, IfSome, codes, not, option_map, option_and_then};
+ghost use Rattle.std.specs.Str.{bytes_eq};
 ghost use Rattle.clap.specs.Words.{first_of, found_of, rows_of};
-ghost use Rattle.mp_words.specs.Limits.{AreWithinLimits, CheckIsWithinLimits, DemoIsWithinLimits};
+ghost use Rattle.mp_words.specs.Limits.{AreWithinLimits, AuditIsWithinLimits, CheckIsWithinLimits, DemoIsWithinLimits};
 ghost use Rattle.mp_words.specs.Limits.{IsBinCount, IsPositiveUpTo, MakeIsWithinLimits, SeedIsWithinLimit};
 ghost use Rattle.mp_names.specs.Limits.{greatest_seed, most_bins, most_events};
-ghost use Rattle.mp_words.specs.Values.{check_in, check_of, count_of, demo_of, make_in, make_of, number_up_to, options_in};
+ghost use Rattle.mp_words.specs.Values.{audit_in, audit_of, check_in, check_of, count_of, demo_of, make_in, make_of, number_up_to, options_in};
 ghost use Rattle.mp_words.specs.Values.{is_among, is_set, names_are_apart, options_of, positive_up_to, power_up_to};
 ghost use Rattle.mp_words.specs.Values.{query_asked, query_in, query_of, read_names, replay_of, seed_of};
 
 use crate::options::{
-    CheckOptions, DemoOptions, MakeOptions, QueryName, QueryOption, RunOptions, Schedule,
+    AuditOptions, CheckOptions, DemoOptions, MakeOptions, QueryName, QueryOption, RunOptions,
+    Schedule,
 };
 use clap::ArgMatches;
 use mp_names::limits::{MAX_BINS, MAX_DEPTH, MAX_EVENTS, MAX_SEED, MAX_WORKERS};
@@ -27,6 +29,7 @@ pub fn run_options<'a>(matches: &ArgMatches<'a>, schedule: Schedule) -> Option<R
         config: text(matches, "config")?,
         out: text(matches, "out")?,
         report: text(matches, "report"),
+        journal: text(matches, "journal"),
         workers: positive_in(matches, "workers", MAX_WORKERS)?,
         bins: bins_in(matches)?,
         depth: positive_in(matches, "depth", MAX_DEPTH)?,
@@ -44,12 +47,21 @@ pub fn run_options<'a>(matches: &ArgMatches<'a>, schedule: Schedule) -> Option<R
 fn names_are_apart(options: &RunOptions) -> bool
     ensures { result ≡ names_are_apart (options_in options.now) }
 {
-    match options.report {
-        Some(report) => {
-            options.out != report && !is_read(options, options.out) && !is_read(options, report)
+    let rest = match (options.report, options.journal) {
+        (Some(report), Some(journal)) => {
+            report != journal && is_free(options, report) && is_free(options, journal)
         }
-        None => !is_read(options, options.out),
-    }
+        (Some(name), None) | (None, Some(name)) => is_free(options, name),
+        (None, None) => true,
+    };
+    rest && !is_read(options, options.out)
+}
+
+/// Whether the name is neither that of the answer nor one that is read.
+fn is_free(options: &RunOptions, name: &str) -> bool
+    ensures { result ≡ (not (bytes_eq options.now.out.now name.now) && not (is_among name.now (read_names (options_in options.now)))) }
+{
+    options.out != name && !is_read(options, name)
 }
 
 /// Whether a file of this name is read.
@@ -71,6 +83,25 @@ pub fn replay_options<'a>(matches: &ArgMatches<'a>) -> Option<RunOptions<'a>>
 {
     let seed = seed_in(matches)?;
     run_options(matches, Schedule::Seeded(seed))
+}
+
+/// What the options of `audit` ask for, or `None` where a value isn't allowed: what `run` would with them, and a journal.
+pub fn audit_options<'a>(matches: &ArgMatches<'a>) -> Option<AuditOptions<'a>>
+    ensures asked { option_map audit_in result ≡ audit_of (rows_of (found_of matches.now)) }
+    ensures within { IfSome result AuditIsWithinLimits }
+{
+    let run = run_options(matches, Schedule::Threads)?;
+    Some(AuditOptions {
+        query: run.query,
+        events: run.events,
+        config: run.config,
+        out: run.out,
+        journal: run.journal?,
+        workers: run.workers,
+        bins: run.bins,
+        depth: run.depth,
+        paced: run.paced,
+    })
 }
 
 /// What the options of `check` ask for, or `None` where a value isn't allowed.

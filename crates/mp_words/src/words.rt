@@ -7,7 +7,9 @@ ghost use Rattle.mp_words.specs.Words.{asked_in, asked_of, command_in};
 use crate::command::command;
 use crate::options::{Command, Schedule};
 use crate::refused::WordsRefused;
-use crate::values::{check_options, demo_options, make_options, replay_options, run_options};
+use crate::values::{
+    audit_options, check_options, demo_options, make_options, replay_options, run_options,
+};
 use clap::ArgMatches;
 use std::alloc::Global;
 
@@ -36,6 +38,7 @@ fn command_found<'a>(matches: &ArgMatches<'a>) -> Option<Command<'a>>
         "check" => Some(Command::Check(check_options(options)?)),
         "make" => Some(Command::Make(make_options(options)?)),
         "demo" => Some(Command::Demo(demo_options(options)?)),
+        "audit" => Some(Command::Audit(audit_options(options)?)),
         _ => None,
     }
 }

@@ -1,5 +1,5 @@
 -- The name that is picked is that of the job, paced by the plan, on threads and by a seed.
-use Rattle.mp_cli.specs.Jobs.{run_of}
+use Rattle.mp_command.specs.Config.{run_of}
 use Rattle.mp_cli.proofs.running.run_into.Given as goal
 
 abbrev pub ghosts-run_with_tallies : goal.ghosts-run_with_tallies

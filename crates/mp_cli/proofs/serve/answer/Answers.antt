@@ -6,6 +6,7 @@ use Rattle.mp_words.specs.Words.{Asked, Run}
 use Rattle.mp_command.specs.InputFiles.{found_in}
 use Rattle.mp_command.proofs.Came.{came_answered, came_refused, came_stopped, lacks_so, reads_so, refused_leaves, refuses_so}
 use Rattle.mp_command.proofs.Leaving.{leaves_part, leaves_whole}
+use Rattle.mp_cli.specs.Keeping.{IsKeptBy}
 use Rattle.mp_cli.proofs.serve.answer.Goals as goal
 
 pub returns-in_err-read-clause-came : goal.returns-in_err-read-clause-came
@@ -21,7 +22,7 @@ returns-in_err-read-clause-left g c =
     let asked : Asked = Run (options_in c.args.options.now) in
     let p = err_from_is_err_and c.from_residual.result c.from_residual.ensures.1 in
     let refused = refuses_so _ _ _ c.of_run.ensures.files _ c.in_err-read.ensures.refused in
-    rw (p.1, p.2) (refused_leaves asked _ _ _ _ refused c.read_inputs.ensures.files)
+    rw (p.1, p.2) (refused_leaves IsKeptBy asked _ _ _ _ refused c.read_inputs.ensures.files)
 
 pub returns-in_err-write_answer-clause-came : goal.returns-in_err-write_answer-clause-came
 returns-in_err-write_answer-clause-came g c =
@@ -37,7 +38,7 @@ returns-in_err-write_answer-clause-left g c =
     let p = err_from_is_err_and c.from_residual-in_err-write_answer.result c.from_residual-in_err-write_answer.ensures.1 in
     let read = reads_so _ _ _ c.of_run.ensures.files _ c.in_ok-read.ensures.found in
     let part = rw c.read_inputs.ensures.files at c.in_err-write_answer.ensures.wrote.part in
-    rw (p.1, p.2) (leaves_part asked _ _ _ c.in_err-write_answer.ensures.refused (inr (found_in c.in_ok-read.read, read, part)))
+    rw (p.1, p.2) (leaves_part IsKeptBy asked _ _ _ c.in_err-write_answer.ensures.refused (inr (found_in c.in_ok-read.read, read, part)))
 
 pub returns-clause-came : goal.returns-clause-came
 returns-clause-came g c =
@@ -50,4 +51,4 @@ returns-clause-left g c =
     let asked : Asked = Run (options_in c.args.options.now) in
     let read = reads_so _ _ _ c.of_run.ensures.files _ c.in_ok-read.ensures.found in
     let whole = rw c.read_inputs.ensures.files at c.in_ok-write_answer.ensures.wrote.whole in
-    leaves_whole asked _ _ _ (found_in c.in_ok-read.read, read, whole)
+    leaves_whole IsKeptBy asked _ _ _ (found_in c.in_ok-read.read, read, tt, whole)

@@ -1,7 +1,8 @@
 -- Each clause by the outcome that the call came to, and by how much of its line was said.
 use Rattle.mp_command.specs.Refused.{outcome_in}
-use Rattle.mp_command.proofs.Codes.{complete_at, outcome_at, part_at, printed_at, said_fault_at, said_whole, status_at, told_code, untouched_at, usage_at, write_fault_at}
+use Rattle.mp_command.proofs.Codes.{complete_at, outcome_at, part_at, printed_at, refuted_at, said_fault_at, said_whole, status_at, told_code, untouched_at, usage_at, write_fault_at}
 use Rattle.std.proofs.Common.{arith}
+use Rattle.mp_cli.specs.Keeping.{IsKeptBy}
 use Rattle.mp_cli.proofs.top.run.Goals as goal
 
 pub returns-clause-usage : goal.returns-clause-usage
@@ -60,19 +61,26 @@ returns-clause-answer g c =
     let came = c.serve-end.ensures.came in
     λ e. c.serve-end.ensures.ends.answered (status_at _ _ o _ _ came.may tells 0 e (λ h. omega (arith, h)) (λ h. omega (arith, h)))
 
+pub returns-clause-no_run : goal.returns-clause-no_run
+returns-clause-no_run g c =
+    let o = outcome_in c.serve-end.result in
+    let tells = told_code g.S.Sink.written g.S.Sink.faults o _ _ _ c.tell.ensures in
+    let came = c.serve-end.ensures.came in
+    refuted_at _ _ o _ _ came.may tells
+
 pub returns-clause-untouched : goal.returns-clause-untouched
 returns-clause-untouched g c =
     let o = outcome_in c.serve-end.result in
     let tells = told_code g.S.Sink.written g.S.Sink.faults o _ _ _ c.tell.ensures in
     let came = c.serve-end.ensures.came in
-    λ refusal. untouched_at _ _ o _ _ came.may tells _ c.serve-end.ensures.ends refusal
+    λ refusal. untouched_at _ _ o _ _ came.may tells IsKeptBy _ c.serve-end.ensures.ends refusal
 
 pub returns-clause-part : goal.returns-clause-part
 returns-clause-part g c =
     let o = outcome_in c.serve-end.result in
     let tells = told_code g.S.Sink.written g.S.Sink.faults o _ _ _ c.tell.ensures in
     let came = c.serve-end.ensures.came in
-    λ stop. part_at _ _ o _ _ came.may tells _ c.serve-end.ensures.ends stop
+    λ stop. part_at _ _ o _ _ came.may tells IsKeptBy _ c.serve-end.ensures.ends stop
 
 pub returns-clause-printed : goal.returns-clause-printed
 returns-clause-printed g c =

@@ -4,6 +4,7 @@ use Rattle.std.proofs.lemmas.Result.{err_from_is_err_and}
 use Rattle.mp_words.specs.Values.{check_in}
 use Rattle.mp_words.specs.Words.{Asked, Check}
 use Rattle.mp_command.specs.InputFiles.{found_in}
+use Rattle.mp_command.specs.Writing.{NoneKept}
 use Rattle.mp_command.proofs.Came.{came_answered, came_refused, lacks_so, reads_so, refused_leaves, refuses_so}
 use Rattle.mp_command.proofs.Leaving.{leaves_whole}
 use Rattle.mp_command.proofs.checking.check.Goals as goal
@@ -21,7 +22,7 @@ returns-in_err-read-clause-left g c =
     let asked : Asked = Check (check_in c.args.options.now) in
     let p = err_from_is_err_and c.from_residual.result c.from_residual.ensures.1 in
     let refused = refuses_so _ _ _ c.of_check.ensures.files _ c.in_err-read.ensures.refused in
-    rw (p.1, p.2) (refused_leaves asked _ _ _ _ refused c.read_inputs.ensures.files)
+    rw (p.1, p.2) (refused_leaves NoneKept asked _ _ _ _ refused c.read_inputs.ensures.files)
 
 pub returns-clause-came : goal.returns-clause-came
 returns-clause-came g c =
@@ -36,4 +37,4 @@ pub returns-clause-left : goal.returns-clause-left
 returns-clause-left g c =
     let asked : Asked = Check (check_in c.args.options.now) in
     let read = reads_so _ _ _ c.of_check.ensures.files _ c.in_ok-read.ensures.found in
-    leaves_whole asked _ _ _ (found_in c.in_ok-read.read, read, c.read_inputs.ensures.files)
+    leaves_whole NoneKept asked _ _ _ (found_in c.in_ok-read.read, read, tt, c.read_inputs.ensures.files)

@@ -4,6 +4,7 @@ use Rattle.std.proofs.lemmas.Result.{err_from_is_err_and}
 use Rattle.mp_words.specs.Values.{make_in}
 use Rattle.mp_words.specs.Words.{Asked, Make}
 use Rattle.mp_command.specs.Inputs.{nothing_found}
+use Rattle.mp_command.specs.Writing.{NoneKept}
 use Rattle.mp_command.proofs.Came.{came_answered, came_stopped}
 use Rattle.mp_command.proofs.Leaving.{leaves_part, leaves_whole}
 use Rattle.mp_command.proofs.making.make.Goals as goal
@@ -18,7 +19,7 @@ pub returns-in_err-make_file-clause-left : goal.returns-in_err-make_file-clause-
 returns-in_err-make_file-clause-left g c =
     let asked : Asked = Make (make_in c.args.options.now) in
     let p = err_from_is_err_and c.from_residual.result c.from_residual.ensures.1 in
-    rw (p.1, p.2) (leaves_part asked _ _ _ c.in_err-make_file.ensures.refused (inr (nothing_found, refl, c.in_err-make_file.ensures.part)))
+    rw (p.1, p.2) (leaves_part NoneKept asked _ _ _ c.in_err-make_file.ensures.refused (inr (nothing_found, refl, c.in_err-make_file.ensures.part)))
 
 pub returns-clause-came : goal.returns-clause-came
 returns-clause-came g c =
@@ -28,4 +29,4 @@ returns-clause-came g c =
 pub returns-clause-left : goal.returns-clause-left
 returns-clause-left g c =
     let asked : Asked = Make (make_in c.args.options.now) in
-    leaves_whole asked _ _ _ (nothing_found, refl, c.in_ok-make_file.ensures.whole)
+    leaves_whole NoneKept asked _ _ _ (nothing_found, refl, tt, c.in_ok-make_file.ensures.whole)

@@ -9,6 +9,5 @@ returns c =
     let inputs = joined _ _ _ _ _ start c.in_ok-with_inputs.ensures in
     let out = added _ _ _ _ _ _ inputs c.in_ok-arg.ensures c.needed.ensures.rule c.needed.ensures.local in
     let report = added _ _ _ _ _ _ out c.in_ok-arg-2.ensures c.valued.ensures.rule c.valued.ensures.local in
-    let paced = added _ _ _ _ _ _ report c.in_ok-command.ensures c.flag.ensures.rule c.flag.ensures.local in
-    let size = joined _ _ _ _ _ paced c.in_ok-with_size.ensures in
-    IfOk-weaker c.with_depth.result _ _ (λ last adds. whole _ _ _ (joined _ _ _ _ last size adds)) c.with_depth.ensures
+    let journal = added _ _ _ _ _ _ report c.in_ok-command.ensures c.valued-2.ensures.rule c.valued-2.ensures.local in
+    IfOk-weaker c.with_machine.result _ _ (λ last adds. whole _ _ _ (joined _ _ _ _ last journal adds)) c.with_machine.ensures

@@ -1,0 +1,13 @@
+-- What the workers of a run keep of their steps.
+use Rattle.std.specs.Prelude.{ℕ, List}
+use Rattle.mp_names.specs.Outlines.{Outline}
+use Rattle.mp_names.specs.declared.kinds.Kept.{Kept}
+use Rattle.mp_drive.specs.Schedule.{IsKeptBySchedule}
+use Rattle.mp_threads.specs.Journals.{TellFullLogs}
+use Rattle.mp_words.specs.declared.options.Schedule.{Schedule}
+use Rattle.mp_words.specs.declared.options.Schedule.TheVariants.{Threads, Seeded}
+
+-- by a seed the steps that its schedule has at this depth; on threads, whose order isn't known, of each worker all that it has to do
+abbrev pub IsKeptBy : Outline → ℕ → Schedule → List (List Kept) → Type 0
+IsKeptBy o depth Threads lists = TellFullLogs o lists
+IsKeptBy o depth (Seeded seed) lists = IsKeptBySchedule o depth seed lists

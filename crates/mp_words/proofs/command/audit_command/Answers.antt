@@ -1,0 +1,13 @@
+-- Two arguments between the rules of two steps.
+use Rattle.std.proofs.Common.{codes}
+use Rattle.std.proofs.lemmas.Result.{IfOk-weaker}
+use Rattle.mp_words.proofs.Shapes.{added, fresh, joined, whole}
+use Rattle.mp_words.proofs.command.audit_command.Goals as goal
+
+pub returns : goal.returns
+returns c =
+    let start = fresh (codes "audit") _ c.new.ensures.app c.new.ensures.local in
+    let inputs = joined _ _ _ _ _ start c.in_ok-with_inputs.ensures in
+    let out = added _ _ _ _ _ _ inputs c.in_ok-arg.ensures c.needed.ensures.rule c.needed.ensures.local in
+    let journal = added _ _ _ _ _ _ out c.in_ok-command.ensures c.needed-2.ensures.rule c.needed-2.ensures.local in
+    IfOk-weaker c.with_machine.result _ _ (λ last adds. whole _ _ _ (joined _ _ _ _ last journal adds)) c.with_machine.ensures
