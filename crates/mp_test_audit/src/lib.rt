@@ -10,6 +10,8 @@
 #[cfg(test)]
 mod audit_chart;
 #[cfg(test)]
+mod audit_job;
+#[cfg(test)]
 mod audit_player;
 #[cfg(test)]
 mod journal;

@@ -1,8 +1,8 @@
 //! What words ask for: each command once, with ample memory. Words that are refused, and other ways to say these, stand in
 //! examples/cases.toml.
 use mp_words::{
-    CheckOptions, Command, DemoOptions, MakeOptions, QueryName, QueryOption, RunOptions, Schedule,
-    WordsRefused, parse,
+    AuditOptions, CheckOptions, Command, DemoOptions, MakeOptions, QueryName, QueryOption,
+    RunOptions, Schedule, WordsRefused, parse,
 };
 use std::alloc::{AllocError, Global};
 use std::process::Abort;
@@ -13,6 +13,7 @@ const RUN: RunOptions<'static> = RunOptions {
     config: "c",
     out: "o",
     report: Some("r"),
+    journal: None,
     workers: 3,
     bins: 32,
     depth: 5,
@@ -26,6 +27,7 @@ const REPLAY: RunOptions<'static> = RunOptions {
     config: "c",
     out: "o",
     report: None,
+    journal: Some("j"),
     workers: 1,
     bins: 16,
     depth: 64,
@@ -56,13 +58,25 @@ const DEMO: DemoOptions = DemoOptions {
     depth: 64,
 };
 
-const ASKED: [(&str, Command<'static>); 5] = [
+const AUDIT: AuditOptions<'static> = AuditOptions {
+    query: QueryOption::Named(QueryName::Q1),
+    events: "e",
+    config: "c",
+    out: "o",
+    journal: "j",
+    workers: 3,
+    bins: 16,
+    depth: 64,
+    paced: true,
+};
+
+const ASKED: [(&str, Command<'static>); 6] = [
     (
         "m run --query q2 --report r --events e --config c --out o --workers 3 --bins 32 --depth 5",
         Command::Run(RUN),
     ),
     (
-        "m replay --paced --seed 9 --query pipe --pipe p --events e --config c --out o",
+        "m replay --paced --seed 9 --query pipe --pipe p --events e --config c --journal j --out o",
         Command::Run(REPLAY),
     ),
     (
@@ -73,6 +87,10 @@ const ASKED: [(&str, Command<'static>); 5] = [
     (
         "m demo --count 0 --query q8 --seed 7 --workers 2",
         Command::Demo(DEMO),
+    ),
+    (
+        "m audit --query q1 --events e --config c --out o --journal j --workers 3 --paced",
+        Command::Audit(AUDIT),
     ),
 ];
 

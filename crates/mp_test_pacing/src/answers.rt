@@ -27,6 +27,7 @@ const EVENTS: u32 = 300;
 const PLAN: RunPlan = RunPlan {
     depth: 1,
     paced: true,
+    keeps: false,
 };
 
 /// Seeds of jobs, and how their bins move: at each of many times, also at a time of all bins, and back.

@@ -56,6 +56,7 @@ fn writes<J: Naming>(
     let plan = RunPlan {
         depth,
         paced: false,
+        keeps: false,
     };
     replay::<Pipe, J, _, _>(alloc, job, plan, seed, &OpenGate, &mut sink)?;
     assert!(rt; sink.bytes() == answer);

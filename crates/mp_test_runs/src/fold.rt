@@ -122,6 +122,7 @@ pub fn writes<Q: Query, J: Naming>(
     let plan = RunPlan {
         depth,
         paced: false,
+        keeps: false,
     };
     replay::<Q, J, _, _>(alloc, job, plan, seed, &OpenGate, &mut sink)?;
     assert!(rt; sink.bytes() == answer);
