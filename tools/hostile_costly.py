@@ -1,5 +1,6 @@
 """The fixed cases: the costliest legal inputs that are known."""
 from hostile_readers import MOST_CONTROLS
+from megaphone_tools import OLD
 
 # How many events the large ones have.
 COUNT = 250_000
@@ -81,3 +82,31 @@ def costly():
     yield f"25,000 bids, 16 drains of up to 4,096 bins, q1, {shape}", f"replay --query q1 {shape}", usual, b"V|2\n" + drains(16, 0)
     yield f"25,000 bids, 10,000 drains that find no bin but the first, q1, {shape}", f"replay --query q1 {shape}", usual, b"V|2\n" + b"drain|0|0|0|1\n" * 10_000
     yield "a price of 1,000,000 zeros and a 7", "run --query q1", b"B|1|1|1|" + b"0" * 1_000_000 + b"7\n", b""
+
+
+def in_turn(rounds, workers):
+    """A journal in which each worker takes in a record and posts it, so many rounds, the last worker first."""
+    return b"".join(b"s|%d|I\ns|%d|X|%d\n" % (w, w, workers * (i + 1) - w) for w in range(workers) for i in range(rounds))
+
+
+def audits():
+    """The fixed cases of journals: what each is, its words, its files, or None where those of the case before stay, and its status."""
+    down = bids(COUNT, lambda i: COUNT - i, lambda i: i % 100_003)
+    fewer = bids(25_000, lambda i: 25_000 - i, lambda i: i % 10_003)
+    usual = bids(25_000, lambda i: i, lambda i: i % 1000)
+    plan, each = b"all|10000|0|1\n", moves(MOST_CONTROLS, lambda i: i, 1, 16)
+    for what, command, options, events, config in (
+        ("times descending", "run", "--query q1", down, b""),
+        ("times descending", "run", "--query q5", down, b""),
+        ("25,000 bids, times descending, each bin moves", "replay", "--query q1 --workers 16 --bins 256 --depth 1", fewer, plan),
+        ("25,000 bids, times descending, each bin moves", "replay", "--query q5 --workers 16 --bins 256 --depth 1", fewer, plan),
+        ("25,000 bids, 65,536 control records of one bin at as many times", "replay", "--query q1 --workers 16 --bins 1 --depth 1", usual, each),
+    ):
+        yield f"{what}, {options}, with a journal", f"{command} {options} --journal j", {"e": events, "c": config, "o": OLD}, 0
+        yield "its audit", f"audit {options} --journal j", None, 0
+    files = {"e": bids(2**20 // 2, lambda i: i, lambda i: 7), "c": b"", "o": b"".join(b"%d|7|%d|89\n" % (i, i % 1000) for i in range(2**20 // 2))}
+    yield f"an audit of {2**20:,} lines of one kind, half as many bids", "audit --query q1 --journal j", files | {"j": b"s|0|I\n" * 2**20}, 13
+    turns = "each bid is posted before the next, the last worker first"
+    yield f"an audit of {2**20:,} lines, {turns}, --workers 64", "audit --query q1 --workers 64 --journal j", files | {"j": in_turn(2**13, 64)}, 13
+    most = 2**28 // len(b"s|0|I\n")
+    yield f"an audit of {most:,} lines of one kind, no event", "audit --query q1 --journal j", {"e": b"", "c": b"", "o": b"", "j": b"s|0|I\n" * most}, 13

@@ -1,17 +1,15 @@
-"""Cases that are drawn from a seed: words, an event file, a pipeline and a configuration that are near well-formed ones, and what is wanted of them."""
+"""Cases that are drawn from a seed: words, an event file, a pipeline, a configuration, an answer and a journal that are near well-formed ones,
+and what is wanted of them."""
 import os
 import random
 import re
 
-from hostile_readers import COMPARED, COUNT, FORMS, MOST_CONTROLS, NUMBER, PRICE, RULES, TESTS, TIME, WIDTH, controls_of, events_of, stages_of
-from megaphone_tools import STAGES, read
-
-# What the answer and the report hold before a run.
-OLD = b"as it was\n"
+from hostile_readers import COMPARED, COUNT, FORMS, MOST_CONTROLS, NUMBER, PRICE, RULES, TESTS, TIME, WIDTH, controls_of, events_of, journal_of, stages_of, steps_of
+from megaphone_tools import OLD, STAGES, read
 
 SAID = {
     0: rb"",
-    2: rb"usage: megaphone run\|replay\|check\|make\|demo\n",
+    2: rb"usage: megaphone run\|replay\|check\|make\|demo\|audit\n",
     3: rb"events line [1-9][0-9]*: (count|kind|fields|number|range|name|order)\n",
     4: rb"config line [1-9][0-9]*: (kind|fields|number|range|name|late|twice|count)\n",
     5: rb"no file .*\n",
@@ -19,8 +17,14 @@ SAID = {
     7: rb"write fault\n",
     9: rb"too large: .*\n",
     12: rb"pipe line [1-9][0-9]*: (kind|fields|number|range|order|count|end)\n",
+    13: rb"no legal run\n",
+    14: rb"journal line [1-9][0-9]*: (kind|fields|number|range|order)\n",
 }
-SAID_BY = {"check": rb"ok [0-9]+ events [0-9]+ controls\n", "demo": rb"events [0-9]+ rows [0-9]+ bytes [0-9]+ hash [0-9]+\n"}
+SAID_BY = {
+    "check": rb"ok [0-9]+ events [0-9]+ controls\n",
+    "demo": rb"events [0-9]+ rows [0-9]+ bytes [0-9]+ hash [0-9]+\n",
+    "audit": rb"legal [0-9]+ steps\n",
+}
 
 BASES = [
     b"B|5|7|2|100\nB|3|7|1|250\nB|5|2|9|99\n",
@@ -39,10 +43,10 @@ PIPES = [
     b"on|A\ncount|2|5|3|eq|10\nsum|2|1|0|any|0\n",
     b"\non|P\nwindow|1|0|1|any|0|43200\n",
 ]
-# Kinds of lines of a configuration and of a pipeline, and the names of the rules of all queries.
-LINE_WORDS = [b"V", b"first", b"rule", b"drain", b"M", b"all", b"on", *FORMS, *TESTS, *(name for rules in RULES.values() for name in rules)]
+# Kinds of lines of a configuration, of a pipeline and of a journal, and the names of the rules of all queries.
+LINE_WORDS = [b"V", b"first", b"rule", b"drain", b"M", b"all", b"on", *FORMS, *TESTS, *(name for rules in RULES.values() for name in rules), b"s", *steps_of(0, 0)]
 LIMITS = [0, 1, 2, 3, 4, 6, 16, 63, 64, 65, 100, 255, 256, 1000, 1024, 1025, 4096, 4097, 7200, 43_200, WIDTH, COUNT, MOST_CONTROLS, PRICE, COMPARED, TIME, NUMBER, 1 << 32, 1 << 63, 1 << 64, 1 << 128]
-WORDS = [b"", b"--", b"-", b"--query", b"--out", b"--seed", b"--pipe", b"--paced", b"pipe", b"p", b"=", b"q0", b"q9", b"Q1", b".", b"/", b"e", b"c", b"o", b"r", b"none", b"\xff\xfe", b"1e3", b"+1", b"-1", b"0x10"]
+WORDS = [b"", b"--", b"-", b"--query", b"--out", b"--seed", b"--pipe", b"--journal", b"--paced", b"audit", b"pipe", b"p", b"=", b"q0", b"q9", b"Q1", b".", b"/", b"e", b"c", b"o", b"r", b"j", b"none", b"\xff\xfe", b"1e3", b"+1", b"-1", b"0x10"]
 
 
 def number(draw):
@@ -66,6 +70,17 @@ def version_two(draw, query, stages, workers, bins):
     draw.shuffle(lines)
     begin, end = draw.choice((b"", b"", b"\r\n\n")), draw.choice((b"\n", b"\n", b"\r\n", b"\n\n"))
     return begin + end.join([b"V|2" if draw.random() < 0.9 else b"V|1", *lines, draw.choice(CONFIGS + DRAINS)])
+
+
+def any_steps(draw, stages, workers):
+    """A journal of any steps, worker by worker but for one in ten, with numbers within their limits but for one line in fifty."""
+    steps, lines = steps_of(stages, workers), []
+    by = draw.choices(range(workers), k=draw.choice((0, 1, 5, 100)))
+    for worker in sorted(by) if draw.random() < 0.9 else by:
+        letter = draw.choice(list(steps))
+        behind = [b"%d" % draw.choice(limit[:9]) if draw.random() < 0.98 else number(draw) for limit in steps[letter]]
+        lines.append(b"|".join([b"s", b"%d" % worker, letter, *behind]) + b"\n")
+    return b"".join(lines)
 
 
 def pieces(text):
@@ -189,26 +204,42 @@ class Case:
     """A case: its words, its files, and what the files hold by the readers, where the words are whole."""
 
     def __init__(self, seed, index):
-        draw = random.Random(f"{seed} {index}")
+        self.index, self.draw = index, random.Random(f"{seed} {index}")
+        draw = self.draw
         self.query = draw.choice([*STAGES, "pipe", "pipe"])
         self.pipe = draw.choice(PIPES)
         self.workers, self.bins = draw.choice(((1, 1), (1, 16), (2, 1), (3, 4), (3, 4), (16, 256), (64, 16)))
-        self.command = draw.choices(("check", "replay", "run", "make", "demo"), (70, 14, 10, 3, 3))[0]
-        shape = f"--workers {self.workers} --bins {self.bins}"
-        if self.command == "make":
-            line = f"make --count {draw.randrange(60)} --out o --seed {draw.randrange(1 << 48)}"
-        elif self.command == "demo":
-            line = f"demo --query {draw.choice(list(STAGES))} --count {draw.randrange(60)} {shape}"
-        else:
-            line = f"{self.command} --query {self.query} --events e --config c {shape}" + (" --pipe p" if self.query == "pipe" else "")
-        if self.command in ("run", "replay"):
-            line += f" --out o --depth {draw.choice((1, 2, 64))}" + draw.choice(("", " --report r")) + draw.choice(("", " --paced"))
-        self.words, self.is_whole = line.encode().split(), True
+        self.command = draw.choices(("check", "replay", "run", "make", "demo", "audit"), (60, 14, 10, 3, 3, 10))[0]
+        self.words, self.is_whole = self.line().encode().split(), True
+        # The words of the run whose answer and journal an audit gets, and then what its files held and the steps of that journal.
+        self.run, self.ran, self.steps = [b"replay", *self.words[1:], b"--seed", b"%d" % index], None, None
         self.events = draw.choice(BASES)
         self.config = draw.choice(CONFIGS) if draw.random() < 0.4 else version_two(draw, self.query, self.stages(), self.workers, self.bins)
+        self.answer = self.journal = OLD
         what = draw.choices(("events", "config", "both", "words"), (45, 25, 15, 15))[0]
         if self.query == "pipe" and draw.random() < 0.6:
             what = "pipe"
+        if self.command != "audit" or draw.random() < 0.3:
+            self.change(what)
+
+    def line(self):
+        """Words that are whole."""
+        draw, shape = self.draw, f"--workers {self.workers} --bins {self.bins}"
+        if self.command == "make":
+            return f"make --count {draw.randrange(60)} --out o --seed {draw.randrange(1 << 48)}"
+        if self.command == "demo":
+            return f"demo --query {draw.choice(list(STAGES))} --count {draw.randrange(60)} {shape}"
+        line = f"{self.command} --query {self.query} --events e --config c {shape}" + (" --pipe p" if self.query == "pipe" else "")
+        if self.command == "check":
+            return line
+        line += f" --out o --depth {draw.choice((1, 2, 64))}" + draw.choice(("", " --paced"))
+        if self.command == "audit":
+            return f"{line} --journal j"
+        return line + draw.choice(("", " --report r")) + draw.choice(("", " --journal j"))
+
+    def change(self, what):
+        """Changes files or the words to others that are near them."""
+        draw, index = self.draw, self.index
         for _ in range(draw.choice((1, 1, 2, 4))):
             if what in ("events", "both"):
                 self.events = change(draw, index, self.events)
@@ -216,47 +247,97 @@ class Case:
                 self.config = change(draw, index, self.config)
             if what in ("pipe", "both"):
                 self.pipe = change(draw, index, self.pipe)
+            if what == "answer":
+                self.answer = change(draw, index, self.answer)
+            if what == "journal":
+                self.journal = change(draw, index, self.journal)
             if what == "words" and self.words:
                 change_words(draw, self.words)
                 self.is_whole = False
+
+    def take_run(self, answer, journal):
+        """Takes the answer and the journal of the run, and changes one of the files, or none, or puts any steps in the journal's place."""
+        self.answer, self.journal = answer, journal
+        self.ran, self.steps = self.files(), journal_of(journal, self.stages(), self.workers)
+        what = self.draw.choices(("none", "journal", "steps", "answer", "events", "config"), (10, 50, 10, 10, 10, 10))[0]
+        if what == "steps":
+            self.journal = any_steps(self.draw, self.stages(), self.workers)
+        else:
+            self.change(what)
+
+    def files(self):
+        """What the files hold before the run."""
+        return {"e": self.events, "p": self.pipe, "c": self.config, "o": self.answer, "r": OLD, "j": self.journal}
+
+    def written(self):
+        """The files that may hold something else after a run that isn't refused."""
+        if self.is_whole:
+            return {b"o", b"r", b"j"} & set(self.words) if self.command in ("run", "replay", "make") else set()
+        return set(self.words) | {word.partition(b"=")[2] for word in self.words}
 
     def stages(self):
         """How many stages the query has, or the first bad line of its pipeline and the check that it fails."""
         return STAGES[self.query] if self.query in STAGES else stages_of(self.pipe)
 
     def wanted(self):
-        """The status and the line that the readers find, where the words are whole and the files are read."""
+        """The status and the line of each end that the readers find right, where the words are whole and the files are read."""
         if not self.is_whole or self.command in ("make", "demo"):
             return None
         events = events_of(self.events)
         if isinstance(events, tuple):
-            return 3, b"events line %d: %s\n" % (events[0], events[1].encode())
+            return [(3, b"events line %d: %s\n" % (events[0], events[1].encode()))]
         stages = self.stages()
         if isinstance(stages, tuple):
-            return 12, b"pipe line %d: %s\n" % (stages[0], stages[1].encode())
+            return [(12, b"pipe line %d: %s\n" % (stages[0], stages[1].encode()))]
         controls = controls_of(self.config, self.query, stages, self.workers, self.bins)
         if isinstance(controls, tuple):
-            return 4, b"config line %d: %s\n" % (controls[0], controls[1].encode())
-        return 0, b"ok %d events %d controls\n" % (events, controls) if self.command == "check" else b""
+            return [(4, b"config line %d: %s\n" % (controls[0], controls[1].encode()))]
+        if self.command == "audit":
+            return self.wanted_of_audit(journal_of(self.journal, stages, self.workers))
+        return [(0, b"ok %d events %d controls\n" % (events, controls) if self.command == "check" else b"")]
+
+    def wanted_of_audit(self, steps):
+        """The same of an audit whose other files are whole: the run is legal, and another answer isn't, nor are more or fewer of the steps that
+        each run of the job has as often."""
+        if isinstance(steps, tuple):
+            return [(14, b"journal line %d: %s\n" % (steps[0], steps[1].encode()))]
+        legal, none = (0, b"legal %d steps\n" % len(steps)), (13, b"no legal run\n")
+        changed = {name for name, held in self.files().items() if self.ran is None or held != self.ran[name]}
+        if changed <= {"j"} and steps == self.steps:
+            return [legal]
+        if "o" in changed or changed == {"j"} and owed_in(steps) != owed_in(self.steps):
+            return [none]
+        return [legal, none]
+
+
+def owed_in(steps):
+    """The steps that each run of a job has as often, in no order: all but routes, receipts and exchanges."""
+    return sorted(step for step in steps if step[1] not in (b"R", b"V", b"X"))
+
+
+def is_said(words, status, said):
+    """Whether a run by these words may say this at its end with this status."""
+    command = words[0].decode(errors="replace") if words else ""
+    line = SAID_BY.get(command, SAID[0]) if status == 0 else SAID.get(status)
+    return line is not None and re.fullmatch(line, said, re.DOTALL)
 
 
 def wrong_in(case, status, said):
     """What is wrong with the end of a case's run; None where nothing is."""
     if status is None or status < 0:
         return "no end in time" if status is None else f"ended by signal {-status}"
-    command = case.words[0].decode(errors="replace") if case.words else ""
-    line = SAID_BY.get(command, SAID[0]) if status == 0 else SAID.get(status)
-    if line is None or not re.fullmatch(line, said, re.DOTALL):
+    if not is_said(case.words, status, said):
         return f"status {status} says {said}"
     wanted = case.wanted()
-    if wanted and wanted != (status, said):
+    if wanted and (status, said) not in wanted:
         return f"status {status} says {said}, and not {wanted}"
-    if case.is_whole and status not in (0, 3, 4, 12):
+    if case.is_whole and not wanted and status != 0:
         return f"status {status} of whole words"
-    before = {"e": case.events, "p": case.pipe, "c": case.config, "o": OLD, "r": OLD}
+    before = case.files()
     after = {name: read(name) for name in os.listdir(".")}
-    writes = {b"o", b"r"} if case.is_whole else set(case.words) | {word.partition(b"=")[2] for word in case.words}
     for name in before.keys() | after.keys():
-        if before.get(name) != after.get(name) and (status not in (0, 7) or os.fsencode(name) not in writes):
+        if before.get(name) != after.get(name) and (status not in (0, 7) or os.fsencode(name) not in case.written()):
             return f"status {status} changes {name}"
+    if case.is_whole and status == 0 and b"j" in case.written() and isinstance(journal_of(after["j"], case.stages(), case.workers), tuple):
+        return "the journal has a bad line"
     return None

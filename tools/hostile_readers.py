@@ -1,5 +1,5 @@
-"""What the event file, the pipeline and the configuration hold, read as docs/FORMATS.md says, and not as the program does."""
-TIME, NUMBER, PRICE, COUNT = 1 << 47, 1 << 48, 10**12, 1_000_000
+"""What the event file, the pipeline, the configuration and the journal hold, read as docs/FORMATS.md says, and not as the program does."""
+TIME, NUMBER, PRICE, COUNT, VERSION = 1 << 47, 1 << 48, 10**12, 1_000_000, 1 << 48
 MOST_CONTROLS, MOST_SHIFT, MOST_SIZE = 65_536, 255, 4096
 MOST_STAGES, COMPARED, WIDTH = 4, 10**18, 43_200
 NAME = object()
@@ -227,3 +227,35 @@ def controls_of(text, query, stages, workers, bins):
         if fault := read.fault(line):
             return number, fault
     return read.count
+
+
+def steps_of(stages, workers):
+    """What each kind of step has behind its letter: a stage, a worker or a version, or nothing."""
+    stage = [range(stages)]
+    return {b"I": [], b"C": [], b"R": stage, b"V": [range(workers)], b"E": stage, b"S": stage, b"A": stage, b"O": [], b"W": [], b"X": [up_to(VERSION)]}
+
+
+def step_fault(line, steps, workers, before):
+    """The first check that a line of a journal fails behind one of this worker."""
+    kind, *fields = line.split(b"|")
+    if kind != b"s":
+        return "kind"
+    if len(fields) < 2:
+        return "fields"
+    worker, letter, *number = fields
+    if letter not in steps:
+        return "kind"
+    if fault := fields_fault([worker, *number], [range(workers), *steps[letter]]):
+        return fault
+    return "order" if value_of(worker) < before else None
+
+
+def journal_of(text, stages, workers):
+    """The steps of a journal, each its worker, its letter and what stands behind it, or the first bad line and the check that it fails."""
+    steps, read = steps_of(stages, workers), []
+    for number, line in lines_of(text):
+        if fault := step_fault(line, steps, workers, read[-1][0] if read else 0):
+            return number, fault
+        _, worker, letter, *rest = line.split(b"|")
+        read.append((value_of(worker), letter, *map(value_of, rest)))
+    return read

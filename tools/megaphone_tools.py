@@ -13,6 +13,8 @@ PROGRAM = f"{TOP}/crates/megaphone/out/megaphone"
 # How many stages each query has.
 STAGES = {"q1": 1, "q2": 1, "q3": 1, "q4": 2, "q5": 2, "q6": 2, "q7": 1, "q8": 1}
 SECONDS = f"{TOP}/tools/proof-seconds.txt"
+# What a file that a run may write holds before, where that is looked at.
+OLD = b"as it was\n"
 
 
 def read(name):
