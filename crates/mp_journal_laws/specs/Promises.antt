@@ -27,7 +27,7 @@ pub record MergeOfRun (o : Outline) (depth : ℕ) (steps : List (ℕ × Kind)) :
 abbrev pub FinishedRunsAreLegal : Type 0
 FinishedRunsAreLegal = (o : Outline) (depth : ℕ) (steps : List (ℕ × Kind)) → IsFinished o (run_of_machine o depth steps) → MergeOfRun o depth steps
 
--- steps that filled a full log are all that the worker has to do
+-- steps that filled a full log are, by kind, as many as the worker has to do
 abbrev pub FullLogsAreTold : Type 0
 FullLogsAreTold =
     (o : Outline) (w : ℕ) (log : Log) (kept : List Kept)

@@ -41,7 +41,7 @@ pub record KeptTellLog (log : Log) (kept : List Kept) : Type 0 where
   pub written : number Write kept ≡ length (filter is_written log.settled)
   pub versions : VersionsAscend kept
 
--- The kept steps are those of a worker that has done all that it has to do
+-- The kept steps are as many of each kind as the worker has to do, but of those that route, receive and exchange, whose number depends on the order of steps; and the versions of its exchanges ascend
 pub record KeptTellFullLog (o : Outline) (w : ℕ) (kept : List Kept) : Type 0 where
   pub ingested : number Ingest kept ≡ length (share o w)
   pub controls : number SendControl kept ≡ length (filter is_ctrl (owed_by o w))
