@@ -1,4 +1,5 @@
 pub mod Ascents
+pub mod Before
 pub mod Gathering
 pub mod Legality
 pub mod Members

@@ -17,7 +17,6 @@ legal_as q job paced legal = record {
   controls_count = legal.controls_count;
   stop = legal.stop;
   saved = legal.saved;
-  until = legal.until;
   from = legal.from;
 }
 

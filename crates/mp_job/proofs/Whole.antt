@@ -1,16 +1,17 @@
 -- The table of a query in a job: it keeps to the job's times, and that of a job that is whole is the query's own.
-use Rattle.std.proofs.Common.{◌≡◌, ℕ, ◌==◌, ◌&&◌, not, Bool, true, false, cond, Option, None, Some, List, [], ◌∷◌, refl, ap, rules, subst}
+use Rattle.std.proofs.Common.{◌≡◌, ℕ, ◌==◌, ◌&&◌, not, Bool, true, false, cond, Option, None, Some, List, [], ◌∷◌, All, refl, ap, rules}
 use Rattle.std.proofs.lemmas.Option.{none-some}
 use Rattle.mp_names.specs.declared.controls.Control.{Control}
 use Rattle.mp_names.specs.declared.controls.First.{First}
 use Rattle.mp_names.specs.declared.controls.Shape.{Shape}
+use Rattle.mp_names.specs.Outlines.{is_before_stop}
 use Rattle.mp_model.specs.declared.record.Event.{Event}
 use Rattle.mp_model.specs.Facts.{JobFacts, QueryFacts, SavedCell, SavedState}
 use Rattle.mp_model.specs.QueryLaws.{BeginsFresh, SavedFits}
 use Rattle.mp_model.specs.Tables.{cell_among, counts, opening_cell, table_of}
 use Rattle.mp_model.specs.Legal.{EventsAreLegal}
-use Rattle.mp_job.specs.Legal.{ControlsFit, FirstsFit, JobIsLegal, KeepsToJob, ShapeIsLegal}
-use Rattle.mp_job.specs.Parts.{job_of}
+use Rattle.mp_job.specs.Legal.{ControlsFit, FirstsFit, JobIsLegal, KeepsToJob, ShapeIsLegal, StopFits}
+use Rattle.mp_job.specs.Parts.{job_of, job_until, table_until}
 
 kept_key : (kept : Bool) (key : Option ℕ) (k : ℕ) → cond (not kept) None key ≡ Some k → kept ≡ true
 kept_key true key k h = refl
@@ -56,23 +57,20 @@ pub whole_table : {Cell : Type 0} (facts : List ℕ → QueryFacts Cell) (vs : L
     → BeginsFresh (facts vs) → table_of facts (job_of vs events controls shape firsts) ≡ facts vs
 whole_table facts vs events controls shape firsts fresh = search rules
 
--- so parts within their limits make a legal job of the query's own table
-pub whole_is_legal : {Cell : Type 0} (facts : List ℕ → QueryFacts Cell) (vs : List ℕ) (events : List Event) (controls : List Control) (shape : Shape) (firsts : List First)
-    → BeginsFresh (facts vs) → ShapeIsLegal shape → shape.stages ≡ (facts vs).stages → EventsAreLegal events → ControlsFit shape controls → FirstsFit shape firsts
-    → JobIsLegal (facts vs) (job_of vs events controls shape firsts)
-whole_is_legal facts vs events controls shape firsts fresh shapes stages legal fit first = record {
+-- parts within their limits, with control records of times before the stop, make a legal job
+pub parts_are_legal : {Cell : Type 0} (facts : List ℕ → QueryFacts Cell) (vs : List ℕ) (events : List Event) (controls : List Control) (shape : Shape) (firsts : List First) (stop : Option ℕ)
+    → ShapeIsLegal shape → shape.stages ≡ (facts vs).stages → EventsAreLegal events → ControlsFit shape controls → FirstsFit shape firsts → StopFits stop
+    → All (λ c. is_before_stop stop c.time ≡ true) controls
+    → JobIsLegal (table_until facts vs stop) (job_until vs events controls shape firsts stop)
+parts_are_legal facts vs events controls shape firsts stop shapes stages legal fit first stops before = record {
   shape = shapes;
   stages = stages;
-  table = subst (λ (q : QueryFacts _). KeepsToJob q job) (whole_table facts vs events controls shape firsts fresh) (tables_keep facts job);
+  table = tables_keep facts (job_until vs events controls shape firsts stop);
   events = legal;
   controls = fit;
   firsts = first;
-  controls_count = λ i d l. refl;
-  stop = tt;
+  controls_count = before;
+  stop = stops;
   saved = tt;
-  until = refl;
   from = refl;
 }
-  where
-    job : JobFacts
-    job = job_of vs events controls shape firsts

@@ -5,11 +5,12 @@ ghost use Rattle.mp_names.specs.Limits.{last_time};
 ghost use Rattle.mp_model.specs.Folds.{times_in};
 ghost use Rattle.mp_model.specs.Legal.{EventsAreLegal};
 ghost use Rattle.mp_model.specs.Stages.{input_records, record_of};
-ghost use Rattle.mp_job.specs.Parts.{shares_of, with_index};
+ghost use Rattle.mp_job.specs.Parts.{shares_of, table_until, with_index};
 ghost use Rattle.mp_job.specs.Times.{AllStandIn, HoldSame};
 
 use crate::posted::Posted;
 use crate::shares::Share;
+use crate::source::Source;
 use mp_model::{Event, PostList, Query, Rec, Tag, Time, Value};
 use std::alloc::{AllocError, Global};
 use std::mem;
@@ -19,7 +20,7 @@ use std::mem;
 /// `AllocError`: no memory.
 pub fn gather<Q: Query>(
     alloc: Global,
-    query: &Q,
+    source: &Source<Q>,
     events: &mut [Event],
     shares: &mut [Share],
     times: &mut Vec<Time>,
@@ -27,17 +28,17 @@ pub fn gather<Q: Query>(
     requires legal { EventsAreLegal events.old }
     requires some_worker { 0 < length shares.old }
     requires empty { shares.old ≡ map (λ _. []) (range_with_len 0 (length shares.old)) }
-    ensures shares { OnOk result (shares.new ≡ shares_of (Q.facts (Q.values query.now)) events.old (length shares.old)) }
-    ensures times { let q = Q.facts (Q.values query.now) in
+    ensures shares { OnOk result (shares.new ≡ shares_of (table_until Q.facts (Q.values source.now.query) source.now.stop) events.old (length shares.old)) }
+    ensures times { let q = table_until Q.facts (Q.values source.now.query) source.now.stop in
         OnOk result (HoldSame times.new.items (times.old.items ++ times_in q 0 (input_records q events.old))) }
-    ensures posts { let q = Q.facts (Q.values query.now) in
+    ensures posts { let q = table_until Q.facts (Q.values source.now.query) source.now.stop in
         IfOk result (λ posts. HoldSame posts.items (flat_map (q.posts 0) (input_records q events.old))) }
     ensures events { events.new ≡ events.old }
 {
     let mut posted = Posted::new(alloc);
     for index in 0..events.len() {
         take_in(
-            query,
+            source,
             index as u32,
             &mut events[index],
             shares,
@@ -52,7 +53,7 @@ pub fn gather<Q: Query>(
 // posts only if they differ from those that were added last, which are given. The event's value is the record's
 // meanwhile, so that it isn't copied.
 fn take_in<Q: Query>(
-    query: &Q,
+    source: &Source<Q>,
     index: u32,
     event: &mut Event,
     shares: &mut [Share],
@@ -63,15 +64,15 @@ fn take_in<Q: Query>(
     requires some_worker { 0 < length shares.old }
     requires posted { AllStandIn posted.old.last times.old.items }
     ensures shares { OnOk result (shares.new ≡
-        (if is_some (record_of (Q.facts (Q.values query.now)) index event.old) then with_index index shares.old else shares.old)) }
-    ensures times { let q = Q.facts (Q.values query.now) in
+        (if is_some (record_of (table_until Q.facts (Q.values source.now.query) source.now.stop) index event.old) then with_index index shares.old else shares.old)) }
+    ensures times { let q = table_until Q.facts (Q.values source.now.query) source.now.stop in
         OnOk result (HoldSame times.new.items (times.old.items ++ times_in q 0 (option_to_list (record_of q index event.old)))) }
-    ensures posts { let q = Q.facts (Q.values query.now) in
+    ensures posts { let q = table_until Q.facts (Q.values source.now.query) source.now.stop in
         OnOk result (HoldSame posted.new.times (posted.old.times ++ flat_map (q.posts 0) (option_to_list (record_of q index event.old)))) }
     ensures posted { OnOk result (AllStandIn posted.new.last times.new.items) }
     ensures event { event.new ≡ event.old }
 {
-    let Some(key) = query.key(0, event.time, &event.value) else {
+    let Some(key) = source.key(event) else {
         return Ok(());
     };
     let rec = Rec {
@@ -80,7 +81,7 @@ fn take_in<Q: Query>(
         tag: Tag(0, u64::from(index)),
         value: mem::replace(&mut event.value, no_value()),
     };
-    let posts = query.posts(0, &rec);
+    let posts = source.query.posts(0, &rec);
     event.value = rec.value;
     add_index(shares, index)?;
     add_time(event.time, times)?;

@@ -1,27 +1,41 @@
 //! A query with its events, its control records and its shape.
-ghost use Rattle.std.specs.Prelude.{◌≡◌, ◌<◌, [], IfOk, IsSome, Some, length};
+ghost use Rattle.std.specs.Prelude.{◌≡◌, ◌↔◌, ◌<◌, ◌≤◌, [], All, IfOk, IsSome, IsTrue, Some, filter, length, nat_lt, true};
+ghost use Rattle.mp_names.specs.Limits.{greatest_time};
+ghost use Rattle.mp_names.specs.Outlines.{IsBeforeStop, is_before_stop};
 ghost use Rattle.mp_model.specs.Legal.{EventsAreLegal};
 ghost use Rattle.mp_model.specs.Tables.{table_of};
 ghost use Rattle.mp_bins.specs.Notes.{first_owner};
-ghost use Rattle.mp_job.specs.Legal.{ControlsFit, FirstsFit, JobIsLegal, ShapeIsLegal};
-ghost use Rattle.mp_job.specs.Parts.{job_of};
+ghost use Rattle.mp_job.specs.Legal.{ControlsFit, FirstsFit, JobIsLegal, ShapeIsLegal, StopFits};
+ghost use Rattle.mp_job.specs.Parts.{job_of, job_until};
 ghost use Rattle.mp_job.specs.Records.{record_at, share_of};
 ghost use Rattle.mp_job.specs.Times.{post_times_of, times_of};
 
 use crate::gather::gather;
 use crate::records::record_of;
 use crate::shares::{Share, empty_shares};
-use crate::times::{add_control_times, put_in_order};
+use crate::source::Source;
+use crate::times::{add_control_times, before, put_in_order};
 use mp_bins::FirstOwners;
 use mp_model::{Control, Event, First, Query, Rec, Shape, Time};
 use std::alloc::{AllocError, Global};
 use std::marker::Model;
 
+/// The lists that a job is made of.
+#[derive(Drop)]
+pub struct JobInputs {
+    /// In the order of the event file.
+    pub events: Vec<Event>,
+    /// In the order of the control list.
+    pub controls: Vec<Control>,
+    /// The first owners that aren't the usual ones.
+    pub firsts: Vec<First>,
+}
+
 /// A query with its events, its control records and its shape; and, made from them once, the share of each worker
 /// and the times at which something happens. Contracts see what is told of the job, a `JobFacts`.
 #[derive(Drop)]
 pub struct Job<Q: Query> {
-    query: Q,
+    source: Source<Q>,
     events: Vec<Event>,
     controls: Vec<Control>,
     // With how many workers, bins and stages it has.
@@ -35,14 +49,14 @@ pub struct Job<Q: Query> {
 impl<Q: Query> Model for Job<Q> {
     ghost use Rattle.mp_model.specs.Facts.{JobFacts};
     ghost use Rattle.mp_model.specs.Tables.{table_of};
-    ghost use Rattle.mp_job.specs.Parts.{HoldsParts, job_of};
+    ghost use Rattle.mp_job.specs.Parts.{HoldsParts, job_until};
 
     ghost Value = { JobFacts };
 
-    ghost view = { λ j. job_of (Q.values j.query) j.events.items j.controls.items j.owners.shape j.owners.firsts };
+    ghost view = { λ j. job_until (Q.values j.source.query) j.events.items j.controls.items j.owners.shape j.owners.firsts j.source.stop };
 
     ghost invariant = { λ j.
-        let job = job_of (Q.values j.query) j.events.items j.controls.items j.owners.shape j.owners.firsts in
+        let job = job_until (Q.values j.source.query) j.events.items j.controls.items j.owners.shape j.owners.firsts j.source.stop in
         HoldsParts (table_of Q.facts job) job j.shares.items j.times.items j.post_times };
 }
 
@@ -69,7 +83,7 @@ impl<Q: Query> Job<Q> {
     pub fn with_firsts(
         alloc: Global,
         query: Q,
-        mut events: Vec<Event>,
+        events: Vec<Event>,
         controls: Vec<Control>,
         shape: Shape,
         firsts: Vec<First>,
@@ -81,16 +95,72 @@ impl<Q: Query> Job<Q> {
         requires firsts { FirstsFit shape firsts.items }
         ensures { IfOk result (λ job. job ≡ job_of (Q.values query) events.items controls.items shape firsts.items) }
     {
+        let source = Source { query, stop: None };
+        let inputs = JobInputs {
+            events,
+            controls,
+            firsts,
+        };
+        Job::build(alloc, source, inputs, shape)
+    }
+
+    /// A job of these lists that stops at a time, from 1 to 2^47: events of that time or a later one make no record, and it
+    /// has the control records of earlier times alone. `AllocError`: no memory.
+    pub fn until(
+        alloc: Global,
+        query: Q,
+        inputs: JobInputs,
+        shape: Shape,
+        time: Time,
+    ) -> Result<Job<Q>, AllocError>
+        requires shape { ShapeIsLegal shape }
+        requires stages { shape.stages ≡ (Q.facts (Q.values query)).stages }
+        requires events { EventsAreLegal inputs.events.items }
+        requires controls { ControlsFit shape inputs.controls.items }
+        requires firsts { FirstsFit shape inputs.firsts.items }
+        requires time { (1 ≤ time) × (time ≤ greatest_time) }
+        ensures { let controls = filter (λ c. nat_lt c.time time) inputs.controls.items in
+            IfOk result (λ job. job ≡ record (job_of (Q.values query) inputs.events.items controls shape inputs.firsts.items) { until = Some time }) }
+    {
+        let stop = Some(time);
+        let inputs = JobInputs {
+            controls: before(inputs.controls, time),
+            ..inputs
+        };
+        Job::build(alloc, Source { query, stop }, inputs, shape)
+    }
+
+    // A job of lists whose control records are before the stop time, where there is one. `AllocError`: no memory.
+    fn build(
+        alloc: Global,
+        source: Source<Q>,
+        inputs: JobInputs,
+        shape: Shape,
+    ) -> Result<Job<Q>, AllocError>
+        requires shape { ShapeIsLegal shape }
+        requires stages { shape.stages ≡ (Q.facts (Q.values source.query)).stages }
+        requires events { EventsAreLegal inputs.events.items }
+        requires controls { ControlsFit shape inputs.controls.items }
+        requires firsts { FirstsFit shape inputs.firsts.items }
+        requires stop { StopFits source.stop }
+        requires before { All (λ c. is_before_stop source.stop c.time ≡ true) inputs.controls.items }
+        ensures { IfOk result (λ job. job ≡ job_until (Q.values source.query) inputs.events.items inputs.controls.items shape inputs.firsts.items source.stop) }
+    {
+        let JobInputs {
+            mut events,
+            controls,
+            firsts,
+        } = inputs;
         let owners = FirstOwners::new(alloc, shape, firsts.as_slice())?;
         let mut shares = empty_shares(alloc, shape.workers)?;
         let mut times = Vec::new(alloc);
-        let mut posts = gather(alloc, &query, &mut events, &mut shares, &mut times)?;
+        let mut posts = gather(alloc, &source, &mut events, &mut shares, &mut times)?;
         put_in_order(&mut posts);
         add_control_times(&controls, &mut times)?;
         put_in_order(&mut times);
         times.shrink_to_fit();
         Ok(Job {
-            query,
+            source,
             events,
             controls,
             owners,
@@ -104,7 +174,7 @@ impl<Q: Query> Job<Q> {
     pub fn query(&self) -> &Q
         ensures { Q.values result.now ≡ self.now.values }
     {
-        &self.query
+        &self.source.query
     }
 
     /// Its events, in the order of the event file.
@@ -136,6 +206,20 @@ impl<Q: Query> Job<Q> {
         self.owners.of(stage, bin)
     }
 
+    /// The time that it stops at, from 1 to 2^47, if it stops early: nothing of that time or a later one counts.
+    pub fn stop_time(&self) -> Option<Time>
+        ensures { result ≡ self.now.until }
+    {
+        self.source.stop
+    }
+
+    /// Whether a time is before the stop time, where there is one.
+    pub fn is_before_stop(&self, time: Time) -> bool
+        ensures { IsTrue result ↔ IsBeforeStop self.now.until time }
+    {
+        self.source.is_before_stop(time)
+    }
+
     /// How many workers, bins and stages it has.
     pub fn shape(&self) -> Shape
         ensures shape { result ≡ self.now.shape }
@@ -158,7 +242,7 @@ impl<Q: Query> Job<Q> {
         requires { IsSome (record_at (table_of Q.facts self.now) self.now.events index) }
         ensures { IfOk result (λ rec. record_at (table_of Q.facts self.now) self.now.events index ≡ Some rec) }
     {
-        match record_of(&self.query, index, &self.events[index as usize])? {
+        match record_of(&self.source, index, &self.events[index as usize])? {
             Some(rec) => Ok(rec),
             None => unreachable!(),
         }

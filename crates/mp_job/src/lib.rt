@@ -10,9 +10,10 @@ mod laws;
 mod posted;
 mod records;
 mod shares;
+mod source;
 mod times;
 
-pub use job::Job;
+pub use job::{Job, JobInputs};
 pub use laws::{shares_hold_each_record_once, times_are_ascending};
 pub use mp_model::{Control, Event, First, Query, Rec, Shape, Time};
 pub use times::put_in_order;

@@ -2,16 +2,22 @@
 ghost use Rattle.std.specs.Prelude.{◌≡◌, ◌≤◌, IfOk};
 ghost use Rattle.mp_names.specs.Limits.{last_time};
 ghost use Rattle.mp_model.specs.Stages.{record_of};
+ghost use Rattle.mp_job.specs.Parts.{table_until};
 
+use crate::source::Source;
 use mp_model::{Event, Query, Rec, Tag};
 use std::alloc::AllocError;
 
-/// The record of the event of this index, if its value has a key in stage 0. `AllocError`: no memory for its value.
-pub fn record_of<Q: Query>(query: &Q, index: u32, event: &Event) -> Result<Option<Rec>, AllocError>
+/// The record of the event of this index, if it makes one. `AllocError`: no memory for its value.
+pub fn record_of<Q: Query>(
+    source: &Source<Q>,
+    index: u32,
+    event: &Event,
+) -> Result<Option<Rec>, AllocError>
     requires { event.now.time ≤ last_time }
-    ensures { IfOk result (λ rec. rec ≡ record_of (Q.facts (Q.values query.now)) index event.now) }
+    ensures { IfOk result (λ rec. rec ≡ record_of (table_until Q.facts (Q.values source.now.query) source.now.stop) index event.now) }
 {
-    match query.key(0, event.time, &event.value) {
+    match source.key(event) {
         Some(key) => Ok(Some(Rec {
             time: event.time,
             key,

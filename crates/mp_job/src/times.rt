@@ -1,5 +1,5 @@
 //! The times at which something happens.
-ghost use Rattle.std.specs.Prelude.{◌≡◌, ◌++◌, OnOk};
+ghost use Rattle.std.specs.Prelude.{◌≡◌, ◌++◌, OnOk, filter, nat_lt};
 ghost use Rattle.mp_model.specs.Ascending.{ascending};
 ghost use Rattle.mp_job.specs.Times.{control_times};
 
@@ -22,4 +22,12 @@ pub fn put_in_order(times: &mut Vec<Time>)
 {
     times.sort_unstable();
     times.dedup();
+}
+
+/// The control records of earlier times than this, in their order.
+pub fn before(mut controls: Vec<Control>, time: Time) -> Vec<Control>
+    ensures { result.items ≡ filter (λ c. nat_lt c.time time) controls.items }
+{
+    controls.retain(|control| control.time < time);
+    controls
 }

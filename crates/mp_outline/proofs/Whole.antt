@@ -1,9 +1,8 @@
--- For the time being every job is whole: it has no stop time, its keys begin with fresh cells, and nothing is to be woken.
-use Rattle.std.proofs.Common.{◌≡◌, ℕ, nat_lt, Bool, true, false, cond, Option, List, [], map, refl, sym, ap, ◌∙◌, subst}
+-- For the time being no job goes on from a saved state: its keys begin with fresh cells, and nothing is to be woken.
+use Rattle.std.proofs.Common.{◌≡◌, ℕ, nat_lt, Bool, true, false, cond, Option, List, [], map, refl, ap, ◌∙◌, subst}
 use Rattle.std.proofs.lemmas.Bool.{false≢true}
 use Rattle.mp_names.specs.declared.names.Name.{Name}
 use Rattle.mp_names.specs.Names.{In}
-use Rattle.mp_names.specs.Outlines.{IsBeforeStop}
 use Rattle.mp_model.specs.Facts.{JobFacts, QueryFacts, SavedState}
 use Rattle.mp_model.specs.Tables.{opening_cell, opening_wakes}
 use Rattle.mp_job.specs.Legal.{JobIsLegal}
@@ -18,10 +17,6 @@ abbrev pub NothingOpens : {Cell : Type 0} → QueryFacts Cell → JobFacts → T
 NothingOpens q job = (j : ℕ) (x : Name) → In x (opening_names q job j) → ⊥
 
 module _ {Cell : Type 0} (q : QueryFacts Cell) (job : JobFacts) (legal : JobIsLegal q job) where
-  -- no time is too late
-  pub never_stops : (t : ℕ) → IsBeforeStop job.until t
-  never_stops t = subst (λ (stop : Option ℕ). IsBeforeStop stop t) (sym legal.until) tt
-
   -- a key begins with a fresh cell
   pub begins_fresh : (j k : ℕ) → q.opening j k ≡ q.fresh j
   begins_fresh j k = legal.table.opening j k ∙ ap (λ (from : Option SavedState). opening_cell q from j k) legal.from
