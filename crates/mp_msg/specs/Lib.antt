@@ -1,5 +1,6 @@
 -- What the contracts of this crate cite.
 pub mod States
+pub mod LastStates
 pub mod Contents
 pub mod Bundles
 pub mod Bodies
