@@ -19,3 +19,4 @@ pub mod Unmade
 pub mod Written
 pub mod Begun
 pub mod Counted
+pub mod LastStates

@@ -2,6 +2,7 @@
 pub mod Journals
 pub mod Driven
 pub mod Kept
+pub mod Last
 pub mod Ownership
 pub mod Pacing
 pub mod Refused

@@ -5,6 +5,7 @@
 #![tactic(auto)]
 
 mod journals;
+mod last;
 mod list;
 mod ownership;
 mod pacing;

@@ -3,7 +3,7 @@ use Rattle.std.proofs.Common.{◌≡◌, ◌≢◌, ◌<◌, ℕ, suc, ◌==◌,
 use Rattle.std.proofs.lemmas.Bool.{and_parts, cond-true, eqb-true}
 use Rattle.std.proofs.lemmas.List.{drop_at, get_or_at, take_at}
 use Rattle.std.proofs.lemmas.List.Elements.{All-append, All-cons, All-contains, All-drop, All-take}
-use Rattle.mp_names.specs.Outlines.{is_before_stop}
+use Rattle.mp_names.specs.Outlines.{IsBeforeStop, is_before_stop}
 use Rattle.mp_names.proofs.Listed.{before_stop-from}
 use Rattle.mp_bins.specs.Bins.{bin_of_key}
 use Rattle.mp_model.specs.declared.record.Rec.{Rec}
@@ -11,10 +11,8 @@ use Rattle.mp_model.specs.Entry.{Entry}
 use Rattle.mp_model.specs.Facts.{JobFacts, QueryFacts}
 use Rattle.mp_model.specs.Stages.{stage_records}
 use Rattle.mp_model.specs.Tables.{table_of}
-use Rattle.mp_job.specs.Legal.{JobIsLegal}
 use Rattle.mp_job.proofs.Members.{Contains-filter, Contains-flat_map}
 use Rattle.mp_outline.proofs.Found.{found}
-use Rattle.mp_outline.proofs.Whole.{never_stops}
 use Rattle.mp_msg.specs.Contents.{IsRecordOf}
 use Rattle.mp_postdated.specs.Wakes.{Has, IsWake}
 use Rattle.mp_host_laws.specs.declared.held.Held.{Held}
@@ -61,12 +59,9 @@ module _ {Cell : Type 0} (facts : List ℕ → QueryFacts Cell) (job : JobFacts)
     how = state_stepped stepped.one stepped.changed stepped.how;
   }
 
--- a group that is of no time too late gives what the query says
-pub gives_all : {Cell : Type 0} (facts : List ℕ → QueryFacts Cell) (job : JobFacts) → JobIsLegal (table_of facts job) job → (j : ℕ) (cell : Cell) (e : Entry)
-    → (table_of facts job).gives j cell e ≡ (facts job.values).gives j cell e
-gives_all facts job legal j cell e =
-    let given = (facts job.values).gives j cell e in
-    cond-true (is_before_stop job.until e.time) given [] (before_stop-from job.until e.time (never_stops (table_of facts job) job legal e.time))
+-- a group that is before the stop time gives what the query says
+pub gives_all : {Cell : Type 0} (facts : List ℕ → QueryFacts Cell) (job : JobFacts) (j : ℕ) (cell : Cell) (e : Entry) → IsBeforeStop job.until e.time → (table_of facts job).gives j cell e ≡ (facts job.values).gives j cell e
+gives_all facts job j cell e early = cond-true (is_before_stop job.until e.time) ((facts job.values).gives j cell e) [] (before_stop-from job.until e.time early)
 
 -- so what is stepped is what the host has
 pub stepped_here : {Cell : Type 0} (q : QueryFacts Cell) (h : Hosted Cell) (t k : ℕ) (states : States Cell) {bins : ℕ} → states.bins ≡ bins

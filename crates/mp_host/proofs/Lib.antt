@@ -12,3 +12,4 @@ pub mod Grouped
 pub mod Moved
 pub mod Several
 pub mod FirstWakes
+pub mod LastStates

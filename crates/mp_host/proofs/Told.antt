@@ -112,10 +112,10 @@ module _ {Cell : Type 0} (q : QueryFacts Cell) (job : JobFacts) (keeps : QueryKe
     module _ (seen : Seen) (notes : Notes) where
       -- a group that is ready here is whole
       pub whole_here : (t k : ℕ) → IsReadyHere job seen notes h t k → (log : Log) × HostMatchesLogAndSeen q job log seen h × OwnersAreCurrent q job notes seen h.stage → IsWholeHere q job h t k
-      whole_here t k ready told = (whole_law hosted.legal told.0 seen h t k hosted.order told.1 hosted.stage hosted.worker ready.first ready.mail ready.state).1
+      whole_here t k ready told = (whole_law hosted.legal told.0 seen h t k hosted.order told.1 hosted.stage hosted.worker ready.first ready.mail ready.state ready.early).1
 
       ready_by_log : (log : Log) → HostMatchesLogAndSeen q job log seen h → (t k : ℕ) → IsReadyHere job seen notes h t k → IsReadyAt q job log seen h t k
-      ready_by_log log informed t k ready = (whole_law hosted.legal log seen h t k hosted.order informed hosted.stage hosted.worker ready.first ready.mail ready.state).0
+      ready_by_log log informed t k ready = (whole_law hosted.legal log seen h t k hosted.order informed hosted.stage hosted.worker ready.first ready.mail ready.state ready.early).0
 
 -- of two groups of a stage the first by time, and then by key, is the lesser
 earlier_less : (j t k u l : ℕ) → t < u → Less (Group j t k) (Group j u l)
@@ -166,6 +166,7 @@ module _ {Cell : Type 0} (q : QueryFacts Cell) (job : JobFacts) (keeps : QueryKe
     mail = ready.mail;
     state = ready.state;
     owned = knows.owners t (bin_of_key k job.shape.bins) ready.state ∙ ready.in_hand.0;
+    early = ready.early;
   }
 
   -- a group that is ready here is just the one that is ready by the log

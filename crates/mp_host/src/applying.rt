@@ -1,6 +1,7 @@
 //! The application of the group that is ready.
 ghost use Rattle.std.specs.Prelude.{◌≡◌, ℕ, Some, true, filter, not, IfNone, IfOk, IsSome, OnErr, OnOk};
 ghost use Rattle.mp_names.specs.Logs.{Log};
+ghost use Rattle.mp_names.specs.Outlines.{IsBeforeStop};
 ghost use Rattle.mp_bins.specs.Bins.{bin_of_key};
 ghost use Rattle.mp_model.specs.Ascending.{ascending};
 ghost use Rattle.mp_model.specs.Folds.{cell_before};
@@ -24,9 +25,10 @@ use mp_stamps::Seen;
 use std::alloc::{AllocError, Global};
 
 impl<'a, Q: Query, J: Naming> Host<'a, Q, J> {
-    /// Applies the group that may be applied; `None` exactly where there is none, and then nothing changes. This worker's
-    /// log says what the host holds, all that was seen to be over is done in it, and the owners are noted as far as the
-    /// frontier of packets has passed. `AllocError`: no memory, and nothing changes.
+    /// Applies the group that may be applied, which is before the job's stop time (`ready`); `None` exactly where there is
+    /// none, and then nothing changes. This worker's log says what the host holds, all that was seen to be over is done in
+    /// it, and the owners are noted as far as the frontier of packets has passed. `AllocError`: no memory, and nothing
+    /// changes.
     pub fn apply(
         &mut self,
         alloc: Global,
@@ -63,7 +65,8 @@ impl<'a, Q: Query, J: Naming> Host<'a, Q, J> {
         Ok(Some(self.apply_first(alloc, time, key)?))
     }
 
-    // Applies the first group, whose bin is in hand, where the sums and counts of its key's cell with it fit their types.
+    // Applies the first group, which is before the stop time and whose bin is in hand, where the sums and counts of its key's
+    // cell with it fit their types.
     pub(crate) fn apply_first(
         &mut self,
         alloc: Global,
@@ -71,6 +74,7 @@ impl<'a, Q: Query, J: Naming> Host<'a, Q, J> {
         key: u64,
     ) -> Result<Applied, AllocError>
         requires first { first_group self.old ≡ Some (time, key) }
+        requires early { IsBeforeStop J.job.until time }
         requires in_hand { IsSome (state_at self.old (bin_of_key key J.job.shape.bins) time) }
         requires fits { let q = table_of Q.facts J.job in let h = self.old in
             q.fits h.stage (cell_at (q.fresh h.stage) J.job.shape.bins h time key) (group_here h time key) ≡ true }
@@ -114,8 +118,8 @@ impl<'a, Q: Query, J: Naming> Host<'a, Q, J> {
         Ok(list)
     }
 
-    // Steps the state of the bin of the first group's key. The group's records and its wake are used up, and the posts are
-    // wakes.
+    // Steps the state of the bin of the first group's key. The group is before the stop time: its records and its wake are used
+    // up, and the posts are wakes.
     fn step(
         &mut self,
         alloc: Global,
@@ -124,6 +128,7 @@ impl<'a, Q: Query, J: Naming> Host<'a, Q, J> {
         posts: &[Time],
     ) -> Result<Vec<Value>, AllocError>
         requires first { first_group self.old ≡ Some (time, key) }
+        requires early { IsBeforeStop J.job.until time }
         requires in_hand { IsSome (state_at self.old (bin_of_key key J.job.shape.bins) time) }
         requires fits { let q = table_of Q.facts J.job in let h = self.old in
             q.fits h.stage (cell_at (q.fresh h.stage) J.job.shape.bins h time key) (group_here h time key) ≡ true }

@@ -9,6 +9,7 @@ mod applying;
 mod counting;
 mod groups;
 mod host;
+mod last;
 mod moving;
 mod order;
 mod reading;

@@ -18,8 +18,8 @@ use mp_stamps::Seen;
 
 impl<'a, Q: Query, J: Naming> Host<'a, Q, J> {
     /// The time and key of the group that may be applied, `None` exactly where there is none: the first that waits, once
-    /// the frontiers of records and of packets have passed its time (as Naiad's notifications) and its bin is this
-    /// worker's then.
+    /// the frontiers of records and of packets have passed its time (as Naiad's notifications), where its bin is this
+    /// worker's then and its time is before the job's stop time. From the stop time on groups wait for ever.
     pub fn ready(&self, seen: &Seen, owners: &Owners) -> Option<(Time, u64)>
         requires { owners.now.layout ≡ layout_of J.job }
         ensures some { IfSome result (λ g. IsReadyHere J.job seen.now owners.now self.now g.0 g.1) }
@@ -39,7 +39,9 @@ impl<'a, Q: Query, J: Naming> Host<'a, Q, J> {
         ensures hosted { IsHosted (table_of Q.facts J.job) J.job J.job self.now }
     {
         let (time, key) = self.first()?;
-        let is_ready = all_has_come(seen, self.stage, time) && self.owns(owners, time, key);
+        let is_ready = all_has_come(seen, self.stage, time)
+            && self.owns(owners, time, key)
+            && self.job.is_before_stop(time);
         if is_ready { Some((time, key)) } else { None }
     }
 

@@ -16,8 +16,11 @@ pub mod Whole
 pub mod Applied
 pub mod Untaken
 pub mod Coming
+pub mod Resting
 pub mod Leaving
 pub mod Returned
 pub mod MovingTold
 pub mod Wakes
 pub mod WakeTimes
+pub mod Ends
+pub mod LastStates

@@ -7,7 +7,7 @@ use Rattle.std.proofs.lemmas.List.Sums.{take_while-cons}
 use Rattle.mp_names.specs.declared.locations.Loc.TheVariants.{Mail, State}
 use Rattle.mp_names.specs.declared.names.Name.TheVariants.{Rec as RecName, Packet, Group}
 use Rattle.mp_names.specs.Names.{has, In, is_before, IsLeast}
-use Rattle.mp_names.specs.Outlines.{OutlineIsSound, groups_of}
+use Rattle.mp_names.specs.Outlines.{IsBeforeStop, OutlineIsSound, groups_of}
 use Rattle.mp_names.specs.Logs.{Log, LogIsLegal, has_wake}
 use Rattle.mp_names.specs.Frontiers.{HasPassed}
 use Rattle.mp_names.specs.Keeping.{GroupIsWhole, IsWaiting}
@@ -258,13 +258,13 @@ module _ {Cell : Type 0} (q : QueryFacts Cell) (job : JobFacts) (sound : Outline
   pub unapplied_here : has log.applied (Group h.stage t k) ≡ false
   unapplied_here = pending_new (outline_of q job) h.worker log h.stage t k least_here.0.1
 
-  pub ready_here : IsReadyAt q job log seen h t k
-  ready_here = record { least = least_here; mail = mail; state = state; in_hand = full_here.bin_in_hand }
+  pub ready_here : IsBeforeStop job.until t → IsReadyAt q job log seen h t k
+  ready_here early = record { least = least_here; mail = mail; state = state; in_hand = full_here.bin_in_hand; early = early }
 
 module _ {Cell : Type 0} (q : QueryFacts Cell) (nothing : LaterStagesPostNothing q) (job : JobFacts) (fit : FoldsFit q job.events) (legal : JobIsLegal q job) (sound : OutlineIsSound (outline_of q job)) (opens : NothingOpens q job) where
   pub first_is_whole : FirstIsWhole q job
-  first_is_whole log seen h t k denotes informed below inside first mail state =
+  first_is_whole log seen h t k denotes informed below inside first mail state early =
       let full = full_here q job sound opens log seen h t k denotes informed below first mail state in
       let least = least_here q job sound opens log seen h t k denotes informed below first mail state in
       let unapplied = unapplied_here q job sound opens log seen h t k denotes informed below first mail state in
-      (ready_here q job sound opens log seen h t k denotes informed below first mail state, is_whole_here q nothing job sound opens log h t k informed.host informed.legal denotes below full unapplied least.0.0 fit legal)
+      (ready_here q job sound opens log seen h t k denotes informed below first mail state early, is_whole_here q nothing job sound opens log h t k informed.host informed.legal denotes below full unapplied least.0.0 fit legal)

@@ -3,7 +3,7 @@ use Rattle.std.specs.Prelude.{◌≡◌, ◌≢◌, ◌↔◌, ◌⊎◌, ◌<�
 use Rattle.mp_names.specs.declared.locations.Loc.TheVariants.{Mail, State}
 use Rattle.mp_names.specs.declared.names.Name.TheVariants.{Packet, Group}
 use Rattle.mp_names.specs.Names.{has, In, IsLeast}
-use Rattle.mp_names.specs.Outlines.{Outline, IsOwedBy, owner_at}
+use Rattle.mp_names.specs.Outlines.{IsBeforeStop, Outline, IsOwedBy, owner_at}
 use Rattle.mp_names.specs.Logs.{Log, LogIsLegal, InHand, left_since}
 use Rattle.mp_names.specs.Frontiers.{HasPassed}
 use Rattle.mp_names.specs.Keeping.{IsWaiting}
@@ -72,9 +72,10 @@ module _ {Cell : Type 0} (q : QueryFacts Cell) (job : JobFacts) where
     pub shape : notes.layout.shape ≡ job.shape
     pub owners : (t b : ℕ) → HasPassed (seen_at seen (State stage)) t → noted_owner notes stage b t ≡ owner_at (outline_of q job) stage b t
 
-  -- the group of this key at this time can be applied: it is the least that waits, all records and packets up to its time have come, and its bin is in hand
+  -- the group of this key at this time can be applied: it is the least that waits, all records and packets up to its time have come, its bin is in hand, and its time is before the stop time, where there is one
   pub record IsReadyAt (log : Log) (seen : Seen) (h : Hosted Cell) (t k : ℕ) : Type 0 where
     pub least : IsLeast (IsWaiting (outline_of q job) h.worker log h.stage) (Group h.stage t k)
     pub mail : HasPassed (seen_at seen (Mail h.stage)) t
     pub state : HasPassed (seen_at seen (State h.stage)) t
     pub in_hand : InHand (outline_of q job) h.worker log h.stage ((outline_of q job).bin_of k) t
+    pub early : IsBeforeStop job.until t

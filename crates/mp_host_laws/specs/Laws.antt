@@ -3,7 +3,7 @@ use Rattle.std.specs.Prelude.{◌≡◌, ◌↔◌, ℕ, ◌<◌, true, false, C
 use Rattle.mp_names.specs.declared.locations.Loc.TheVariants.{Mail, State}
 use Rattle.mp_names.specs.declared.names.Name.TheVariants.{Group, Packet}
 use Rattle.mp_names.specs.Names.{has, In, IsLeast}
-use Rattle.mp_names.specs.Outlines.{IsOwedBy, IsOwedTo, groups_of}
+use Rattle.mp_names.specs.Outlines.{IsBeforeStop, IsOwedBy, IsOwedTo, groups_of}
 use Rattle.mp_names.specs.Logs.{Log, LogIsLegal, empty_log, is_pending, with_applied, with_sent, with_took}
 use Rattle.mp_names.specs.Frontiers.{HasPassed, number_at}
 use Rattle.mp_names.specs.Keeping.{IsWaiting}
@@ -58,7 +58,7 @@ module _ {Cell : Type 0} (q : QueryFacts Cell) (job : JobFacts) where
     pub cell : cell_at (q.fresh h.stage) job.shape.bins h t k ≡ cell_before q h.stage (stage_records q job.events h.stage) k t
     pub fits : q.fits h.stage (cell_at (q.fresh h.stage) job.shape.bins h t k) (group_here h t k) ≡ true
 
-  -- the first group that waits here is ready, and whole, once the frontiers of records and packets have passed its time
+  -- the first group that waits here is ready, and whole, once the frontiers of records and packets have passed its time, where that is before the stop time
   abbrev pub FirstIsWhole : Type 0
   FirstIsWhole =
       (log : Log) (seen : Seen) (h : Hosted Cell) (t k : ℕ)
@@ -69,6 +69,7 @@ module _ {Cell : Type 0} (q : QueryFacts Cell) (job : JobFacts) where
       → first_group h ≡ Some (t, k)
       → HasPassed (seen_at seen (Mail h.stage)) t
       → HasPassed (seen_at seen (State h.stage)) t
+      → IsBeforeStop job.until t
       → IsReadyAt q job log seen h t k × IsWholeHere h t k
 
   -- a host that applies a group that is ready holds what the log says with that group applied

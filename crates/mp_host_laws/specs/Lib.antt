@@ -4,3 +4,4 @@ pub mod Applying
 pub mod Moving
 pub mod HostOf
 pub mod Laws
+pub mod Last

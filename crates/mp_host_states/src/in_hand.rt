@@ -68,6 +68,14 @@ impl<C: Drop> InHand<C> {
         &self.held
     }
 
+    /// They themselves, by value.
+    pub fn into_states(self) -> Vec<Held<C>>
+        ensures { result.items ≡ self.held }
+    {
+        let InHand { held, .. } = self;
+        held
+    }
+
     /// Makes room for one more. `AllocError`: no memory, and nothing is in hand that wasn't.
     pub fn make_room(&mut self) -> Result<(), AllocError>
         ensures room { OnOk result (1 ≤ self.new.room) }

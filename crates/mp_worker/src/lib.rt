@@ -9,6 +9,7 @@ mod finished;
 mod keeping;
 mod kinds;
 mod known;
+mod last;
 mod plan;
 mod start;
 mod step;

@@ -6,7 +6,7 @@ use Rattle.mp_names.specs.declared.locations.Loc.TheVariants.{CtlMail, Host, Out
 use Rattle.mp_names.specs.declared.names.Name.{Name}
 use Rattle.mp_names.specs.declared.names.Name.TheVariants.{Ctrl, Packet, Group, Settled, Written}
 use Rattle.mp_names.specs.Names.{In, IsLeast, is_ctrl}
-use Rattle.mp_names.specs.Outlines.{IsBeforeStop, IsOwedBy, OutlineIsSound, time_of}
+use Rattle.mp_names.specs.Outlines.{IsOwedBy, OutlineIsSound, time_of}
 use Rattle.mp_names.specs.Logs.{InHand, InHandBefore}
 use Rattle.mp_names.specs.Frontiers.{HasPassed, HasReached}
 use Rattle.mp_names.specs.Keeping.{IsHeld, IsUnsettled, IsUnwritten, IsWaiting}
@@ -76,16 +76,16 @@ module _ {Cell : Type 0} (q : QueryFacts Cell) (job : JobFacts) (sound : Outline
       form _ least may = may
 
   -- a group that is ready is one that the machine may apply
-  can_apply : (h : Hosted Cell) (t k : ℕ) → h.worker ≡ p.number → IsReadyAt q job p.log p.seen h t k → IsBeforeStop job.until t → CanDo q job p (Apply h.stage) (Group h.stage t k)
-  can_apply h t k own ready early =
+  can_apply : (h : Hosted Cell) (t k : ℕ) → h.worker ≡ p.number → IsReadyAt q job p.log p.seen h t k → CanDo q job p (Apply h.stage) (Group h.stage t k)
+  can_apply h t k own ready =
       let o = outline_of q job in
-      (subst (λ (w : ℕ). IsLeast (IsWaiting o w p.log h.stage) (Group h.stage t k)) own ready.least, (ready.mail, ready.state, subst (λ (w : ℕ). InHand o w p.log h.stage (o.bin_of k) t) own ready.in_hand, early))
+      (subst (λ (w : ℕ). IsLeast (IsWaiting o w p.log h.stage) (Group h.stage t k)) own ready.least, (ready.mail, ready.state, subst (λ (w : ℕ). InHand o w p.log h.stage (o.bin_of k) t) own ready.in_hand, ready.early))
 
   ready_group : (h : Hosted Cell) → h.worker ≡ p.number → (t k : ℕ) → IsLeast (IsWaiting (outline_of q job) p.number p.log h.stage) (Group h.stage t k)
       → MayApply (outline_of q job) p.number (machine_worker p) h.stage (Group h.stage t k) → IsReadyAt q job p.log p.seen h t k
   ready_group h own t k least may =
       let o = outline_of q job in
-      record { least = subst (λ (w : ℕ). IsLeast (IsWaiting o w p.log h.stage) (Group h.stage t k)) (sym own) least; mail = may.0; state = may.1; in_hand = subst (λ (w : ℕ). InHand o w p.log h.stage (o.bin_of k) t) (sym own) may.2 }
+      record { least = subst (λ (w : ℕ). IsLeast (IsWaiting o w p.log h.stage) (Group h.stage t k)) (sym own) least; mail = may.0; state = may.1; in_hand = subst (λ (w : ℕ). InHand o w p.log h.stage (o.bin_of k) t) (sym own) may.2; early = may.3 }
 
   cant_apply : (h : Hosted Cell) → h.worker ≡ p.number → ((t k : ℕ) → IsReadyAt q job p.log p.seen h t k → ⊥) → (x : Name) → CanDo q job p (Apply h.stage) x → ⊥
   cant_apply h own none x can = form x can.0 can.1

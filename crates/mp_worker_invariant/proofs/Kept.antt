@@ -11,7 +11,7 @@ use Rattle.mp_names.specs.Controls.{control_of}
 use Rattle.mp_names.specs.Frontiers.{HasPassed, HasReached}
 use Rattle.mp_names.specs.Keeping.{IsUnsettled}
 use Rattle.mp_names.specs.Names.{has, In, IsLeast, is_ctrl, is_packet, is_rec, is_row}
-use Rattle.mp_names.specs.Outlines.{IsBeforeStop, IsOwedBy, IsOwedTo, Outline, OutlineIsSound}
+use Rattle.mp_names.specs.Outlines.{IsOwedBy, IsOwedTo, Outline, OutlineIsSound}
 use Rattle.mp_names.specs.Logs.{Log, LogIsLegal, with_applied, with_ingested, with_sent, with_settled, with_took}
 use Rattle.mp_names.proofs.Lists.{In_here, In_later}
 use Rattle.mp_machine.specs.Messages.{bundle_of}
@@ -183,10 +183,10 @@ module _ {Cell : Type 0} (q : QueryFacts Cell) (job : JobFacts) (sound : Outline
       → AtEach (set p.hosts j h) (IsHostAt q job p.number (with_took p.log x))
   hosts_took j x h none holds = host_is_new (with_took p.log x) j h holds (λ s apart a. let n = none s.stage apart in hosts.took p.log s x n.0 n.1 a)
 
-  applied_legal : (j t k : ℕ) (old : Hosted Cell) → j < job.shape.stages → IsHostAt q job p.number p.log j old → IsReadyAt q job p.log p.seen old t k → IsBeforeStop job.until t → LogIsLegal (outline_of q job) p.number (with_applied p.log (Group j t k))
-  applied_legal j t k old below at ready early =
+  applied_legal : (j t k : ℕ) (old : Hosted Cell) → j < job.shape.stages → IsHostAt q job p.number p.log j old → IsReadyAt q job p.log p.seen old t k → LogIsLegal (outline_of q job) p.number (with_applied p.log (Group j t k))
+  applied_legal j t k old below at ready =
       let inside : old.stage < job.shape.stages = subst (λ (n : ℕ). n < job.shape.stages) (sym at.0) below in
-      subst (λ (n : ℕ). LogIsLegal (outline_of q job) p.number (with_applied p.log (Group n t k))) at.0 (legal.apply old t k at.1 inside ready early)
+      subst (λ (n : ℕ). LogIsLegal (outline_of q job) p.number (with_applied p.log (Group n t k))) at.0 (legal.apply old t k at.1 inside ready)
 
   -- Bins that move
 
@@ -389,11 +389,11 @@ module _ {Cell : Type 0} (q : QueryFacts Cell) (job : JobFacts) (sound : Outline
           unsent = unsent.took p.log p.unsent x parts.unsent;
           unwritten = holds;
         };
-    apply = λ j t k old new r at ready early below host router.
+    apply = λ j t k old new r at ready below host router.
         let log = with_applied p.log (Group j t k) in
         record {
           worker = parts.worker;
-          legal = applied_legal j t k old (omega arith) at ready early;
+          legal = applied_legal j t k old (omega arith) at ready;
           done = over (Apply j) (Group j t k);
           notes = notes_while log refl;
           controller = controller_while log refl;
@@ -406,11 +406,11 @@ module _ {Cell : Type 0} (q : QueryFacts Cell) (job : JobFacts) (sound : Outline
           unsent = unsent.applied p.log p.unsent j t k (λ e. omega arith) parts.unsent;
           unwritten = unwritten.applied p.log p.unwritten (Group j t k) parts.unwritten;
         };
-    apply_last = λ j t k old new rows at ready early ends host holds.
+    apply_last = λ j t k old new rows at ready ends host holds.
         let log = with_applied p.log (Group j t k) in
         record {
           worker = parts.worker;
-          legal = applied_legal j t k old (omega arith) at ready early;
+          legal = applied_legal j t k old (omega arith) at ready;
           done = over (Apply j) (Group j t k);
           notes = notes_while log refl;
           controller = controller_while log refl;

@@ -10,7 +10,7 @@ use Rattle.mp_names.specs.declared.locations.Loc.{Loc}
 use Rattle.mp_names.specs.declared.locations.Loc.TheVariants.{CtlMail, Host, Mail, OutMail, State}
 use Rattle.mp_names.specs.Frontiers.{HasPassed, HasReached, IsClosedForOne}
 use Rattle.mp_names.specs.Names.{has, IsLeast, is_ctrl, is_rec, is_row}
-use Rattle.mp_names.specs.Outlines.{IsBeforeStop, OutlineIsSound}
+use Rattle.mp_names.specs.Outlines.{OutlineIsSound}
 use Rattle.mp_names.specs.Logs.{Log, LogIsLegal, with_applied, with_sent}
 use Rattle.mp_names.specs.Keeping.{IsWaiting}
 use Rattle.mp_names.proofs.Keeps.{group_keeps, held_keeps, ingested_keeps, packet_keeps, time_keeps, took_keeps, written_keeps}
@@ -42,11 +42,11 @@ module _ {Cell : Type 0} (q : QueryFacts Cell) (job : JobFacts) (sound : Outline
       let stage : j < job.shape.stages = (move_in_shape o sound j b t least.0.0.1.0).0 in
       packet_keeps o w log legal j b t least.0.0 (λ u l. done (Host j) u stage (passed_below (seen_at seen (Host j)) t u reached l))
 
-  group_legal : (h : Hosted Cell) (t k : ℕ) → h.worker ≡ w → h.stage < job.shape.stages → IsReadyAt q job log seen h t k → IsBeforeStop job.until t → LogIsLegal (outline_of q job) w (with_applied log (Group h.stage t k))
-  group_legal h t k own below ready early =
+  group_legal : (h : Hosted Cell) (t k : ℕ) → h.worker ≡ w → h.stage < job.shape.stages → IsReadyAt q job log seen h t k → LogIsLegal (outline_of q job) w (with_applied log (Group h.stage t k))
+  group_legal h t k own below ready =
       let o = outline_of q job in
       let least = subst (λ (v : ℕ). IsLeast (IsWaiting o v log h.stage) (Group h.stage t k)) own ready.least in
-      group_keeps o sound w worker log legal h.stage t k least early (done (Mail h.stage) t below ready.mail) (done (State h.stage) t below ready.state)
+      group_keeps o sound w worker log legal h.stage t k least ready.early (done (Mail h.stage) t below ready.mail) (done (State h.stage) t below ready.state)
 
   -- of what was seen that of the control records alone
   abbrev pub controls_seen : Loc → Frontier

@@ -6,7 +6,7 @@ use Rattle.mp_names.specs.declared.names.Name.TheVariants.{Ctrl, Packet, Row, Gr
 use Rattle.mp_names.specs.declared.names.Tag.{Tag}
 use Rattle.mp_names.specs.Controls.{control_of}
 use Rattle.mp_names.specs.Names.{Distinct, has, In, IsLeast, IsPrefix, is_rec, is_row}
-use Rattle.mp_names.specs.Outlines.{IsBeforeStop, IsOwedBy, IsOwedTo, Outline, share}
+use Rattle.mp_names.specs.Outlines.{IsOwedBy, IsOwedTo, Outline, share}
 use Rattle.mp_names.specs.Logs.{Log, empty_log, with_applied, with_ingested, with_sent, with_settled, with_took}
 use Rattle.mp_names.specs.Frontiers.{HasPassed, HasReached}
 use Rattle.mp_names.specs.Keeping.{IsHeld, IsUnsettled, IsUnwritten}
@@ -99,11 +99,11 @@ module _ {Cell : Type 0} (q : QueryFacts Cell) (job : JobFacts) where
     pub receive_row : (t : ℕ) (g : Tag) (rows : List Output) → IsOwedTo (outline_of q job) p.number (Row t g) → has p.log.took (Row t g) ≡ false
         → HoldsUnwritten (with_took p.log (Row t g)) rows → ArePartsOf q job (with_unwritten p (with_took p.log (Row t g)) rows)
     -- a group is applied, and hands its records to the router of the next stage
-    pub apply : (j t k : ℕ) (old new : Hosted Cell) (r : Routed) → IsHostAt q job p.number p.log j old → IsReadyAt q job p.log p.seen old t k → IsBeforeStop job.until t → suc j < job.shape.stages
+    pub apply : (j t k : ℕ) (old new : Hosted Cell) (r : Routed) → IsHostAt q job p.number p.log j old → IsReadyAt q job p.log p.seen old t k → suc j < job.shape.stages
         → IsHostAt q job p.number (with_applied p.log (Group j t k)) j new → IsRouterAt q job p.number (with_applied p.log (Group j t k)) (suc j) r
         → ArePartsOf q job (with_router (with_host p (with_applied p.log (Group j t k)) j new) (with_applied p.log (Group j t k)) (suc j) r)
     -- a group of the last stage is applied, and gives answer rows
-    pub apply_last : (j t k : ℕ) (old new : Hosted Cell) (rows : List Output) → IsHostAt q job p.number p.log j old → IsReadyAt q job p.log p.seen old t k → IsBeforeStop job.until t → suc j ≡ job.shape.stages
+    pub apply_last : (j t k : ℕ) (old new : Hosted Cell) (rows : List Output) → IsHostAt q job p.number p.log j old → IsReadyAt q job p.log p.seen old t k → suc j ≡ job.shape.stages
         → IsHostAt q job p.number (with_applied p.log (Group j t k)) j new → HoldsRowsBut q job p.number (with_applied p.log (Group j t k)) [] rows
         → ArePartsOf q job (with_unsent (with_host p (with_applied p.log (Group j t k)) j new) (with_applied p.log (Group j t k)) rows)
     -- an answer row is sent

@@ -7,7 +7,7 @@ use Rattle.mp_names.specs.declared.locations.Loc.TheVariants.{CtlMail, Host as H
 use Rattle.mp_names.specs.declared.names.Name.{Name}
 use Rattle.mp_names.specs.declared.names.Name.TheVariants.{Ctrl, Group, Packet, Settled, Written}
 use Rattle.mp_names.specs.Names.{has, In, IsLeast, IsPrefix, is_packet, is_rec, is_row, is_written}
-use Rattle.mp_names.specs.Outlines.{IsBeforeStop, IsOwedBy, IsOwedTo, Outline, share}
+use Rattle.mp_names.specs.Outlines.{IsOwedBy, IsOwedTo, Outline, share}
 use Rattle.mp_names.specs.Logs.{Log, LogGrows, LogIsLegal, with_applied, with_ingested, with_sent, with_settled, with_took}
 use Rattle.mp_names.specs.Frontiers.{HasPassed, HasReached}
 use Rattle.mp_names.specs.Keeping.{IsHeld, IsUnsettled, IsUnwritten}
@@ -93,7 +93,7 @@ module _ {Cell : Type 0} (q : QueryFacts Cell) (job : JobFacts) where
     pub settle : (j t : ℕ) → IsLeast (IsUnsettled (outline_of q job) log j) (Settled j t) → HasPassed (seen_at seen CtlMail) t → ((b : ℕ) → IsOwedBy (outline_of q job) w (Packet j b t) → In (Packet j b t) log.sent) → LogIsLegal (outline_of q job) w (with_settled log (Settled j t))
     pub route : (j : ℕ) (x : Name) → MayGo q job w log j seen x → LogIsLegal (outline_of q job) w (with_sent log x)
     pub receive : (x : Name) → IsOwedTo (outline_of q job) w x → has log.took x ≡ false → LogIsLegal (outline_of q job) w (with_took log x)
-    pub apply : (h : Hosted Cell) (t k : ℕ) → h.worker ≡ w → h.stage < job.shape.stages → IsReadyAt q job log seen h t k → IsBeforeStop job.until t → LogIsLegal (outline_of q job) w (with_applied log (Group h.stage t k))
+    pub apply : (h : Hosted Cell) (t k : ℕ) → h.worker ≡ w → h.stage < job.shape.stages → IsReadyAt q job log seen h t k → LogIsLegal (outline_of q job) w (with_applied log (Group h.stage t k))
     pub send_row : (x : Name) → IsLeast (IsHeld (outline_of q job) w log is_row) x → LogIsLegal (outline_of q job) w (with_sent log x)
     pub write : (t : ℕ) → w ≡ 0 → IsLeast (IsUnwritten log) (Written t) → HasPassed (seen_at seen OutMail) t → LogIsLegal (outline_of q job) w (with_settled log (Written t))
 
@@ -148,7 +148,7 @@ module _ {Cell : Type 0} (q : QueryFacts Cell) (job : JobFacts) where
     pub no_settle : (j : ℕ) → ((t : ℕ) → IsLeast (IsUnsettled (outline_of q job) p.log j) (Settled j t) → HasPassed (seen_at p.seen CtlMail) t → ((b : ℕ) → IsOwedBy (outline_of q job) p.number (Packet j b t) → In (Packet j b t) p.log.sent) → ⊥) → (x : Name) → CanDo p (Settle j) x → ⊥
     pub route : (j : ℕ) (x : Name) → MayGo q job p.number p.log j p.seen x → CanDo p (Route j) x
     pub no_route : (j : ℕ) → ((x : Name) → MayGo q job p.number p.log j p.seen x → ⊥) → (x : Name) → CanDo p (Route j) x → ⊥
-    pub apply : (h : Hosted Cell) (t k : ℕ) → h.worker ≡ p.number → IsReadyAt q job p.log p.seen h t k → IsBeforeStop job.until t → CanDo p (Apply h.stage) (Group h.stage t k)
+    pub apply : (h : Hosted Cell) (t k : ℕ) → h.worker ≡ p.number → IsReadyAt q job p.log p.seen h t k → CanDo p (Apply h.stage) (Group h.stage t k)
     pub no_apply : (h : Hosted Cell) → h.worker ≡ p.number → ((t k : ℕ) → IsReadyAt q job p.log p.seen h t k → ⊥) → (x : Name) → CanDo p (Apply h.stage) x → ⊥
     pub send_row : (x : Name) → IsLeast (IsHeld (outline_of q job) p.number p.log is_row) x → CanDo p SendRow x
     pub no_send_row : ((x : Name) → IsHeld (outline_of q job) p.number p.log is_row x → ⊥) → (x : Name) → CanDo p SendRow x → ⊥

@@ -14,7 +14,7 @@ use Rattle.mp_names.specs.Keeping.{IsWaiting}
 use Rattle.mp_names.specs.Logs.{Log, is_pending, with_applied}
 use Rattle.mp_stamps.specs.declared.seen.Seen.{Seen}
 use Rattle.mp_bins.specs.Notes.{Notes}
-use Rattle.mp_names.specs.Outlines.{IsBeforeStop, OutlineIsSound}
+use Rattle.mp_names.specs.Outlines.{OutlineIsSound}
 use Rattle.mp_names.specs.Limits.{last_time}
 use Rattle.mp_model.specs.declared.value.Value.{Value}
 use Rattle.mp_model.specs.Facts.{JobFacts, QueryFacts}
@@ -26,7 +26,6 @@ use Rattle.mp_rows_laws.proofs.Applied.{applied}
 use Rattle.mp_job.specs.Legal.{JobIsLegal}
 use Rattle.mp_outline.specs.JobOutline.{name_of_record, name_of_row, outline_of}
 use Rattle.mp_outline.specs.Laws.{group_at}
-use Rattle.mp_outline.proofs.Whole.{never_stops}
 use Rattle.mp_msg.specs.Contents.{IsRecordOf}
 use Rattle.mp_route.specs.Routed.{Routed}
 use Rattle.mp_route.specs.Unsent.{HoldsAllBut, HoldsUnsent}
@@ -107,12 +106,8 @@ module _ {Cell : Type 0} {q : QueryFacts Cell} {job : JobFacts} {p : Parts Cell}
     none_to_apply none x can = (told sound are).no_apply h at.1 none x (subst (λ (i : ℕ). CanDo q job p (Apply i) x) (sym at.0) can)
 
     module _ (hands_on : HandsOn q) (legal : JobIsLegal q job) (t k : ℕ) (ready : IsReadyAt q job p.log p.seen h t k) where
-      -- the job doesn't stop before it
-      early : IsBeforeStop job.until t
-      early = never_stops q job legal t
-
       can_apply : CanDo q job p (Apply j) (Group j t k)
-      can_apply = subst (λ (i : ℕ). CanDo q job p (Apply i) (Group i t k)) at.0 ((told sound are).apply h t k at.1 ready early)
+      can_apply = subst (λ (i : ℕ). CanDo q job p (Apply i) (Group i t k)) at.0 ((told sound are).apply h t k at.1 ready)
 
       waits : IsWaiting (outline_of q job) p.number p.log j (Group j t k)
       waits = subst (λ (v : ℕ). IsWaiting (outline_of q job) v p.log j (Group j t k)) at.1 (subst (λ (i : ℕ). IsWaiting (outline_of q job) h.worker p.log i (Group i t k)) at.0 ready.least.0)
@@ -165,14 +160,14 @@ module _ {Cell : Type 0} {q : QueryFacts Cell} {job : JobFacts} {p : Parts Cell}
           with_records next old r is_old same_router holds =
               let before = router_at are (suc j) next old is_old in
               let handed = subst (λ (us : List Value). HoldsAllBut q job p.number (with_applied p.log (Group j t k)) (map (name_of_record (suc j)) (records_at q (suc j) t k us)) old) (sym given_here) (hand_on.router next old before.0 before.1) in
-              (steps sound are).apply j t k h new r at ready early next new_host (same_router ∙ before.0, holds p.number (with_applied p.log (Group j t k)) handed)
+              (steps sound are).apply j t k h new r at ready next new_host (same_router ∙ before.0, holds p.number (with_applied p.log (Group j t k)) handed)
 
           with_rows : suc j ≡ job.shape.stages → (rows : List Output)
               → ((w : ℕ) (log : Log) → HoldsRowsBut q job w log (map name_of_row (outputs_at t k vs)) p.unsent → HoldsRowsBut q job w log [] rows)
               → ArePartsOf q job (record p { log = with_applied p.log (Group j t k); hosts = set p.hosts j new; unsent = rows })
           with_rows ends rows holds =
               let handed = subst (λ (us : List Value). HoldsRowsBut q job p.number (with_applied p.log (Group j t k)) (map name_of_row (outputs_at t k us)) p.unsent) (sym given_here) (hand_on.rows ends p.unsent are.unsent) in
-              (steps sound are).apply_last j t k h new rows at ready early ends new_host (holds p.number (with_applied p.log (Group j t k)) handed)
+              (steps sound are).apply_last j t k h new rows at ready ends new_host (holds p.number (with_applied p.log (Group j t k)) handed)
 
     -- A group that the host applied: it was the one that may be applied, and its outputs and wakes are these
     module _ (hands_on : HandsOn q) (legal : JobIsLegal q job) (t k : ℕ) (vs : List Value) (woke : List ℕ) (new : Hosted Cell)

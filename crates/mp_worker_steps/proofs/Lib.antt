@@ -12,3 +12,4 @@ pub mod Settling
 pub mod Stepping
 pub mod Tallied
 pub mod Written
+pub mod LastStates

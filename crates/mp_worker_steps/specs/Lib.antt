@@ -8,3 +8,4 @@ pub mod Kept
 pub mod Onward
 pub mod Rooms
 pub mod Writing
+pub mod Last

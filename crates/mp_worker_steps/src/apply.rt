@@ -33,9 +33,9 @@ use mp_stamps::Seen;
 use std::alloc::{AllocError, Global};
 
 impl<'a, Q: Query, J: Naming> Parts<'a, Q, J> {
-    /// The least group of a stage that waits is applied, once all that belongs to it has come; what it gives goes to the
-    /// router of the next stage, or from the last stage to the answer rows to be sent: its name, or `None` exactly where
-    /// no group may be applied. `AllocError`: no memory, and nothing changes.
+    /// The least group of a stage that waits is applied, once all that belongs to it has come, where it is before the
+    /// job's stop time; what it gives goes to the router of the next stage, or from the last stage to the answer rows to be
+    /// sent: its name, or `None` exactly where no group may be applied. `AllocError`: no memory, and nothing changes.
     pub fn apply(&mut self, stage: u32) -> Result<Option<Names>, AllocError>
         requires stage { stage < J.job.shape.stages }
         ensures { let o = outline_of (table_of Q.facts J.job) J.job in

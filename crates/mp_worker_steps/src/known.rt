@@ -9,7 +9,7 @@ ghost use Rattle.mp_output.specs.Holding.{AllAreWritten};
 ghost use Rattle.mp_tally.specs.Tallies.{MovedHasKeys, name_of_moved, sent_packets};
 
 use crate::Parts;
-use mp_model::{Naming, Query};
+use mp_model::{Naming, Query, Time};
 use mp_names::Shape;
 use mp_stamps::Seen;
 use mp_tally::{Tally, moved_so_far};
@@ -30,6 +30,13 @@ impl<'a, Q: Query, J: Naming> Parts<'a, Q, J> {
         ensures { result ≡ J.job.shape }
     {
         self.job.shape()
+    }
+
+    /// The job's stop time, `None` where it has none: of groups only those before it are applied.
+    pub fn stop_time(&self) -> Option<Time>
+        ensures { result ≡ J.job.until }
+    {
+        self.job.stop_time()
     }
 
     /// What the worker saw at its last exchange.
@@ -58,10 +65,9 @@ impl<'a, Q: Query, J: Naming> Parts<'a, Q, J> {
     }
 
     /// Does nothing. What is known of the worker, whatever others have done: its log is legal, and all that the frontiers
-    /// that it saw have passed is done in it. For the time being no job has a stop time.
+    /// that it saw have passed is done in it.
     pub fn log_is_known(&self)
         ensures inside { self.now.worker.number < J.job.shape.workers }
-        ensures until { J.job.until ≡ None }
         ensures sound { OutlineIsSound (outline_of (table_of Q.facts J.job) J.job) }
         ensures legal { let o = outline_of (table_of Q.facts J.job) J.job in
             LogIsLegal o self.now.worker.number self.now.worker.log }

@@ -8,6 +8,7 @@ mod changes;
 mod exchange;
 mod ingest;
 mod known;
+mod last;
 mod lists;
 mod onward;
 mod parts;

@@ -93,4 +93,4 @@ returns-clause-outputs g c =
     let woken = rw (← c.self.view_is) at c.is_first_woken-woken.ensures in
     let is = group_is h c.args.time c.args.key c.new-group.result _ _ c.new-group.ensures woken c.first_records-recs.ensures.records in
     let cell = cell_here h i.states refl bins (q.fresh i.stage) c.args.time c.args.key in
-    rw (← c.self.view_is, ← cell) ((rw (rules, is) at c.in_ok-outputs.ensures.outputs) ∙ sym (gives_all g.Q.Query.facts job c.self.invariant.legal i.stage _ _))
+    rw (← c.self.view_is, ← cell) ((rw (rules, is) at c.in_ok-outputs.ensures.outputs) ∙ sym (gives_all g.Q.Query.facts job i.stage _ _ c.requires.early))
