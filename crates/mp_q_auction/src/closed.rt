@@ -132,6 +132,7 @@ impl<S: Sales + Sync> Saved for Closed<S>
 where
     S::Kept: Send + Sync,
 {
+    ghost use Rattle.mp_q_auction.specs.Laws.Leaving.{leaves_what_may_be_saved};
     ghost use Rattle.mp_q_auction.specs.Laws.Texts.{texts_are_plain};
 
     const NUMBER: u32 = S::NUMBER;
@@ -185,6 +186,8 @@ where
     }
 
     ghost texts_are_plain = { λ vs. texts_are_plain S.party S.numbers (S.sales vs) (S.numbers_tell vs) };
+
+    ghost leaves_what_may_be_saved = { λ vs. leaves_what_may_be_saved S.party S.parties_are_ids (S.sales vs) (S.kept_may_be_saved vs) S.NUMBER S.is_late };
 }
 
 /// The key of a value: in stage 0 the id of an auction and the auction of a bid, in stage 1 what a sale is of. Other

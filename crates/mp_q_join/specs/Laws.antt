@@ -1,4 +1,5 @@
 -- The tables of q3 and q8 keep the laws of a query, whatever the values of their rules. This file and its folder are proofs.
+pub mod Leaving
 pub mod Texts
 use Rattle.std.specs.Prelude.{ℕ, ◌≡◌, ◌<◌, ◌≤◌, ◌+◌, ◌&&◌, Bool, true, false, Option, Some, None, List, [], ◌∷◌, get_or, if◌then◌else◌, length, nat_le, refl}
 use Rattle.std.specs.Option.{option_to_list}

@@ -116,6 +116,7 @@ impl Query for Q3 {
 
 impl Saved for Q3 {
     ghost use Rattle.mp_q_join.specs.Q3.{category_in};
+    ghost use Rattle.mp_q_join.specs.Laws.Leaving.{q3_leaves_what_may_be_saved};
     ghost use Rattle.mp_q_join.specs.Laws.Texts.{q3_texts_are_plain};
 
     const NUMBER: u32 = 3;
@@ -145,4 +146,6 @@ impl Saved for Q3 {
     }
 
     ghost texts_are_plain = { λ vs. q3_texts_are_plain (category_in vs) };
+
+    ghost leaves_what_may_be_saved = { λ vs. q3_leaves_what_may_be_saved (category_in vs) };
 }

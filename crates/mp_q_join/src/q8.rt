@@ -123,6 +123,7 @@ impl Query for Q8 {
 
 impl Saved for Q8 {
     ghost use Rattle.mp_q_join.specs.Q8.{width_in};
+    ghost use Rattle.mp_q_join.specs.Laws.Leaving.{q8_leaves_what_may_be_saved};
     ghost use Rattle.mp_q_join.specs.Laws.Texts.{q8_texts_are_plain};
 
     const NUMBER: u32 = 8;
@@ -152,4 +153,6 @@ impl Saved for Q8 {
     }
 
     ghost texts_are_plain = { λ vs. q8_texts_are_plain (width_in vs) };
+
+    ghost leaves_what_may_be_saved = { λ vs. q8_leaves_what_may_be_saved (width_in vs) };
 }

@@ -1,22 +1,27 @@
 -- The table that q1 and q2 have in common keeps the laws of a query, whatever row a bid has.
-use Rattle.std.specs.Prelude.{ℕ, zero, suc, ◌≡◌, ◌≢◌, true, List, [], ◌∷◌, All, refl}
-use Rattle.std.proofs.Common.{ap, arith}
+use Rattle.std.specs.Prelude.{ℕ, zero, suc, Some, ◌≡◌, ◌≢◌, ◌≤◌, ◌<◌, true, List, [], ◌∷◌, All, refl}
+use Rattle.std.proofs.Common.{ap, arith, subst}
 use Rattle.std.proofs.lemmas.Bool.{and_from, false≢true}
 use Rattle.std.proofs.lemmas.List.Elements.{All-head, All-tail}
+use Rattle.std.proofs.lemmas.Option.{none-some, same_Some}
+use Rattle.mp_names.specs.Limits.{greatest_id}
 use Rattle.mp_model.specs.declared.record.Rec.{Rec}
 use Rattle.mp_model.specs.declared.value.Value.{Value}
+use Rattle.mp_model.specs.declared.value.Value.TheVariants.{Bid}
 use Rattle.mp_model.specs.Entry.{Entry}
 use Rattle.mp_model.specs.Facts.{JobFacts}
 use Rattle.mp_model.specs.Folds.{FitsAlong, timeline}
-use Rattle.mp_model.specs.Legal.{IsLegalAt}
+use Rattle.mp_model.specs.Legal.{EventIsLegal, IsLegalAt}
 use Rattle.mp_model.specs.QueryLaws.{BeginsFresh, HasStages, PostsAreLater, LaterStagesPostNothing, MostIsEnough, FreshStaysFresh, RecordIsLegal, SumsFit, TextsTellCells}
 use Rattle.mp_model.specs.Stages.{input_records}
 use Rattle.mp_model.specs.Tables.{table_of}
 use Rattle.mp_model.proofs.GroupRecords.{group_records}
 use Rattle.mp_model.proofs.LegalRecords.{input_records_legal}
 use Rattle.mp_model.proofs.Tables.{length-filter_map}
+use Rattle.mp_saved.specs.Leaving.{KeysAreIds, LeavesWhatMayBeSaved}
+use Rattle.mp_saved.proofs.Kept.{inputs_keep}
 use Rattle.mp_q_simple.specs.declared.bids.Nothing.{Nothing}
-use Rattle.mp_q_simple.specs.Bids.{RowFacts, all_fit, bids_by, rows_of, text_of}
+use Rattle.mp_q_simple.specs.Bids.{RowFacts, all_fit, bids_by, key_of, rows_of, text_of}
 
 -- the numbers of the row of a value that a file can say fit
 abbrev pub LegalRowsFit : RowFacts → Type 0
@@ -54,6 +59,24 @@ module _ (rows : RowFacts) where
   -- so no text holds a line feed
   pub texts_are_plain : (j k t : ℕ) (cell : Nothing) → (bids_by rows).allows j k t cell ≡ true → All (λ b. b ≢ 10) (text_of j cell)
   texts_are_plain j k t cell allowed = absurd (false≢true allowed)
+
+  -- a key of the first stage is an auction
+  auction_is_id : (t : ℕ) (v : Value) (k : ℕ) → IsLegalAt t v → key_of v ≡ Some k → k ≤ greatest_id
+  auction_is_id t (Bid auction bidder price) k h e = let same : auction ≡ k = same_Some auction k e in subst (λ (n : ℕ). n ≤ greatest_id) same h.0
+  auction_is_id t _ k h e = absurd (none-some k e)
+
+  keys_are_ids : KeysAreIds (bids_by rows)
+  keys_are_ids events legal zero l =
+      inputs_keep (bids_by rows) (λ (r : Rec). r.key ≤ greatest_id) EventIsLegal (λ i k e h is. auction_is_id e.time e.value k h.legal is) events legal.each
+  keys_are_ids events legal (suc j) l = absurd (omega arith)
+
+  -- all cells are fresh, and no key is woken
+  pub leaves_what_may_be_saved : (number : ℕ) → LeavesWhatMayBeSaved number (bids_by rows)
+  leaves_what_may_be_saved number = record {
+    keys = keys_are_ids;
+    cells = λ events legal plain j k t l other. absurd (other refl);
+    wakes = λ r u legal i. absurd (let none : i.0 < 0 = i.1 in omega arith);
+  }
 
   recs_fit : LegalRowsFit rows → (rs : List Rec) → All RecordIsLegal rs → all_fit rows.fits rs ≡ true
   recs_fit legal_fit [] h = refl

@@ -148,7 +148,7 @@ impl<R: RowOf + Sync> Query for Bids<R> {
 }
 
 impl<R: RowOf + Sync> Saved for Bids<R> {
-    ghost use Rattle.mp_q_simple.specs.Laws.{texts_are_plain};
+    ghost use Rattle.mp_q_simple.specs.Laws.{leaves_what_may_be_saved, texts_are_plain};
 
     const NUMBER: u32 = R::NUMBER;
 
@@ -181,6 +181,8 @@ impl<R: RowOf + Sync> Saved for Bids<R> {
     }
 
     ghost texts_are_plain = { λ vs. texts_are_plain (R.rows vs) };
+
+    ghost leaves_what_may_be_saved = { λ vs. leaves_what_may_be_saved (R.rows vs) R.NUMBER };
 }
 
 /// The auction of a bid. Other values make no record.

@@ -147,7 +147,7 @@ impl Query for Q5 {
 
 impl Saved for Q5 {
     ghost use Rattle.mp_q_window.specs.Q5.{slide_in, slides_in};
-    ghost use Rattle.mp_q_window.specs.Laws.Q5.{texts_are_plain};
+    ghost use Rattle.mp_q_window.specs.Laws.Q5.{leaves_what_may_be_saved, texts_are_plain};
 
     const NUMBER: u32 = 5;
 
@@ -176,6 +176,8 @@ impl Saved for Q5 {
     }
 
     ghost texts_are_plain = { λ vs. texts_are_plain (slide_in vs) (slides_in vs) };
+
+    ghost leaves_what_may_be_saved = { λ vs. leaves_what_may_be_saved vs };
 }
 
 /// The key of a value: in stage 0 the auction of a bid, in stage 1 the time of a count. Other values make no record.

@@ -118,7 +118,7 @@ impl Query for Q7 {
 
 impl Saved for Q7 {
     ghost use Rattle.mp_q_window.specs.Q7.{width_in};
-    ghost use Rattle.mp_q_window.specs.Laws.Q7.{texts_are_plain};
+    ghost use Rattle.mp_q_window.specs.Laws.Q7.{leaves_what_may_be_saved, texts_are_plain};
 
     const NUMBER: u32 = 7;
 
@@ -147,6 +147,8 @@ impl Saved for Q7 {
     }
 
     ghost texts_are_plain = { λ vs. texts_are_plain (width_in vs) };
+
+    ghost leaves_what_may_be_saved = { λ vs. leaves_what_may_be_saved vs };
 }
 
 /// The end of the window that a bid of this time is in. Other values make no record. A window has 1 to 43,200 units of time.

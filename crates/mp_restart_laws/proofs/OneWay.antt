@@ -17,7 +17,7 @@ use Rattle.mp_msg.proofs.Ordered.{same_ordered}
 use Rattle.mp_outline.proofs.Pairs.{Pairs}
 
 -- what holds between the elements at any two places holds between each element and all later ones
-AllPairs-to_Pairs : {X : Type 0} (R : X → X → Type 0) (xs : List X) → AllPairs R xs → Pairs R xs
+pub AllPairs-to_Pairs : {X : Type 0} (R : X → X → Type 0) (xs : List X) → AllPairs R xs → Pairs R xs
 AllPairs-to_Pairs R [] h = tt
 AllPairs-to_Pairs R (x ∷ xs) h = (
   (λ y i. let l : i.0 < length xs = i.1 in subst (R x) i.2 (h 0 (suc i.0) y (omega arith) (omega arith))),
@@ -41,7 +41,7 @@ module _ {Cell : Type 0} where
       ⊎_elim (λ (l : r.stage < s.stage). omega arith) (λ (l : (r.stage ≡ s.stage) × (r.key < s.key)). let m : r.key < s.key = l.1 in omega arith) h
 
   -- the cell that stands for a key is the fresh one, or stands there
-  stands : (fresh : Cell) (ss : List (KeyCell Cell)) (j k : ℕ) → (cell_in fresh ss j k ≡ fresh) ⊎ ((s : KeyCell Cell) × Contains ss s × (s ≡ record { stage = j; key = k; cell = cell_in fresh ss j k }))
+  pub stands : (fresh : Cell) (ss : List (KeyCell Cell)) (j k : ℕ) → (cell_in fresh ss j k ≡ fresh) ⊎ ((s : KeyCell Cell) × Contains ss s × (s ≡ record { stage = j; key = k; cell = cell_in fresh ss j k }))
   stands fresh [] j k = inl refl
   stands fresh (s ∷ ss) j k =
       ⊎_elim
@@ -55,7 +55,7 @@ module _ {Cell : Type 0} where
       (cases_Bool (s.stage == j && s.key == k))
 
   -- in cells that ascend, one that stands there stands for its key
-  stands_for : (fresh : Cell) (ss : List (KeyCell Cell)) → Pairs KeyIsBefore ss → (s : KeyCell Cell) → Contains ss s → cell_in fresh ss s.stage s.key ≡ s.cell
+  pub stands_for : (fresh : Cell) (ss : List (KeyCell Cell)) → Pairs KeyIsBefore ss → (s : KeyCell Cell) → Contains ss s → cell_in fresh ss s.stage s.key ≡ s.cell
   stands_for fresh [] h s i = absurd (nothing_in_nil s i)
   stands_for fresh (r ∷ ss) h s i =
       ⊎_elim

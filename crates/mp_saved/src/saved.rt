@@ -1,5 +1,6 @@
 //! Queries whose cells can be saved.
 ghost use Rattle.std.specs.Prelude.{◌≡◌, ◌≢◌, ◌↔◌, ◌++◌, ◌<◌, ◌≤◌, ◌^◌, ℕ, List, All, Some, IfOk, OnOk, OnErr, IsErrOf, IsTrue, true};
+ghost use Rattle.mp_saved.specs.Leaving.{LeavesWhatMayBeSaved};
 ghost use Rattle.mp_saved.specs.declared.refused.CellRefused.TheVariants.{NoCell};
 
 use crate::{CellRefused, ValueList};
@@ -77,4 +78,7 @@ pub trait Saved: Query {
 
     /// No line feed stands in the text of a cell that may be saved.
     ghost texts_are_plain: { (vs : List ℕ) (stage key until : ℕ) (cell : Self.Cell) → (Self.facts vs).allows stage key until cell ≡ true → All (λ b. b ≢ 10) (Self.text_of stage cell) };
+
+    /// What the events of a file leave at a time may be saved.
+    ghost leaves_what_may_be_saved: { (vs : List ℕ) → LeavesWhatMayBeSaved NUMBER (Self.facts vs) };
 }

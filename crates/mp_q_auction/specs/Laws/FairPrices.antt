@@ -38,7 +38,7 @@ greater_is_fair None price h legal = omega arith
 greater_is_fair (Some best) price h legal = omega (arith, h)
 
 -- legal bids keep the best price within the limit
-value_keeps : (t time : ℕ) (b : Bidding) (v : Value) → IsLegalAt time v → IsFair b.best → IsFair (after_value t b v).best
+pub value_keeps : (t time : ℕ) (b : Bidding) (v : Value) → IsLegalAt time v → IsFair b.best → IsFair (after_value t b v).best
 value_keeps t time b (Bid auction bidder price) legal h =
     cond_both (is_closed t b.lot) b (record b { best = Some (max (unwrap_or b.best 0) price) }) (λ b. IsFair b.best) (λ _. h) (λ _. greater_is_fair b.best price h legal.2)
 value_keeps t time b _ legal h = h

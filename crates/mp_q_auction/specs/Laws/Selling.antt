@@ -19,7 +19,8 @@ use Rattle.mp_model.proofs.Tables.{length-filter_map}
 use Rattle.mp_q_auction.specs.declared.bidding.Bidding.{Bidding}
 use Rattle.mp_q_auction.specs.declared.bidding.Lot.{Lot}
 use Rattle.mp_q_auction.specs.declared.closed.AuctionCell.{AuctionCell}
-use Rattle.mp_q_auction.specs.Laws.Along.{TimesRise, few_outputs, timeline_rises}
+use Rattle.mp_saved.proofs.Along.{TimesRise, timeline_rises}
+use Rattle.mp_q_auction.specs.Laws.Along.{few_outputs}
 use Rattle.mp_q_auction.specs.Bidding.{after_records, after_value, is_closed, sold_at, sold_in}
 use Rattle.mp_q_auction.specs.SaleLaws.{closed_in}
 use Rattle.mp_q_auction.specs.Sales.{SalesFacts}

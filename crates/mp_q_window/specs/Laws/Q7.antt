@@ -1,19 +1,30 @@
 -- The table of q7 keeps the laws of a query, whatever the value of its rule.
-use Rattle.std.specs.Prelude.{ℕ, ◌≡◌, ◌≢◌, ◌≤◌, ◌==◌, ◌&&◌, Bool, true, false, All, Option, None, Some, List, [], ◌∷◌, nat_le, if◌then◌else◌, refl}
+use Rattle.std.specs.Prelude.{ℕ, zero, suc, fold, nat_lt, ◌≡◌, ◌≢◌, ◌≤◌, ◌==◌, ◌&&◌, Bool, true, false, All, Option, None, Some, List, [], ◌∷◌, nat_le, if◌then◌else◌, refl}
 use Rattle.std.specs.Option.{option_map, option_to_list}
 use Rattle.std.proofs.Common.{◌∙◌, ap, arith, lit<}
-use Rattle.std.proofs.lemmas.Bool.{and_parts, false≢true}
+use Rattle.std.proofs.lemmas.Bool.{and_from, and_parts, cond_both, false≢true, le-leb}
+use Rattle.std.proofs.lemmas.List.Elements.{All-head, All-tail}
+use Rattle.std.proofs.lemmas.Option.{none-some, same_Some}
 use Rattle.mp_names.specs.Limits.{greatest_id, greatest_price, greatest_time, last_time}
+use Rattle.mp_model.specs.declared.record.Rec.{Rec}
 use Rattle.mp_model.specs.declared.value.Value.{Value}
 use Rattle.mp_model.specs.declared.value.Value.TheVariants.{Bid}
 use Rattle.mp_model.specs.Always.{always_fits}
+use Rattle.mp_model.specs.Folds.{cell_before}
+use Rattle.mp_model.specs.Legal.{EventIsLegal, IsLegalAt}
+use Rattle.mp_model.specs.Stages.{stage_records}
+use Rattle.mp_model.proofs.LegalRecords.{input_records_legal}
 use Rattle.mp_model.specs.Rules.{settled}
 use Rattle.mp_model.proofs.Tables.{length_option, not_zero}
-use Rattle.mp_model.specs.QueryLaws.{BeginsFresh, HasStages, PostsAreLater, LaterStagesPostNothing, MostIsEnough, FreshStaysFresh, RisesWithin, SumsFit, TextsTellCells}
+use Rattle.mp_model.specs.QueryLaws.{BeginsFresh, HasStages, PostsAreLater, LaterStagesPostNothing, MostIsEnough, FreshStaysFresh, RecordIsLegal, RisesWithin, SumsFit, TextsTellCells}
+use Rattle.mp_saved.specs.Leaving.{CellsMayBeSaved, KeysAreIds, LeavesWhatMayBeSaved}
+use Rattle.mp_saved.proofs.Along.{cell_reaches}
+use Rattle.mp_saved.proofs.Kept.{inputs_keep}
 use Rattle.mp_saved.proofs.Spelled.{AreSmall, none_small, numbers_again, numbers_are_plain, one_small}
 use Rattle.mp_q_window.specs.declared.best.Offer.{Offer}
-use Rattle.mp_q_window.specs.Best.{after_group, is_legal, numbers_of, offer_said, row_of, row_with, text_of}
+use Rattle.mp_q_window.specs.Best.{after_group, after_value, at_start, better_of, is_legal, numbers_of, offer_said, row_of, row_with, text_of}
 use Rattle.mp_q_window.specs.Laws.Settled.{first_within, settled_within}
+use Rattle.mp_q_window.specs.Windows.{end_after}
 use Rattle.mp_q_window.specs.Q7.{key_of, q7_facts, q7_rules, q7_with, width_in, width_rule}
 
 -- the length of a window is allowed
@@ -82,3 +93,58 @@ posts_are_later vs r legal = ends_later (width_in vs) r.time r.value (width_is v
 -- nothing is summed or counted
 pub sums_fit : SumsFit q7_facts
 sums_fit = always_fits q7_facts (λ vs j cell e. refl)
+
+-- What is left
+
+-- the end of a window is within the limit of ids
+window_is_id : (vs : List ℕ) (t : ℕ) (v : Value) (k : ℕ) → t ≤ greatest_time → key_of (width_in vs) t v ≡ Some k → k ≤ greatest_id
+window_is_id vs t (Bid auction bidder price) k h e =
+    let same : end_after (width_in vs) t ≡ k = same_Some (end_after (width_in vs) t) k e in
+    let ends = ends_later (width_in vs) t (Bid auction bidder price) (width_is vs).0 (width_is vs).1 h in
+    let late : end_after (width_in vs) t ≤ last_time = ends.1 in
+    omega arith
+window_is_id vs t _ k h e = absurd (none-some k e)
+
+-- there is no offer, or one that may be saved
+abbrev IsGood : Option Offer → Type 0
+IsGood None = Unit {0}
+IsGood (Some offer) = is_legal (Some offer) ≡ true
+
+better_good : (best : Option Offer) (offer : Offer) → IsGood best → is_legal (Some offer) ≡ true → IsGood (better_of best offer)
+better_good None offer h legal = legal
+better_good (Some best) offer h legal = cond_both (nat_lt best.price offer.price) (Some offer) (Some best) IsGood (λ _. legal) (λ _. h)
+
+value_good : (best : Option Offer) (t : ℕ) (v : Value) → IsGood best → IsLegalAt t v → IsGood (after_value best v)
+value_good best t (Bid auction bidder price) h legal =
+    let ids = and_from (nat_le auction greatest_id) (nat_le bidder greatest_id) (le-leb auction greatest_id legal.0) (le-leb bidder greatest_id legal.1) in
+    better_good best (record { auction = auction; bidder = bidder; price = price }) h (and_from (nat_le auction greatest_id && nat_le bidder greatest_id) (nat_le price greatest_price) ids (le-leb price greatest_price legal.2))
+value_good best t _ h legal = h
+
+records_good : (best : Option Offer) (rs : List Rec) → IsGood best → All RecordIsLegal rs → IsGood (fold (λ b r. after_value b r.value) best rs)
+records_good best [] h legal = h
+records_good best (r ∷ rs) h legal = records_good (after_value best r.value) rs (value_good best r.time r.value h (All-head RecordIsLegal r rs legal).legal) (All-tail RecordIsLegal r rs legal)
+
+start_good : (best : Option Offer) (woken : Bool) → IsGood best → IsGood (if woken then None else best)
+start_good best true h = tt
+start_good best false h = h
+
+good_is_legal : (best : Option Offer) → IsGood best → best ≢ None → is_legal best ≡ true
+good_is_legal None h other = absurd (other refl)
+good_is_legal (Some offer) h other = h
+
+module _ (vs : List ℕ) where
+  keys_are_ids : KeysAreIds (q7_facts vs)
+  keys_are_ids events legal zero l =
+      inputs_keep (q7_facts vs) (λ (r : Rec). r.key ≤ greatest_id) EventIsLegal (λ i k e h is. window_is_id vs e.time e.value k h.in_time is) events legal.each
+  keys_are_ids events legal (suc j) l = absurd (omega arith)
+
+  offers_may_be_saved : CellsMayBeSaved (q7_facts vs)
+  offers_may_be_saved events legal plain zero k t l other =
+      let q = q7_facts vs in
+      let good = cell_reaches q 0 (λ low n best. IsGood best) RecordIsLegal (λ low n best e h rise recs times. records_good (at_start best e) e.recs (start_good best e.woken h) recs) t k tt (stage_records q events 0) (input_records_legal q events legal) in
+      good_is_legal (cell_before q 0 (stage_records q events 0) k t) good.4 other
+  offers_may_be_saved events legal plain (suc j) k t l other = absurd (omega arith)
+
+  -- best offers are left, and the ends of their windows
+  pub leaves_what_may_be_saved : LeavesWhatMayBeSaved 7 (q7_facts vs)
+  leaves_what_may_be_saved = record { keys = keys_are_ids; cells = offers_may_be_saved; wakes = λ r u legal i. omega arith }
