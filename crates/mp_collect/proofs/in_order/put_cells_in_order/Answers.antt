@@ -1,0 +1,7 @@
+use Rattle.std.proofs.Common.{of_calls, rules}
+use Rattle.std.proofs.lemmas.Fn.{always_returns_same}
+use Rattle.mp_collect.specs.Gathered.{place_of_cell}
+use Rattle.mp_collect.proofs.in_order.put_cells_in_order.Goals as goal
+
+pub returns-clause-order : goal.returns-clause-order
+returns-clause-order g c = c.sort_unstable_by_key.ensures.sorted place_of_cell (always_returns_same _ _ _ (λ a r f k. search (rules, of_calls)))
