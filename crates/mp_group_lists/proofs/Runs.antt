@@ -1,5 +1,5 @@
 -- Entries by moments, and the run of one moment among them.
-use Rattle.std.proofs.Common.{◌≡◌, ℕ, ◌+◌, ◌<◌, ◌≤◌, ◌⊎◌, Bool, true, false, not, cond, ◌&&◌, List, [], ◌∷◌, ◌++◌, filter, drop, take, get_or, length, All, length-drop, length-take, refl, sym, ap, ◌∙◌, subst, ⊎_elim, append-nil, arith}
+use Rattle.std.proofs.Common.{◌≡◌, ℕ, ◌+◌, ◌-◌, ◌<◌, ◌≤◌, ◌⊎◌, Bool, true, false, not, cond, ◌&&◌, List, [], ◌∷◌, ◌++◌, filter, drop, take, get_or, length, All, length-drop, length-take, refl, sym, ap, ◌∙◌, subst, ⊎_elim, append-nil, add-zero, arith}
 use Rattle.std.specs.List.{AllByRecursion, AllWithin}
 use Rattle.std.specs.List.Sorted.{IsPartitionPoint, IsPartitionedBy}
 use Rattle.std.proofs.lemmas.Bool.{false≢true, and_from, and_right, both_ways, false_from_ne_true}
@@ -31,17 +31,17 @@ module _ {X : Type 0} (p : X → Bool) where
   rest : (b : Bool) (n : ℕ) (xs : List X) → AllWithin (λ x. p x ≡ b) xs n (length xs) → All (λ x. p x ≡ b) (drop n xs)
   rest b n xs h = λ i d m. let e = length-drop n xs in subst (λ (x : X). p x ≡ b) (sym (get_or-drop n xs i d)) (h (n + i) d (omega arith) (omega arith))
 
-  pub filter_run : (xs : List X) (n m : ℕ) → n ≤ length xs → m ≤ length (take n xs) → AllWithin (λ x. p x ≡ false) xs n (length xs) → AllWithin (λ x. p x ≡ false) (take n xs) 0 m → AllWithin (λ x. p x ≡ true) (take n xs) m (length (take n xs)) → filter p xs ≡ drop m (take n xs)
-  filter_run xs n m l k after before within =
-      let upto = take n xs in
-      let behind = none_pass (drop n xs) (recursion_from_All (λ x. p x ≡ false) (drop n xs) (rest false n xs after)) in
-      let ahead = none_pass (take m upto) (recursion_from_All (λ x. p x ≡ false) (take m upto) (front false m upto k before)) in
-      let kept = all_pass (drop m upto) (recursion_from_All (λ x. p x ≡ true) (drop m upto) (rest true m upto within)) in
+  pub filter_run : (xs : List X) (n m : ℕ) → n ≤ length xs → m ≤ length (drop n xs) → AllWithin (λ x. p x ≡ false) xs 0 n → AllWithin (λ x. p x ≡ true) (drop n xs) 0 m → AllWithin (λ x. p x ≡ false) (drop n xs) m (length (drop n xs)) → filter p xs ≡ take m (drop n xs)
+  filter_run xs n m l k before within after =
+      let later = drop n xs in
+      let ahead = none_pass (take n xs) (recursion_from_All (λ x. p x ≡ false) (take n xs) (front false n xs l before)) in
+      let kept = all_pass (take m later) (recursion_from_All (λ x. p x ≡ true) (take m later) (front true m later k within)) in
+      let behind = none_pass (drop m later) (recursion_from_All (λ x. p x ≡ false) (drop m later) (rest false m later after)) in
       cut n xs
-      ∙ ap (λ (ys : List X). filter p upto ++ ys) behind
-      ∙ append-nil (filter p upto)
-      ∙ cut m upto
-      ∙ ap (λ (ys : List X). ys ++ filter p (drop m upto)) ahead
+      ∙ ap (λ (ys : List X). ys ++ filter p later) ahead
+      ∙ cut m later
+      ∙ ap (λ (ys : List X). filter p (take m later) ++ ys) behind
+      ∙ append-nil (filter p (take m later))
       ∙ kept
 
 -- Moments in a row
@@ -104,16 +104,18 @@ parted_upto m es by i j d le l h =
     ap not (false_from_ne_true (comes_before m (moment_at (get_or es i d))) (λ b. both_ways (comes_before m (moment_at (get_or es j d))) (not_true (comes_before m (moment_at (get_or es j d))) h) (later_before m (moment_at (get_or es i d)) (moment_at (get_or es j d)) (by i j d lt l) b))))
     (same_or_less i j le)
 
--- a beginning of entries by moments is by moments
-pub by_moment-take : (n : ℕ) (es : List Entry) → AreByMoment es → AreByMoment (take n es)
-by_moment-take n es by i j d lt l =
-    let e = length-take n es in
-    let near : j < n = omega arith in
-    let there : j < length es = omega arith in
+-- an end of entries by moments is by moments
+pub by_moment-drop : (n : ℕ) (es : List Entry) → AreByMoment es → AreByMoment (drop n es)
+by_moment-drop n es by i j d lt l =
+    let e = length-drop n es in
     let P : Entry → Entry → Type 0 = λ a b. comes_before (moment_at b) (moment_at a) ≡ false in
-    subst (λ (a : Entry). P a (get_or (take n es) j d)) (sym (get_or-take n es i d (omega arith))) (subst (λ (b : Entry). P (get_or es i d) b) (sym (get_or-take n es j d near)) (by i j d lt there))
+    subst (λ (a : Entry). P a (get_or (drop n es) j d)) (sym (get_or-drop n es i d)) (subst (λ (b : Entry). P (get_or es (n + i) d) b) (sym (get_or-drop n es j d)) (by (n + i) (n + j) d (omega arith) (omega arith)))
 
 -- The run of a moment
+
+-- so many entries come before the moment or are of it
+abbrev pub IsUpto : Moment → List Entry → ℕ → Type 0
+IsUpto m = IsPartitionPoint (λ e. comes_before m (moment_of e.name) ≡ false) (λ e. comes_before m (moment_of e.name) ≡ true)
 
 module _ (m : Moment) where
   not_at_before : (e : Entry) → comes_before (moment_at e) m ≡ true → is_at m e ≡ false
@@ -128,11 +130,11 @@ module _ (m : Moment) where
   pub run_is :
       (es : List Entry) (n k : ℕ)
       → n ≤ length es
-      → k ≤ length (take n es)
-      → IsPartitionPoint (λ e. comes_before m (moment_of e.name) ≡ false) (λ e. comes_before m (moment_of e.name) ≡ true) es n
-      → IsPartitionPoint (λ e. comes_before (moment_of e.name) m ≡ true) (λ e. comes_before (moment_of e.name) m ≡ false) (take n es) k
-      → filter (is_at m) es ≡ drop k (take n es)
-  run_is es n k l i upto before =
+      → k ≤ length (drop n es)
+      → IsPartitionPoint (λ e. comes_before (moment_of e.name) m ≡ true) (λ e. comes_before (moment_of e.name) m ≡ false) es n
+      → IsUpto m (drop n es) k
+      → filter (is_at m) es ≡ take k (drop n es)
+  run_is es n k l i before upto =
       filter_run
       (is_at m)
       es
@@ -140,18 +142,47 @@ module _ (m : Moment) where
       k
       l
       i
-      (λ a d low high. not_at_after (get_or es a d) (upto.1 a d low high))
-      (λ a d low high. not_at_before (get_or (take n es) a d) (before.0 a d low high))
+      (λ a d low high. not_at_before (get_or es a d) (before.0 a d low high))
       (λ a d low high.
-      let e = length-take n es in
-      let near : a < n = omega arith in
-      let no_later = subst (λ (x : Entry). comes_before m (moment_at x) ≡ false) (sym (get_or-take n es a d near)) (upto.0 a d (omega arith) near) in
-      at_between (get_or (take n es) a d) (before.1 a d low high) no_later)
+      let e = length-drop n es in
+      let no_earlier = subst (λ (x : Entry). comes_before (moment_at x) m ≡ false) (sym (get_or-drop n es a d)) (before.1 (n + a) d (omega arith) (omega arith)) in
+      at_between (get_or (drop n es) a d) no_earlier (upto.0 a d low high))
+      (λ a d low high. not_at_after (get_or (drop n es) a d) (upto.1 a d low high))
 
 not_false : (b : Bool) → not b ≡ false → b ≡ true
 not_false true h = refl
 not_false false h = absurd (false≢true (sym h))
 
 -- what a search by the test answers
-pub upto_from_tests : (m : Moment) (es : List Entry) (n : ℕ) → IsPartitionPoint (λ e. goes_no_later m e ≡ true) (λ e. goes_no_later m e ≡ false) es n → IsPartitionPoint (λ e. comes_before m (moment_of e.name) ≡ false) (λ e. comes_before m (moment_of e.name) ≡ true) es n
+pub upto_from_tests : (m : Moment) (es : List Entry) (n : ℕ) → IsPartitionPoint (λ e. goes_no_later m e ≡ true) (λ e. goes_no_later m e ≡ false) es n → IsUpto m es n
 upto_from_tests m es n point = ((λ k d low high. not_true (comes_before m (moment_at (get_or es k d))) (point.0 k d low high)), (λ k d low high. not_false (comes_before m (moment_at (get_or es k d))) (point.1 k d low high)))
+
+-- What looks at the ends of a part tell
+
+pub before_from_ends :
+    (m : Moment) (es : List Entry) (n : ℕ)
+    → n ≤ length es
+    → AreByMoment es
+    → ((d : Entry) → 0 < length (take n es) → comes_before (moment_of (get_or (take n es) (length (take n es) - 1) d).name) m ≡ true)
+    → ((d : Entry) → 0 < length (drop n es) → comes_before (moment_of (get_or (drop n es) 0 d).name) m ≡ false)
+    → IsPartitionPoint (λ e. comes_before (moment_of e.name) m ≡ true) (λ e. comes_before (moment_of e.name) m ≡ false) es n
+before_from_ends m es n l by last next = (
+  (λ k d low high.
+      let e = length-take n es in
+      let len : length (take n es) ≡ n = omega arith in
+      let end : get_or (take n es) (length (take n es) - 1) d ≡ get_or es (n - 1) d = ap (λ (i : ℕ). get_or (take n es) (i - 1) d) len ∙ get_or-take n es (n - 1) d (omega arith) in
+      let earlier = subst (λ (x : Entry). comes_before (moment_at x) m ≡ true) end (last d (omega arith)) in
+      parted_before m es by k (n - 1) d (omega arith) (omega arith) earlier),
+  (λ k d low high.
+      let e = length-drop n es in
+      let start : get_or (drop n es) 0 d ≡ get_or es n d = get_or-drop n es 0 d ∙ ap (λ (i : ℕ). get_or es i d) (add-zero n) in
+      let no_earlier = subst (λ (x : Entry). comes_before (moment_at x) m ≡ false) start (next d (omega arith)) in
+      false_from_ne_true (goes_before m (get_or es k d)) (λ h. both_ways (goes_before m (get_or es n d)) no_earlier (parted_before m es by n k d low high h))),
+)
+
+-- no later entries up to one that is later
+pub upto_at : (m : Moment) (es : List Entry) (n : ℕ) → AreByMoment es → ((k : ℕ) (d : Entry) → k < n → comes_before m (moment_of (get_or es k d).name) ≡ false) → ((d : Entry) → n < length es → comes_before m (moment_of (get_or es n d).name) ≡ true) → IsUpto m es n
+upto_at m es n by before next = (
+  (λ k d low high. before k d high),
+  (λ k d low high. not_false (comes_before m (moment_at (get_or es k d))) (false_from_ne_true (goes_no_later m (get_or es k d)) (λ h. both_ways (goes_no_later m (get_or es n d)) (ap not (next d (omega arith))) (parted_upto m es by n k d low high h)))),
+)

@@ -15,6 +15,7 @@ use crate::moments::{count_upto, entries_at, moment_of};
 use mp_chart::Entry;
 use mp_outline_lists::OutlineLists;
 use std::alloc::{AllocError, Global};
+use std::cell::Cell;
 
 /// The groups of a job that each worker is to apply, the answer rows that it sends, and the records that each group gives.
 #[derive(Drop)]
@@ -25,6 +26,8 @@ pub struct GroupLists {
     rows: Vec<Vec<Entry>>,
     // Of each stage but the first, by time and tag.
     records: Vec<Vec<Entry>>,
+    // Where the last look among them ended.
+    near: Cell<usize>,
 }
 
 impl GroupLists {
@@ -36,6 +39,7 @@ impl GroupLists {
             groups: groups_by_stage(alloc, lists)?,
             rows: rows_by_worker(alloc, lists)?,
             records: records_by_stage(alloc, lists)?,
+            near: Cell::new(0),
         })
     }
 
@@ -64,7 +68,9 @@ impl GroupLists {
             StandsAt (owned_groups o worker stage) place x → result.now ≡ entries_of o (records_given o x) }
     {
         match self.groups(worker, stage).get(place) {
-            Some(group) => entries_at(self.records_after(stage), moment_of(group.name)),
+            Some(group) => {
+                entries_at(self.records_after(stage), moment_of(group.name), &self.near)
+            }
             None => &[],
         }
     }

@@ -120,15 +120,41 @@ fn put_on(counts: &mut Counts, work: Work)
     counts.add(work.loc, work.time, work.count as i64);
 }
 
-// Takes all this work off counts, where they have it.
+// Takes all this work off counts, where they have it. What follows each other at one location and time is taken at once.
 fn take_all(counts: &mut Counts, done: &[Work])
     requires left { AreLeft counts.old }
     ensures left { AreLeft counts.new }
     ensures work { HasWork counts.old done.now → (a : Loc) (t : ℕ) →
         left_in counts.new a t + work_at a t done.now ≡ left_in counts.old a t }
 {
+    let Some(first) = done.first() else {
+        return;
+    };
+    let mut run = Work {
+        loc: first.loc,
+        time: first.time,
+        count: 0,
+    };
     for work in done {
-        take_if_left(counts, *work);
+        run = go_on(counts, run, *work);
+    }
+    take_if_left(counts, run);
+}
+
+// A run of work with one more. Where that is of another location or time, or the sum doesn't fit, the run is taken off counts, where
+// they have it, and the other begins a run.
+fn go_on(counts: &mut Counts, run: Work, work: Work) -> Work
+    requires left { AreLeft counts.old }
+    ensures left { AreLeft counts.new }
+    ensures work { run.count ≤ left_in counts.old run.loc run.time → (a : Loc) (t : ℕ) →
+        left_in counts.new a t + part_at a t run + part_at a t work ≡ left_in counts.old a t + part_at a t result }
+{
+    match run.joined(work) {
+        Some(longer) => longer,
+        None => {
+            take_if_left(counts, run);
+            work
+        }
     }
 }
 

@@ -1,12 +1,12 @@
 -- What is sorted by the six numbers of a rank and has no name twice is the list in rank order.
-use Rattle.std.proofs.Common.{◌≡◌, ℕ, ◌<◌, ◌⊎◌, nat_lt, ◌==◌, Bool, true, false, cond, List, [], ◌∷◌, ◌++◌, length, refl, sym, ap, ◌∙◌, subst, inl, inr, ⊎_elim, arith, length-append}
+use Rattle.std.proofs.Common.{◌≡◌, ℕ, ◌+◌, ◌<◌, ◌⊎◌, nat_lt, ◌==◌, Bool, true, false, cond, List, [], ◌∷◌, ◌++◌, get_or, length, refl, sym, ap, ◌∙◌, subst, inl, inr, ⊎_elim, arith, length-append}
 use Rattle.std.specs.Cmp.{IsEquivalence, IsTotalOrder}
 use Rattle.std.specs.Cmp.Lexicographic.{slice_cmp, lists_total}
 use Rattle.std.specs.FinMap.{nat_cmp-IsAntisymmetric, slice_cmp-IsAntisymmetric}
 use Rattle.std.specs.List.{All, AllByRecursion, dedup, Contains}
 use Rattle.std.specs.List.Retain.{IsFiltered, DiffersFromLast}
 use Rattle.std.specs.List.Sorted.{IsPermutation, IsSortedByKey, IsStrictlySortedBy}
-use Rattle.std.specs.Ordering.{eq_by_cmp, is_eq, nat_cmp, ordering_then}
+use Rattle.std.specs.Ordering.{eq_by_cmp, is_eq, is_lt, nat_cmp, ordering_then}
 use Rattle.std.specs.declared.cmp.Ordering.{Ordering}
 use Rattle.std.specs.declared.cmp.Ordering.TheVariants.{Less as LessOrd, Equal, Greater}
 use Rattle.std.proofs.lemmas.Bool.{false≢true, eq-eqb, eqb-true, ltb-true, both_ways, cases_Bool, false_from_ne_true}
@@ -21,11 +21,12 @@ use Rattle.mp_names.specs.contracts.names.NamePartialEq.TheImpl as NamePartialEq
 use Rattle.mp_names.specs.Names.{same_name, In, IsBefore, Less, IsAscending, ascending}
 use Rattle.mp_names.proofs.Lists.{In_here, In_later, In_cases, same_tag, same_name-from, same_name-refl, same_name-true, same_name_sym}
 use Rattle.mp_names.proofs.Orders.{before_irreflexive, In_ascending, ascending_In, ascending_ascends, ascending_unique}
-use Rattle.mp_rank_order.specs.Ranks.{six_of}
+use Rattle.mp_rank_order.specs.Ranks.{rank_of}
+use Rattle.mp_rank_order.specs.declared.rank.Rank.{Rank}
 
 -- Lists of numbers
 
-two : (x y : ℕ) (o : Ordering) (P : Type 0) → ordering_then (nat_cmp x y) o ≡ LessOrd → (x < y → P) → (x ≡ y → o ≡ LessOrd → P) → P
+pub two : (x y : ℕ) (o : Ordering) (P : Type 0) → ordering_then (nat_cmp x y) o ≡ LessOrd → (x < y → P) → (x ≡ y → o ≡ LessOrd → P) → P
 two x y o P = by (nat_lt x y) (x == y) (λ l. ltb-true x y l) (λ e. eqb-true x y e)
   where
     by : (l e : Bool) → (l ≡ true → x < y) → (e ≡ true → x ≡ y) → ordering_then (cond l LessOrd (cond e Equal Greater)) o ≡ LessOrd → (x < y → P) → (x ≡ y → o ≡ LessOrd → P) → P
@@ -53,6 +54,37 @@ apart : (m n : ℕ) (P Q : Type 0) → (m == n) ≡ false → (m < n) ⊎ ((m �
 apart m n P Q d h = ⊎_elim (λ (l : m < n). inl l) (λ (e : (m ≡ n) × P). absurd (both_ways (m == n) d (eq-eqb m n e.0))) h
 
 -- Ranks as six numbers
+
+abbrev six : Rank → List ℕ
+six r = r.0 ∷ r.1 ∷ r.2 ∷ r.3 ∷ r.4 ∷ r.5 ∷ []
+
+abbrev pub six_of : Name → List ℕ
+six_of x = six (rank_of x)
+
+-- how ranks compare
+abbrev pub rank_cmp : Rank → Rank → Ordering
+rank_cmp r s =
+    ordering_then (nat_cmp r.0 s.0)
+    (ordering_then (nat_cmp r.1 s.1)
+    (ordering_then (nat_cmp r.2 s.2)
+    (ordering_then (nat_cmp r.3 s.3)
+    (ordering_then (nat_cmp r.4 s.4) (nat_cmp r.5 s.5)))))
+
+then_equal : (o : Ordering) → ordering_then o Equal ≡ o
+then_equal LessOrd = refl
+then_equal Equal = refl
+then_equal Greater = refl
+
+-- so do their lists of numbers
+six_cmp : (r s : Rank) → rank_cmp r s ≡ slice_cmp nat_cmp (six r) (six s)
+six_cmp r s =
+    ap
+    (λ (o : Ordering).
+    ordering_then (nat_cmp r.0 s.0) (ordering_then (nat_cmp r.1 s.1) (ordering_then (nat_cmp r.2 s.2) (ordering_then (nat_cmp r.3 s.3) (ordering_then (nat_cmp r.4 s.4) o)))))
+    (sym (then_equal (nat_cmp r.5 s.5)))
+
+sorted_by_six : (xs : List Name) → IsSortedByKey rank_of rank_cmp xs → IsSortedByKey six_of (slice_cmp nat_cmp) xs
+sorted_by_six xs up k d low high = ap is_lt (sym (six_cmp (rank_of (get_or xs (k + 1) d)) (rank_of (get_or xs k d)))) ∙ up k d low high
 
 less_from_six : (x y : Name) → IsBefore (six_of x) (six_of y) → Less x y
 less_from_six (Ctrl i v) (Ctrl j w) h = cut (0 ∷ i ∷ v ∷ []) (0 ∷ j ∷ w ∷ []) (0 ∷ 0 ∷ 0 ∷ []) refl h
@@ -162,5 +194,5 @@ module _ (eq : Name → Name → Bool) (same : (x y : Name) → eq x y ≡ same_
       }
 
 -- the same of the `==` that names have
-pub put_in_order : (names sorted kept : List Name) → IsPermutation names sorted → IsSortedByKey six_of (slice_cmp nat_cmp) sorted → IsFiltered (DiffersFromLast NamePartialEq.eq-value.it) [] sorted kept → kept ≡ ascending names
-put_in_order names sorted kept moved up once = dedup_is NamePartialEq.eq-value.it sorted kept once ∙ sorted_once NamePartialEq.eq-value.it eq_is names sorted moved up
+pub put_in_order : (names sorted kept : List Name) → IsPermutation names sorted → IsSortedByKey rank_of rank_cmp sorted → IsFiltered (DiffersFromLast NamePartialEq.eq-value.it) [] sorted kept → kept ≡ ascending names
+put_in_order names sorted kept moved up once = dedup_is NamePartialEq.eq-value.it sorted kept once ∙ sorted_once NamePartialEq.eq-value.it eq_is names sorted moved (sorted_by_six sorted up)

@@ -1,2 +1,4 @@
 pub mod InOrder
+pub mod Keys
+pub mod Grouping
 pub mod Gathered

@@ -1,3 +1,4 @@
 -- What the contracts of this crate cite.
 pub mod Ranks
+pub mod Moments
 pub mod Groups

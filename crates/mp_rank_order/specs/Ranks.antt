@@ -1,14 +1,14 @@
 -- The rank of a name as six numbers.
-use Rattle.std.specs.Prelude.{ℕ, List, [], ◌∷◌}
 use Rattle.mp_names.specs.declared.names.Name.{Name}
 use Rattle.mp_names.specs.declared.names.Name.TheVariants.{Ctrl, Rec, Packet, Row, Group, Settled, Written}
+use Rattle.mp_rank_order.specs.declared.rank.Rank.{Rank}
 
 -- the numbers of its rank, and zeros after them
-abbrev pub six_of : Name → List ℕ
-six_of (Ctrl i v) = 0 ∷ i ∷ v ∷ 0 ∷ 0 ∷ 0 ∷ []
-six_of (Rec j t k g) = 1 ∷ t ∷ j ∷ g.0 ∷ g.1 ∷ k ∷ []
-six_of (Packet j b t) = 2 ∷ t ∷ j ∷ b ∷ 0 ∷ 0 ∷ []
-six_of (Row t g) = 3 ∷ t ∷ g.0 ∷ g.1 ∷ 0 ∷ 0 ∷ []
-six_of (Group j t k) = 4 ∷ t ∷ j ∷ k ∷ 0 ∷ 0 ∷ []
-six_of (Settled j t) = 5 ∷ t ∷ j ∷ 0 ∷ 0 ∷ 0 ∷ []
-six_of (Written t) = 6 ∷ t ∷ 0 ∷ 0 ∷ 0 ∷ 0 ∷ []
+abbrev pub rank_of : Name → Rank
+rank_of (Ctrl i v) = record { 0 = 0; 1 = i; 2 = v; 3 = 0; 4 = 0; 5 = 0 }
+rank_of (Rec j t k g) = record { 0 = 1; 1 = t; 2 = j; 3 = g.0; 4 = g.1; 5 = k }
+rank_of (Packet j b t) = record { 0 = 2; 1 = t; 2 = j; 3 = b; 4 = 0; 5 = 0 }
+rank_of (Row t g) = record { 0 = 3; 1 = t; 2 = g.0; 3 = g.1; 4 = 0; 5 = 0 }
+rank_of (Group j t k) = record { 0 = 4; 1 = t; 2 = j; 3 = k; 4 = 0; 5 = 0 }
+rank_of (Settled j t) = record { 0 = 5; 1 = t; 2 = j; 3 = 0; 4 = 0; 5 = 0 }
+rank_of (Written t) = record { 0 = 6; 1 = t; 2 = 0; 3 = 0; 4 = 0; 5 = 0 }

@@ -1,11 +1,10 @@
 //! The groups of a stage.
-ghost use Rattle.std.specs.Prelude.{◌≡◌, ◌<◌, ◌++◌, Some, IfOk, OnOk, filter, slice_get};
-ghost use Rattle.std.specs.List.{flat_map};
-ghost use Rattle.mp_names.specs.Outlines.{Outline, due_groups, groups_made, is_before_stop};
-ghost use Rattle.mp_names.specs.declared.names.Name.{Name};
-ghost use Rattle.mp_rank_order.specs.Groups.{groups_at, is_due};
+ghost use Rattle.std.specs.Prelude.{◌≡◌, ◌<◌, IfOk, filter, map};
+ghost use Rattle.mp_names.specs.Outlines.{due_groups, is_before_stop};
+ghost use Rattle.mp_rank_order.specs.Groups.{is_due};
+ghost use Rattle.mp_rank_order.specs.Moments.{group_at};
 
-use crate::sorted::put_in_order;
+use crate::moments::{Moment, moments_of};
 use mp_names::{Name, Time};
 use mp_outline_lists::OutlineLists;
 use std::alloc::{AllocError, Global};
@@ -20,58 +19,22 @@ pub fn due_groups<L: OutlineLists>(
     ensures { IfOk result (λ names. names.items ≡ due_groups (L.outline lists.now) stage) }
 {
     lists.are_sound();
-    let mut names = listed(alloc, lists, stage)?;
-    put_in_order(&mut names);
+    let moments = moments_of(alloc, lists, stage)?;
+    let mut names = names_at(alloc, stage, &moments)?;
     keep_due(&mut names, lists.until());
     Ok(names)
 }
 
-// The groups of a stage: those of its opening wakes, and those that its records make. `AllocError`: no memory.
-fn listed<L: OutlineLists>(alloc: Global, lists: &L, stage: u32) -> Result<Vec<Name>, AllocError>
-    requires { stage < (L.outline lists.now).stages }
-    ensures { let o = L.outline lists.now in
-        IfOk result (λ names. names.items ≡ o.opening stage ++ flat_map (groups_made o) (o.records stage)) }
+// The groups of a stage at these moments. `AllocError`: no memory.
+fn names_at(alloc: Global, stage: u32, moments: &[Moment]) -> Result<Vec<Name>, AllocError>
+    ensures { IfOk result (λ names. names.items ≡ map (group_at stage) moments.now) }
 {
-    let mut names = Vec::new(alloc);
-    names.extend_from_slice(lists.opening(stage))?;
-    let records = lists.records(stage);
-    for (place, name) in records.iter().enumerate() {
-        add_groups(&mut names, *name, posts_of(lists, stage, place))?;
-    }
-    Ok(names)
-}
-
-// The times that the record at a place of a stage's list posts.
-fn posts_of<L: OutlineLists>(lists: &L, stage: u32, place: usize) -> &[Time]
-    ensures { let o = L.outline lists.now in
-        (x : Name) → slice_get (o.records stage) place ≡ Some x → result.now ≡ o.posts x }
-{
-    lists.are_sound();
-    if stage == 0 { lists.posts(place) } else { &[] }
-}
-
-// Adds the groups of a record that posts these times. `AllocError`: no memory.
-fn add_groups(names: &mut Vec<Name>, name: Name, posts: &[Time]) -> Result<(), AllocError>
-    ensures { OnOk result (names.new.items ≡ names.old.items ++ groups_at name posts.now) }
-{
-    let Name::Rec {
+    let name = |moment: &Moment| Name::Group {
         stage,
-        time,
-        key,
-        ..
-    } = name
-    else {
-        return Ok(());
+        time: moment.time,
+        key: moment.key,
     };
-    names.push(Name::Group { stage, time, key })?;
-    for post in posts {
-        names.push(Name::Group {
-            stage,
-            time: *post,
-            key,
-        })?;
-    }
-    Ok(())
+    moments.iter().map(name).collect(alloc)
 }
 
 // Keeps the groups that are before the stop time, where there is one.

@@ -1,11 +1,13 @@
 //! Layer: the audit of a journal.
 //!
-//! Lists of names in rank order: any list, and the groups of a stage that are due.
+//! Lists of names in rank order: any list, and the groups of a stage, also as times and keys.
 #![tactic(auto)]
 
 mod groups;
+mod moments;
 mod rank;
 mod sorted;
 
 pub use groups::due_groups;
+pub use moments::{Moment, moments_of};
 pub use sorted::{in_order, put_in_order};

@@ -1,9 +1,9 @@
 //! Names in rank order.
 ghost use Rattle.std.specs.Prelude.{◌≡◌, IfOk};
 ghost use Rattle.mp_names.specs.Names.{ascending};
-ghost use Rattle.mp_rank_order.specs.Ranks.{six_of};
+ghost use Rattle.mp_rank_order.specs.Ranks.{rank_of};
 
-use crate::rank::rank_of;
+use crate::rank::{Rank, rank_of};
 use mp_names::Name;
 use std::alloc::{AllocError, Global};
 
@@ -12,8 +12,8 @@ pub fn put_in_order(names: &mut Vec<Name>)
     ensures { names.new.items ≡ ascending names.old.items }
 {
     names.sort_unstable_by_key(
-        |name: &Name| -> [u64; 6]
-            ensures { result ≡ six_of name.now }
+        |name: &Name| -> Rank
+            ensures { result ≡ rank_of name.now }
         { rank_of(*name) },
     );
     names.dedup();

@@ -1,6 +1,8 @@
 -- One more list, entry or control record.
-use Rattle.std.proofs.Common.{◌≡◌, ◌∙◌, ◌==◌, ◌+◌, ℕ, zero, suc, List, [], ◌∷◌, ◌++◌, filter, map, refl, sym, ap, zero-add, add-one}
-use Rattle.std.specs.List.{range_with_len}
+use Rattle.std.proofs.Common.{◌≡◌, ◌∙◌, ◌==◌, ◌+◌, ℕ, zero, suc, List, [], ◌∷◌, ◌++◌, filter, map, inl, inr, refl, sym, ap, zero-add, add-one}
+use Rattle.std.specs.List.{dedup, range_with_len}
+use Rattle.std.specs.List.Sorted.{IsPermutation, IsSorted}
+use Rattle.std.specs.Ordering.{nat_cmp}
 use Rattle.std.proofs.lemmas.List.{map-append}
 use Rattle.std.proofs.lemmas.List.FromFn.{map-range_with_len_more}
 use Rattle.mp_names.specs.declared.names.Name.{Name}
@@ -12,6 +14,7 @@ use Rattle.mp_chart.specs.declared.entry.Entry.{Entry}
 use Rattle.mp_chart.specs.Entries.{entries_of, entry_of}
 use Rattle.mp_parted.specs.declared.parting.By.TheVariants.{Sender}
 use Rattle.mp_parted.specs.Parted.{parted_by}
+use Rattle.mp_rank_order.proofs.Keys.{kept_are, numbers_in_order}
 use Rattle.mp_step_lists.specs.Controls.{sent_to, sent_to_each}
 use Rattle.mp_step_lists.specs.Tables.{packets_by_worker}
 use Rattle.mp_step_lists.proofs.Filters.{filter_twice, map_agree}
@@ -61,3 +64,14 @@ module _ (o : Outline) where
   pub all_written : (names : List Name) → names ≡ map (λ x. Written (time_of o x)) o.rows → ascending names ≡ answer_times o
   unfolding answer_times
   all_written names e = ap ascending e
+
+-- the times of rows, of which each is kept once, as names
+written_names : (o : Outline) (rows : List Name) → map (λ (t : ℕ). Written t) (map (time_of o) rows) ≡ map (λ x. Written (time_of o x)) rows
+written_names o [] = refl
+written_names o (x ∷ rows) = ap (λ (ys : List Name). Written (time_of o x) ∷ ys) (written_names o rows)
+
+pub written_once : (o : Outline) (times sorted kept : List ℕ) → times ≡ map (time_of o) o.rows → IsPermutation times sorted → IsSorted nat_cmp sorted → kept ≡ dedup (λ x y. x == y) sorted → map (λ t. Written t) kept ≡ answer_times o
+written_once o times sorted kept are moved up is =
+    let name : ℕ → Name = λ t. Written t in
+    kept_are name nat_cmp (λ x y. x == y) (numbers_in_order name (λ x y l. inr (refl, inl l))) times sorted kept moved up is
+    ∙ all_written o (map name times) (ap (map name) are ∙ written_names o o.rows)

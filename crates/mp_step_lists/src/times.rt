@@ -8,7 +8,7 @@ ghost use Rattle.mp_parted.specs.Fitting.{FitsShape};
 ghost use Rattle.mp_step_lists.specs.Tables.{times_by_stage};
 
 use mp_chart::Entry;
-use mp_names::{Control, Name};
+use mp_names::{Control, Name, Time};
 use mp_outline_lists::OutlineLists;
 use mp_parted::{entry_of, time_of};
 use mp_rank_order::put_in_order;
@@ -94,18 +94,33 @@ pub(crate) fn answer_times<L: OutlineLists>(
     entries(alloc, lists, &names)
 }
 
-// The times of answer rows, in their order, each once.
+// The times of answer rows, in their order, each once. Numbers are sorted, which is quicker than names are.
 fn written<L: OutlineLists>(alloc: Global, lists: &L) -> Result<Vec<Name>, AllocError>
     ensures { let o = L.outline lists.now in IfOk result (λ names. names.items ≡ answer_times o) }
 {
-    let mut names = Vec::new(alloc);
+    let mut times = row_times(alloc, lists)?;
+    times.sort_unstable();
+    times.dedup();
+    written_at(alloc, &times)
+}
+
+// The time of each answer row.
+fn row_times<L: OutlineLists>(alloc: Global, lists: &L) -> Result<Vec<Time>, AllocError>
+    ensures { let o = L.outline lists.now in IfOk result (λ times. times.items ≡ map (time_of o) o.rows) }
+{
+    let mut times = Vec::new(alloc);
     for row in lists.rows() {
-        names.push(Name::Written {
-            time: time_of(lists, *row),
-        })?;
+        times.push(time_of(lists, *row))?;
     }
-    put_in_order(&mut names);
-    Ok(names)
+    Ok(times)
+}
+
+// Times as names of those at which answer rows are written.
+fn written_at(alloc: Global, times: &[Time]) -> Result<Vec<Name>, AllocError>
+    ensures { IfOk result (λ names. names.items ≡ map (λ t. Written t) times.now) }
+{
+    let name = |time: &Time| Name::Written { time: *time };
+    times.iter().map(name).collect(alloc)
 }
 
 // The entries of names, in their order.

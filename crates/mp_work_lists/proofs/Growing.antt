@@ -1,16 +1,14 @@
 -- Lists of work that grow.
 use Rattle.std.proofs.Common.{◌≡◌, ℕ, ◌+◌, ◌*◌, ◌<◌, ◌&&◌, ◌==◌, Bool, true, false, cond, List, [], ◌∷◌, ◌++◌, length, get_or, take, refl, sym, ap, ◌∙◌, subst, arith, add-zero}
 use Rattle.std.proofs.Math.ListN.{set}
-use Rattle.std.proofs.lemmas.Bool.{and_parts, eqb-true}
 use Rattle.std.proofs.lemmas.List.Elements.{All-set, All-push, All-get_or}
 use Rattle.std.proofs.lemmas.List.Sums.{sum_by-set, sum_by_push, sum_by_more}
 use Rattle.mp_names.specs.declared.locations.Loc.{Loc}
 use Rattle.mp_names.specs.Locations.{IsLocation}
 use Rattle.mp_stamps.specs.Counts.{same_loc}
-use Rattle.mp_stamps.proofs.Places.{same_loc-true}
 use Rattle.mp_left_counts.specs.declared.work.Work.{Work}
 use Rattle.mp_left_counts.specs.Left.{part_at, work_at}
-use Rattle.mp_left_counts.proofs.Parts.{part_here}
+use Rattle.mp_left_counts.proofs.Parts.{part_here, part_joined}
 use Rattle.mp_work_lists.specs.Parts.{HasMore, IsFit, times_at, work_of_times}
 
 pub no_more : (xs : List Work) → HasMore (λ a t. 0) xs xs
@@ -41,40 +39,22 @@ module _ (work : Work) (some : 0 < work.count) where
         fit = λ stages there fits. All-push (IsFit stages) xs work fits (fits_there stages there);
       }
 
-added_part : (b : Bool) (m n : ℕ) → cond b (m + n) 0 ≡ cond b m 0 + cond b n 0
-added_part true m n = refl
-added_part false m n = refl
+module _ (old work joined : Work) (is : joined ≡ record { loc = old.loc; time = old.time; count = old.count + work.count }) (loc : old.loc ≡ work.loc) (time : old.time ≡ work.time) where
+  fits_joined : (stages : ℕ) → IsFit stages old → IsFit stages joined
+  fits_joined stages fit =
+      let whole : Work = record { loc = old.loc; time = old.time; count = old.count + work.count } in
+      let fits : IsFit stages whole = (fit.0, (let some = fit.1 in omega arith)) in
+      subst (IsFit stages) (sym is) fits
 
-module _ (old work : Work) (is_like : (same_loc old.loc work.loc && old.time == work.time) ≡ true) (n : ℕ) (is_sum : n ≡ old.count + work.count) where
-  grown : Work
-  grown = record { loc = work.loc; time = work.time; count = n }
-
-  part_grows : (a : Loc) (t : ℕ) → part_at a t grown ≡ part_at a t old + part_at a t work
-  unfolding grown
-  part_grows a t =
-      let p = and_parts (same_loc old.loc work.loc) (old.time == work.time) is_like in
-      let same : old.loc ≡ work.loc = same_loc-true old.loc work.loc p.0 in
-      let at : old.time ≡ work.time = eqb-true old.time work.time p.1 in
-      let d = added_part (same_loc work.loc a && work.time == t) old.count work.count in
-      let e : (same_loc work.loc a && work.time == t) ≡ (same_loc old.loc a && old.time == t) = rw (same, at) refl in
-      ap (λ (m : ℕ). cond (same_loc work.loc a && work.time == t) m 0) is_sum
-      ∙ d
-      ∙ ap (λ (b : Bool). cond b old.count 0 + cond (same_loc work.loc a && work.time == t) work.count 0) e
-
-  pub more_by_set : (xs : List Work) (i : ℕ) → i < length xs → old ≡ get_or xs i old → HasMore (λ a t. part_at a t work) xs (set xs i (record { loc = work.loc; time = work.time; count = n }))
-  unfolding grown
-  more_by_set xs i l is =
+  pub more_by_set : (xs : List Work) (i : ℕ) → i < length xs → old ≡ get_or xs i old → HasMore (λ a t. part_at a t work) xs (set xs i joined)
+  more_by_set xs i l at =
       record {
         work = λ a t.
-            let d = sum_by-set (part_at a t) xs i grown old l in
-            let e = part_grows a t in
-            let f = ap (part_at a t) is in
+            let d = sum_by-set (part_at a t) xs i joined old l in
+            let e = part_joined old work joined is loc time a t in
+            let f = ap (part_at a t) at in
             omega arith;
-        fit = λ stages there fits.
-            let p = and_parts (same_loc old.loc work.loc) (old.time == work.time) is_like in
-            let one : IsFit stages old = subst (IsFit stages) (sym is) (All-get_or (IsFit stages) xs i old l fits) in
-            let there : IsLocation stages work.loc = subst (IsLocation stages) (same_loc-true old.loc work.loc p.0) one.0 in
-            All-set (IsFit stages) xs i grown (there, (let k = one.1 in omega arith)) fits;
+        fit = λ stages there fits. All-set (IsFit stages) xs i joined (fits_joined stages (subst (IsFit stages) (sym at) (All-get_or (IsFit stages) xs i old l fits))) fits;
       }
 
 -- for one time more

@@ -1,4 +1,3 @@
 -- What the contracts of this crate cite.
 pub mod Works
 pub mod Parts
-pub mod Moments

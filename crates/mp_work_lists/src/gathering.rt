@@ -1,6 +1,5 @@
 //! Work added to a list.
-ghost use Rattle.std.specs.Prelude.{◌≡◌, ◌<◌, ◌==◌, ◌&&◌, OnOk, false, true};
-ghost use Rattle.mp_stamps.specs.Counts.{same_loc};
+ghost use Rattle.std.specs.Prelude.{◌≡◌, ◌<◌, OnOk, false, true};
 ghost use Rattle.mp_left_counts.specs.Left.{part_at};
 ghost use Rattle.mp_work_lists.specs.Parts.{HasMore, work_of_times};
 
@@ -49,24 +48,9 @@ fn add_to_last(works: &mut Vec<Work>, work: Work) -> bool
     let Some(last) = works.len().checked_sub(1) else {
         return false;
     };
-    let before = works[last];
-    if !is_like(before, work) {
-        return false;
-    }
-    let Some(count) = before.count.checked_add(work.count) else {
+    let Some(joined) = works[last].joined(work) else {
         return false;
     };
-    works[last] = Work {
-        loc: work.loc,
-        time: work.time,
-        count,
-    };
+    works[last] = joined;
     true
-}
-
-// Whether two entries are of one location and time.
-fn is_like(first: Work, second: Work) -> bool
-    ensures { result ≡ (same_loc first.loc second.loc && first.time == second.time) }
-{
-    first.loc == second.loc && first.time == second.time
 }

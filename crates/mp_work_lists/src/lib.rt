@@ -4,7 +4,6 @@
 #![tactic(auto)]
 
 mod gathering;
-mod moments;
 mod parts;
 mod times;
 mod work_lists;

@@ -5,8 +5,9 @@ ghost use Rattle.mp_work_left.specs.WorkLeft.{added_below};
 ghost use Rattle.mp_work_lists.specs.Parts.{HasMore, control_work, group_work, job_work, move_work, record_work, row_work, stage_work, times_at, work_at_one};
 
 use crate::gathering::add_times;
-use crate::moments::times_of_groups;
-use crate::times::{times_of_controls, times_of_names, times_of_packets, times_to_settle};
+use crate::times::{
+    times_of_controls, times_of_groups, times_of_names, times_of_packets, times_to_settle,
+};
 use mp_left_counts::Work;
 use mp_names::{Loc, Time};
 use mp_outline_lists::OutlineLists;

@@ -1,11 +1,12 @@
 //! The times of names and of control records.
-ghost use Rattle.std.specs.Prelude.{◌≡◌, ◌==◌, ℕ, IfOk, filter, map};
+ghost use Rattle.std.specs.Prelude.{◌≡◌, ◌<◌, ◌==◌, ℕ, IfOk, filter, map};
 ghost use Rattle.mp_names.specs.Names.{is_packet};
-ghost use Rattle.mp_names.specs.Outlines.{control_times};
+ghost use Rattle.mp_names.specs.Outlines.{control_times, groups_of};
 ghost use Rattle.mp_work_lists.specs.Parts.{controls_at, names_at, time_in, times_at};
 
 use mp_names::{Control, Name, Time};
 use mp_outline_lists::OutlineLists;
+use mp_rank_order::{Moment, moments_of};
 use std::alloc::{AllocError, Global};
 
 /// The times of control records, ascending. `AllocError`: no memory.
@@ -114,4 +115,26 @@ fn is_packet(name: Name, stage: u32) -> bool
         Name::Packet { stage: of, .. } => of == stage,
         _ => false,
     }
+}
+
+/// The times of the groups of a stage, ascending, each as often as there are groups then. `AllocError`: no memory.
+pub(crate) fn times_of_groups<L: OutlineLists>(
+    alloc: Global,
+    lists: &L,
+    stage: u32,
+) -> Result<Vec<Time>, AllocError>
+    requires { stage < (L.outline lists.now).stages }
+    ensures { let o = L.outline lists.now in
+        IfOk result (λ times. (t : ℕ) → times_at t times.items ≡ names_at t (groups_of o stage)) }
+{
+    let moments = moments_of(alloc, lists, stage)?;
+    let times = times_of_moments(alloc, &moments)?;
+    Ok(times)
+}
+
+// The times of moments, in their order. `AllocError`: no memory.
+fn times_of_moments(alloc: Global, moments: &[Moment]) -> Result<Vec<Time>, AllocError>
+    ensures { IfOk result (λ times. times.items ≡ map (λ m. m.time) moments.now) }
+{
+    moments.iter().map(|moment| moment.time).collect(alloc)
 }

@@ -54,13 +54,14 @@ impl WorkLists {
     }
 }
 
-// The times at which there is work, ascending, each once. `AllocError`: no memory.
+// The times at which there is work, ascending, each once. They stand in a few ascending parts, which a stable sort merges.
+// `AllocError`: no memory.
 fn times_of(alloc: Global, work: &[Work]) -> Result<Vec<Time>, AllocError>
     ensures rising { IfOk result (λ times. IsStrictlyIncreasing times.items) }
     ensures all { IfOk result (λ times. (a : Loc) (t : ℕ) → 0 < work_at a t work.now → Contains times.items t) }
 {
     let mut times = times_in(alloc, work)?;
-    times.sort_unstable();
+    times.sort()?;
     times.dedup();
     Ok(times)
 }

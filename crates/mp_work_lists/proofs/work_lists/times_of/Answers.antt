@@ -10,10 +10,10 @@ use Rattle.mp_work_lists.proofs.work_lists.times_of.Goals as goal
 
 pub returns-clause-rising : goal.returns-clause-rising
 returns-clause-rising c =
-    subst IsStrictlyIncreasing (sym (dedup_is _ _ _ c.dedup.ensures.filtered)) (IsStrictlyIncreasing-dedup c.sort_unstable.new.self.items c.sort_unstable.ensures.sorted)
+    subst IsStrictlyIncreasing (sym (dedup_is _ _ _ c.dedup.ensures.filtered)) (IsStrictlyIncreasing-dedup c.sort.new.self.items c.in_ok-sort.ensures.sorted)
 
 pub returns-clause-all : goal.returns-clause-all
 returns-clause-all c = λ a t l.
     let there = subst (λ (ts : List ℕ). Contains ts t) (sym c.in_ok-times.ensures) (has_time a t c.args.work.now l) in
     subst (λ (ts : List ℕ). Contains ts t) (sym (dedup_is _ _ _ c.dedup.ensures.filtered))
-    (Contains-dedup_nat c.sort_unstable.new.self.items t (Contains-permutation c.in_ok-times.times.items c.sort_unstable.new.self.items t c.sort_unstable.ensures.permutation there))
+    (Contains-dedup_nat c.sort.new.self.items t (Contains-permutation c.in_ok-times.times.items c.sort.new.self.items t c.in_ok-sort.ensures.permutation there))

@@ -1,6 +1,6 @@
--- No job stops early.
+-- The job has no stop time.
 use Rattle.std.proofs.Common.{sym}
 use Rattle.mp_job_lists.proofs.lists.JobListsOutlineLists.until.Goals as goal
 
 pub returns : goal.returns
-returns g c = sym c.self.invariant.legal.until
+returns g c = sym c.self.invariant.until

@@ -1,16 +1,17 @@
 use Rattle.std.proofs.Common.{◌≡◌, ◌∙◌, ◌++◌, ◌∷◌, [], ℕ, List, Some, ap, append_assoc, arith, map, subst, sym}
 use Rattle.std.specs.List.{slice_get}
-use Rattle.mp_work_lists.specs.declared.moments.Moment.{Moment}
-use Rattle.mp_work_lists.specs.Moments.{moment_of}
-use Rattle.mp_work_lists.proofs.Grouping.{posts_nothing, stands_In}
-use Rattle.mp_work_lists.proofs.moments.add_made_by.Goals as goal
+use Rattle.mp_rank_order.specs.declared.moments.Moment.{Moment}
+use Rattle.mp_rank_order.specs.Moments.{moment_of}
+use Rattle.mp_rank_order.proofs.Gathered.{in_at}
+use Rattle.mp_rank_order.proofs.Grouping.{posts_nothing}
+use Rattle.mp_rank_order.proofs.moments.add_made_by.Goals as goal
 
 pub returns-then-stage-gt0 : goal.returns-then-stage-gt0
 returns-then-stage-gt0 g c =
     let o = g.L.OutlineLists.outline c.args.lists.now in
     let x = c.args.maker in
     let old = c.args.moments.now.items in
-    let none = posts_nothing o c.are_sound.ensures.later c.args.stage x c.if-stage-gt0.true (stands_In (o.records c.args.stage) c.args.place x c.requires) in
+    let none = posts_nothing o c.are_sound.ensures.later c.args.stage x c.if-stage-gt0.true (in_at (o.records c.args.stage) c.args.place x c.requires) in
     c.in_ok-push.ensures.items
     ∙ ap (λ (m : Moment). old ++ m ∷ []) c.moment_of-own.ensures
     ∙ ap (λ (us : List ℕ). old ++ moment_of x ∷ map (λ u. record { time = u; key = (moment_of x).key }) us) (sym none)

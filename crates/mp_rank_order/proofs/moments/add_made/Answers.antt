@@ -4,10 +4,10 @@ use Rattle.std.proofs.lemmas.List.{take_all}
 use Rattle.std.proofs.lemmas.Option.{slice_get-get_or}
 use Rattle.mp_names.specs.declared.names.Name.{Name}
 use Rattle.mp_names.specs.declared.names.Name.TheVariants.{Ctrl}
-use Rattle.mp_work_lists.specs.declared.moments.Moment.{Moment}
-use Rattle.mp_work_lists.specs.Moments.{moments_made}
-use Rattle.mp_work_lists.proofs.Grouping.{flat_more}
-use Rattle.mp_work_lists.proofs.moments.add_made.Goals as goal
+use Rattle.mp_rank_order.specs.declared.moments.Moment.{Moment}
+use Rattle.mp_rank_order.specs.Moments.{moments_made}
+use Rattle.mp_rank_order.proofs.Grouping.{flat_more}
+use Rattle.mp_rank_order.proofs.moments.add_made.Goals as goal
 
 pub add_made_by-requires : goal.add_made_by-requires
 add_made_by-requires g c =

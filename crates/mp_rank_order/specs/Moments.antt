@@ -1,9 +1,9 @@
 -- When the groups of a stage are.
-use Rattle.std.specs.Prelude.{List, ◌∷◌, map}
+use Rattle.std.specs.Prelude.{ℕ, List, ◌∷◌, map}
 use Rattle.mp_names.specs.declared.names.Name.{Name}
 use Rattle.mp_names.specs.declared.names.Name.TheVariants.{Rec, Group}
 use Rattle.mp_names.specs.Outlines.{Outline}
-use Rattle.mp_work_lists.specs.declared.moments.Moment.{Moment}
+use Rattle.mp_rank_order.specs.declared.moments.Moment.{Moment}
 
 -- the time and the key of a record or a group
 abbrev pub moment_of : Name → Moment
@@ -14,3 +14,7 @@ moment_of _ = record { time = 0; key = 0 }
 -- the moments of the groups that a record makes: its own, and those that it posts
 abbrev pub moments_made : Outline → Name → List Moment
 moments_made o x = moment_of x ∷ map (λ u. record { time = u; key = (moment_of x).key }) (o.posts x)
+
+-- the group of a stage at a moment
+abbrev pub group_at : ℕ → Moment → Name
+group_at j m = Group j m.time m.key

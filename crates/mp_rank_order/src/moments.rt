@@ -1,52 +1,32 @@
 //! When the groups of a stage are.
-ghost use Rattle.std.specs.Prelude.{◌≡◌, ◌<◌, ◌==◌, ◌++◌, ◌∷◌, [], ℕ, IfOk, OnOk, Some, count_by, map, slice_get};
+ghost use Rattle.std.specs.Prelude.{◌≡◌, ◌<◌, ◌++◌, ◌∷◌, [], ℕ, IfOk, OnOk, Some, map, slice_get};
 ghost use Rattle.std.specs.List.{flat_map};
 ghost use Rattle.mp_names.specs.Outlines.{groups_of};
-ghost use Rattle.mp_work_lists.specs.Moments.{moment_of, moments_made};
-ghost use Rattle.mp_work_lists.specs.Parts.{names_at, times_at};
+ghost use Rattle.mp_rank_order.specs.Moments.{group_at, moment_of, moments_made};
 
 use mp_names::{Name, Time};
 use mp_outline_lists::OutlineLists;
 use std::alloc::{AllocError, Global};
 
-/// When a key has a group.
+/// When a key has a group. Moments go by time, and those of one time by key.
 #[derive(Clone, Copy, PartialEq, Eq, PartialOrd, Ord)]
-pub(crate) struct Moment {
-    time: Time,
-    key: u64,
+pub struct Moment {
+    /// The time of the group, in units of the event file.
+    pub time: Time,
+    /// The key.
+    pub key: u64,
 }
 
-/// The times of the groups of a stage, ascending, each as often as there are groups then. `AllocError`: no memory.
-pub(crate) fn times_of_groups<L: OutlineLists>(
-    alloc: Global,
-    lists: &L,
-    stage: u32,
-) -> Result<Vec<Time>, AllocError>
-    requires { stage < (L.outline lists.now).stages }
-    ensures { let o = L.outline lists.now in
-        IfOk result (λ times. (t : ℕ) → times_at t times.items ≡ names_at t (groups_of o stage)) }
-{
-    let moments = moments_of(alloc, lists, stage)?;
-    let times = times_in(alloc, &moments)?;
-    Ok(times)
-}
-
-// The times of moments. `AllocError`: no memory.
-fn times_in(alloc: Global, moments: &[Moment]) -> Result<Vec<Time>, AllocError>
-    ensures { IfOk result (λ times. times.items ≡ map (λ m. m.time) moments.now) }
-{
-    moments.iter().map(|moment| moment.time).collect(alloc)
-}
-
-// When the groups of a stage are, ascending. `AllocError`: no memory.
-fn moments_of<L: OutlineLists>(
+/// When the groups of a stage are, in their order. Takes n log n comparisons of n numbers for n groups that are made.
+/// `AllocError`: no memory.
+pub fn moments_of<L: OutlineLists>(
     alloc: Global,
     lists: &L,
     stage: u32,
 ) -> Result<Vec<Moment>, AllocError>
     requires { stage < (L.outline lists.now).stages }
     ensures { let o = L.outline lists.now in
-        IfOk result (λ moments. (t : ℕ) → count_by (λ m. m.time == t) moments.items ≡ names_at t (groups_of o stage)) }
+        IfOk result (λ moments. map (group_at stage) moments.items ≡ groups_of o stage) }
 {
     let mut moments = Vec::new(alloc);
     add_groups(&mut moments, lists.opening(stage))?;

@@ -1,26 +1,23 @@
 -- The groups of a stage, by when they are.
-use Rattle.std.proofs.Common.{◌≡◌, ℕ, zero, suc, ◌+◌, ◌<◌, ◌&&◌, ◌==◌, Bool, true, List, [], ◌∷◌, ◌++◌, Some, length, get_or, take, map, count_by, Ordering, refl, sym, ap, ◌∙◌, subst, arith}
+use Rattle.std.proofs.Common.{◌≡◌, ℕ, zero, suc, ◌+◌, ◌<◌, ◌&&◌, ◌==◌, Bool, true, List, [], ◌∷◌, ◌++◌, length, get_or, take, map, Ordering, refl, sym, ap, ◌∙◌, inl, inr, arith}
 use Rattle.std.specs.Cmp.{IsTotalOrder}
-use Rattle.std.specs.List.{dedup, flat_map, slice_get}
+use Rattle.std.specs.List.{dedup, flat_map}
 use Rattle.std.specs.List.Sorted.{IsPermutation, IsSorted}
 use Rattle.std.specs.Ordering.{nat_cmp, ordering_then, is_eq, eq_by_cmp}
-use Rattle.std.specs.declared.cmp.Ordering.TheVariants.{Equal}
+use Rattle.std.specs.declared.cmp.Ordering.TheVariants.{Less as LessOrd}
 use Rattle.std.proofs.lemmas.Bool.{false≢true, eqb-true, and_parts}
-use Rattle.std.proofs.lemmas.Cmp.{nat_cmp_total, nat_eq_equiv, on_total, then_total, on_equiv, and_equiv, tied_itself}
+use Rattle.std.proofs.lemmas.Cmp.{nat_cmp_total, nat_eq_equiv, on_total, then_total, on_equiv, and_equiv}
 use Rattle.std.proofs.lemmas.List.{append-nil, map-append, take_more}
-use Rattle.std.proofs.lemmas.Option.{slice_get_within}
 use Rattle.std.proofs.lemmas.List.Concat.{flat_map-append, flat_map-cons}
 use Rattle.mp_names.specs.declared.names.Name.{Name}
 use Rattle.mp_names.specs.declared.names.Name.TheVariants.{Rec, Group}
-use Rattle.mp_names.specs.Names.{In, is_rec, is_group}
+use Rattle.mp_names.specs.Names.{In, Less, ascending, is_rec, is_group}
 use Rattle.mp_names.specs.Outlines.{Outline, OutlineIsSound, groups_of, groups_made}
 use Rattle.mp_names.proofs.Lists.{In_here, In_later}
-use Rattle.mp_names.proofs.Listed.{groups_ascend}
-use Rattle.mp_names.proofs.Orders.{ascending_In, In_ascending, ascending_once}
-use Rattle.mp_work_lists.specs.declared.moments.Moment.{Moment}
-use Rattle.mp_work_lists.specs.Moments.{moment_of, moments_made}
-use Rattle.mp_work_lists.specs.Parts.{time_in, names_at}
-use Rattle.mp_work_lists.proofs.Keys.{IsKeyOrder, count_kept, nat_ties, then_ties}
+use Rattle.mp_rank_order.specs.declared.moments.Moment.{Moment}
+use Rattle.mp_rank_order.specs.Moments.{group_at, moment_of, moments_made}
+use Rattle.mp_rank_order.proofs.InOrder.{two}
+use Rattle.mp_rank_order.proofs.Keys.{IsKeyOrder, below, kept_are, nat_ties, then_ties}
 
 -- How moments compare
 
@@ -29,9 +26,6 @@ moment_cmp a b = ordering_then (nat_cmp a.time b.time) (nat_cmp a.key b.key)
 
 abbrev pub same_moment : Moment → Moment → Bool
 same_moment a b = a.time == b.time && a.key == b.key
-
-abbrev pub group_at : ℕ → Moment → Name
-group_at j m = Group j m.time m.key
 
 total : IsTotalOrder moment_cmp
 total = then_total (on_total (λ (m : Moment). m.time) nat_cmp_total) (on_total (λ (m : Moment). m.key) nat_cmp_total)
@@ -50,12 +44,11 @@ exact a b h =
     same : a.time ≡ b.time → a.key ≡ b.key → a ≡ b
     same e f = ap (λ (t : ℕ). let m : Moment = record { time = t; key = a.key } in m) e ∙ ap (λ (k : ℕ). let m : Moment = record { time = b.time; key = k } in m) f
 
-apart : (j : ℕ) (a b : Moment) → group_at j a ≡ group_at j b → moment_cmp a b ≡ Equal
-apart j a b e =
-    let times : a.time ≡ b.time = cc in
-    let keys : a.key ≡ b.key = cc in
-    subst (λ (t : ℕ). ordering_then (nat_cmp a.time t) (nat_cmp a.key b.key) ≡ Equal) times
-    (subst (λ (k : ℕ). ordering_then (nat_cmp a.time a.time) (nat_cmp a.key k) ≡ Equal) keys (tied_itself total a))
+rises : (j : ℕ) (a b : Moment) → moment_cmp a b ≡ LessOrd → Less (group_at j a) (group_at j b)
+rises j a b h =
+    two a.time b.time (nat_cmp a.key b.key) (Less (group_at j a) (group_at j b)) h
+    (λ earlier. inr (refl, inl earlier))
+    (λ same less. inr (refl, inr (same, inr (refl, inl (below a.key b.key less)))))
 
 moments_in_order : (j : ℕ) → IsKeyOrder (group_at j) moment_cmp same_moment
 moments_in_order j = record {
@@ -63,7 +56,7 @@ moments_in_order j = record {
   alike = and_equiv (on_equiv (λ (m : Moment). m.time) nat_eq_equiv) (on_equiv (λ (m : Moment). m.key) nat_eq_equiv);
   ties = ties;
   exact = exact;
-  apart = apart j;
+  rises = rises j;
 }
 
 -- The groups of names
@@ -111,27 +104,12 @@ module _ (o : Outline) (ok : OutlineIsSound o) (j : ℕ) (moments sorted kept : 
       ∙ ap (λ (l : List Name). l ++ map (group_at j) (flat_map (moments_made o) (o.records j))) (own_groups j (o.opening j) (λ x i. (ok.opening_are j x i).1))
       ∙ ap (λ (l : List Name). o.opening j ++ l) (groups_made_by_all o j (o.records j) (λ x i. (ok.records_are j x i).1))
 
-  group_into : (x : Name) → In x (groups_of o j) → In x (map (group_at j) moments)
+  -- those that are kept are the groups of the stage
+  pub groups_kept : map (group_at j) kept ≡ groups_of o j
   unfolding groups_of
-  group_into x i = subst (In x) (sym names_are) (In_ascending x all i)
-
-  group_back : (x : Name) → In x (map (group_at j) moments) → In x (groups_of o j)
-  unfolding groups_of
-  group_back x i = ascending_In x all (subst (In x) names_are i)
-
-  pub count_groups : (t : ℕ) → count_by (λ m. m.time == t) kept ≡ names_at t (groups_of o j)
-  count_groups t =
-      count_kept (group_at j) moment_cmp same_moment (moments_in_order j) moments sorted kept moved up is (groups_of o j)
-      (ascending_once (groups_of o j) (groups_ascend o j))
-      group_into group_back
-      (λ x. time_in x == t)
+  groups_kept = kept_are (group_at j) moment_cmp same_moment (moments_in_order j) moments sorted kept moved up is ∙ ap ascending names_are
 
 -- One more record
-
-pub stands_In : (xs : List Name) (i : ℕ) (x : Name) → slice_get xs i ≡ Some x → In x xs
-stands_In [] i x e = absurd (let l = slice_get_within [] i x e in omega arith)
-stands_In (y ∷ ys) zero x e = let same : y ≡ x = cc in subst (λ (z : Name). In z (y ∷ ys)) same (In_here y ys)
-stands_In (y ∷ ys) (suc i) x e = In_later x y ys (stands_In ys i x e)
 
 pub flat_more : {A : Type 0} (f : Name → List A) (xs : List Name) (i : ℕ) (d : Name) → i < length xs → flat_map f (take (i + 1) xs) ≡ flat_map f (take i xs) ++ f (get_or xs i d)
 flat_more f xs i d l =

@@ -1,18 +1,20 @@
 -- Keys that are sorted and of which each is kept once, and the names that they stand for.
-use Rattle.std.proofs.Common.{◌≡◌, ◌⊎◌, ℕ, zero, suc, ◌<◌, ◌&&◌, ◌==◌, nat_lt, Bool, true, false, cond, List, [], ◌∷◌, length, get_or, map, count_by, Ordering, refl, sym, ◌∙◌, subst, inl, inr, ⊎_elim, arith}
+use Rattle.std.proofs.Common.{◌≡◌, ◌⊎◌, ℕ, zero, suc, ◌<◌, ◌&&◌, ◌==◌, nat_lt, Bool, true, false, cond, List, [], ◌∷◌, length, get_or, map, count_by, Ordering, refl, sym, subst, inl, inr, ⊎_elim, arith}
 use Rattle.std.specs.Prelude.{Contains}
 use Rattle.std.specs.Cmp.{IsTotalOrder, IsEquivalence}
 use Rattle.std.specs.List.{AllByRecursion, dedup}
 use Rattle.std.specs.List.Sorted.{IsPermutation, IsSorted, IsStrictlySortedBy}
 use Rattle.std.specs.Ordering.{nat_cmp, is_eq, eq_by_cmp, ordering_then}
 use Rattle.std.specs.declared.cmp.Ordering.TheVariants.{Less, Equal, Greater}
-use Rattle.std.proofs.lemmas.Bool.{false≢true, false_from_ne_true, ltb-true, ne_eqb}
+use Rattle.std.proofs.lemmas.Bool.{false≢true, eqb-true, ltb-true, ne_eqb}
+use Rattle.std.proofs.lemmas.Cmp.{nat_cmp_total, nat_eq_equiv}
 use Rattle.std.proofs.lemmas.List.Kept.{Contains-dedup, Contains-from_dedup, IsStrictlySortedBy-dedup}
 use Rattle.std.proofs.lemmas.List.Sorted.{Contains-permutation, IsPermutation-sym}
 use Rattle.std.proofs.lemmas.List.Sums.{sum_by-cons}
 use Rattle.mp_names.specs.declared.names.Name.{Name}
-use Rattle.mp_names.specs.Names.{has, In, Distinct}
-use Rattle.mp_names.proofs.Lists.{In_here, In_later, In_cases, counted, same_count}
+use Rattle.mp_names.specs.Names.{In, Less as LessName, IsAscending, ascending}
+use Rattle.mp_names.proofs.Lists.{In_here, In_later, In_cases, counted}
+use Rattle.mp_names.proofs.Orders.{In_ascending, ascending_In, ascending_ascends, ascending_unique}
 
 -- Elements of a list of keys
 
@@ -37,7 +39,7 @@ module _ {K : Type 0} (f : K → Name) where
       (λ (later : Contains ys k). In_later (f k) (f y) (map f ys) (of_key ys k later))
       (first_or_later y k ys c.0 c.1 c.2)
 
-  count_map : (p : Name → Bool) (ks : List K) → count_by p (map f ks) ≡ count_by (λ k. p (f k)) ks
+  pub count_map : (p : Name → Bool) (ks : List K) → count_by p (map f ks) ≡ count_by (λ k. p (f k)) ks
   count_map p [] = refl
   count_map p (k ∷ ks) =
       let a = counted p (f k) (map f ks) in
@@ -45,19 +47,19 @@ module _ {K : Type 0} (f : K → Name) where
       let c = sum_by-cons (λ (y : K). cond (p (f y)) 1 0) k ks in
       omega arith
 
-  module _ (cmp : K → K → Ordering) (apart : (x y : K) → f x ≡ f y → cmp x y ≡ Equal) where
-    none_later : (x : K) (ks : List K) → AllByRecursion (λ y. cmp x y ≡ Less) ks → In (f x) (map f ks) → ⊥
-    none_later x [] h i = false≢true i
-    none_later x (y ∷ ys) h i =
+  module _ (cmp : K → K → Ordering) (rises : (x y : K) → cmp x y ≡ Less → LessName (f x) (f y)) where
+    all_later : (x : K) (ks : List K) → AllByRecursion (λ y. cmp x y ≡ Less) ks → (z : Name) → In z (map f ks) → LessName (f x) z
+    all_later x [] h z i = absurd (false≢true i)
+    all_later x (y ∷ ys) h z i =
         ⊎_elim
-        (λ (e : f y ≡ f x). let less = h.0 in let equal = apart x y (sym e) in cc)
-        (λ (later : In (f x) (map f ys)). none_later x ys h.1 later)
-        (In_cases (f x) (f y) (map f ys) i)
+        (λ (e : f y ≡ z). subst (LessName (f x)) e (rises x y h.0))
+        (λ (later : In z (map f ys)). all_later x ys h.1 z later)
+        (In_cases z (f y) (map f ys) i)
 
-    sorted_once : (ks : List K) → IsStrictlySortedBy cmp ks → Distinct (map f ks)
+    ascends : (ks : List K) → IsStrictlySortedBy cmp ks → IsAscending (map f ks)
     unfolding IsStrictlySortedBy
-    sorted_once [] h = tt
-    sorted_once (k ∷ ks) h = (false_from_ne_true (has (map f ks) (f k)) (none_later k ks h.0), sorted_once ks h.1)
+    ascends [] h = tt
+    ascends (k ∷ ks) h = (all_later k ks h.0, ascends ks h.1)
 
 -- How keys compare
 pub record IsKeyOrder {K : Type 0} (f : K → Name) (cmp : K → K → Ordering) (same : K → K → Bool) : Type 0 where
@@ -65,12 +67,9 @@ pub record IsKeyOrder {K : Type 0} (f : K → Name) (cmp : K → K → Ordering)
   pub alike : IsEquivalence same
   pub ties : (x y : K) → same x y ≡ eq_by_cmp cmp x y
   pub exact : (x y : K) → same x y ≡ true → x ≡ y
-  pub apart : (x y : K) → f x ≡ f y → cmp x y ≡ Equal
+  pub rises : (x y : K) → cmp x y ≡ Less → LessName (f x) (f y)
 
 module _ {K : Type 0} (f : K → Name) (cmp : K → K → Ordering) (same : K → K → Bool) (order : IsKeyOrder f cmp same) (ks sorted kept : List K) (moved : IsPermutation ks sorted) (up : IsSorted cmp sorted) (is : kept ≡ dedup same sorted) where
-  kept_once : Distinct (map f kept)
-  kept_once = subst (λ (l : List K). Distinct (map f l)) (sym is) (sorted_once f cmp order.apart (dedup same sorted) (IsStrictlySortedBy-dedup order.total order.ties sorted up))
-
   kept_into : (x : Name) → In x (map f kept) → In x (map f ks)
   kept_into x i =
       let r = key_of f (dedup same sorted) x (subst (λ (l : List K). In x (map f l)) is i) in
@@ -82,10 +81,16 @@ module _ {K : Type 0} (f : K → Name) (cmp : K → K → Ordering) (same : K �
       let c = Contains-dedup order.alike order.exact sorted r.0 (Contains-permutation ks sorted r.0 moved r.1) in
       subst (λ (l : List K). In x (map f l)) (sym is) (subst (λ (y : Name). In y (map f (dedup same sorted))) r.2 (of_key f (dedup same sorted) r.0 c))
 
-  -- the names stand once in a list that has the names of the keys and no others
-  pub count_kept : (names : List Name) → Distinct names → ((x : Name) → In x names → In x (map f ks)) → ((x : Name) → In x (map f ks) → In x names) → (p : Name → Bool) → count_by (λ k. p (f k)) kept ≡ count_by p names
-  count_kept names once into back p =
-      sym (count_map f p kept) ∙ same_count p names (map f kept) once kept_once (λ x i e. kept_back x (into x i)) (λ x i e. back x (kept_into x i))
+  -- the names of those that are kept are those of all in rank order
+  pub kept_are : map f kept ≡ ascending (map f ks)
+  kept_are =
+      ascending_unique
+      (map f kept)
+      (ascending (map f ks))
+      (subst (λ (l : List K). IsAscending (map f l)) (sym is) (ascends f cmp order.rises (dedup same sorted) (IsStrictlySortedBy-dedup order.total order.ties sorted up)))
+      (ascending_ascends (map f ks))
+      (λ z i. ascending_In z (map f ks) (kept_into z i))
+      (λ z i. kept_back z (In_ascending z (map f ks) i))
 
 -- Numbers, and pairs of them
 
@@ -101,3 +106,21 @@ pub then_ties : (o p : Ordering) → (is_eq o && is_eq p) ≡ is_eq (ordering_th
 then_ties Less p = refl
 then_ties Equal p = refl
 then_ties Greater p = refl
+
+pub below : (x y : ℕ) → nat_cmp x y ≡ Less → x < y
+below x y = by (nat_lt x y) (x == y) (λ l. ltb-true x y l)
+  where
+    by : (l e : Bool) → (l ≡ true → x < y) → cond l Less (cond e Equal Greater) ≡ Less → x < y
+    by true e f h = f refl
+    by false true f h = absurd (cc)
+    by false false f h = absurd (cc)
+
+-- numbers by which names ascend
+pub numbers_in_order : (f : ℕ → Name) → ((x y : ℕ) → x < y → LessName (f x) (f y)) → IsKeyOrder f nat_cmp (λ x y. x == y)
+numbers_in_order f up = record {
+  total = nat_cmp_total;
+  alike = nat_eq_equiv;
+  ties = nat_ties;
+  exact = eqb-true;
+  rises = λ x y h. up x y (below x y h);
+}
