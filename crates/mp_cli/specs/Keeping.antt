@@ -7,7 +7,9 @@ use Rattle.mp_threads.specs.Journals.{TellFullLogs}
 use Rattle.mp_words.specs.declared.options.Schedule.{Schedule}
 use Rattle.mp_words.specs.declared.options.Schedule.TheVariants.{Threads, Seeded}
 
--- by a seed the steps that its schedule has at this depth; on threads, whose order isn't known, of each worker all that it has to do
+-- By a seed the steps that its schedule has at this depth. On threads, whose order isn't known, each worker has as many steps of a
+-- kind as it has names of that kind, but of those that route, receive and exchange, and of writes worker 0 alone; and the versions
+-- of its exchanges ascend
 abbrev pub IsKeptBy : Outline → ℕ → Schedule → List (List Kept) → Type 0
 IsKeptBy o depth Threads lists = TellFullLogs o lists
 IsKeptBy o depth (Seeded seed) lists = IsKeptBySchedule o depth seed lists

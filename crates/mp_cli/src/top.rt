@@ -25,15 +25,18 @@ use std::thread::Threads;
 /// `--out`, and perhaps `--report`, `--journal`, `--workers` (1, up to 64), `--bins` (16, a power of two up to 4096),
 /// `--depth` (64, up to 1024) and the flag `--paced`; `replay` also takes `--seed` (0, up to 2^48). In a paced run
 /// control records of a time wait until the moves of earlier times have arrived; the answer is the same. The report
-/// is begun where the whole answer is written, and the journal behind it: the steps that each worker made. `check` reads what these read; `make` writes events that are made from `--seed`, so many as
-/// `--count` says (up to 1,000,000), to `--out`; `demo` makes events, runs them in memory and says a summary of
-/// the answer. `audit` has the options of `run` but `--report`; it reads what `run` reads, and then `--out` and `--journal`, and says
-/// how many steps the journal has, where some order of all of them is a run that writes this answer. The statuses are this project's profile: 0 all is done; 2 the words are no command; 3 the event
-/// file has a bad line; 4 the configuration has a bad line; 5 a file isn't there; 6 a find or a read failed; 7
-/// a begin or an append failed, or a write to `said` of what is its answer; 8 an allocation failed; 9 a file
-/// has more than 2^28 bytes; 12 the pipeline's file has a bad line, or ends without a stage; 13 no order of a
-/// journal's steps is a run that writes the answer; 14 the journal has a bad line. The refusals 3, 4, 12 and 14
-/// say the number of the first bad line and the first check that it fails.
+/// is begun where the whole answer is written, and the journal behind it: by worker a line for each step. In that of
+/// `run` a worker has as many steps of a kind as it has names of that kind, but of those that route, receive and
+/// exchange, and the versions of its exchanges ascend. `check` reads what these read; `make` writes events that are
+/// made from `--seed`, so many as `--count` says (up to 1,000,000), to `--out`; `demo` makes events, runs them in
+/// memory and says a summary of the answer. `audit` has the options of `run` but `--report`; it reads what `run`
+/// reads, and then `--out` and `--journal`, and says how many steps the journal has, where some order of all of them
+/// is a run that writes this answer. The statuses are this project's profile: 0 all is done; 2 the words are no
+/// command; 3 the event file has a bad line; 4 the configuration has a bad line; 5 a file isn't there; 6 a find or a
+/// read failed; 7 a begin or an append failed, or a write to `said` of what is its answer; 8 an allocation failed; 9
+/// a file has more than 2^28 bytes; 12 the pipeline's file has a bad line, or ends without a stage; 13 no order of a
+/// journal's steps is a run that writes the answer; 14 the journal has a bad line. The refusals 3, 4, 12 and 14 say
+/// the number of the first bad line and the first check that it fails.
 ///
 /// `run` and `demo` work on threads, one for each worker: this one drives worker 0, and each worker for which no thread
 /// could be made. They wait for these threads, and for each other. `replay` works on this thread alone, where the
@@ -68,9 +71,11 @@ pub fn run<D: Depot, S: Sink, G: Gate + Sync, R: Threads + Wait + Sync + AllocGl
     // The answer theorem: what a run that answers 0 wrote is exactly the query's one-thread answer to the events, with the
     // values that the configuration gives to the query's rules, or that of the pipeline that its file says; and the report,
     // where one is asked for, of the job with its first owners and control records; and the journal, where one is asked for,
-    // tells the steps of its workers: of `replay` those of the seed's schedule, of `run` for each worker all that it has to do.
-    // `check` has then found its files well-formed, and `make` has written the lines of the events that are made. Of `audit`
-    // some order of all steps of the journal is a run of the job of the files, and the answer is the one-thread answer.
+    // tells the steps of its workers: of `replay` those of the seed's schedule; of `run` for each worker as many of a kind as it
+    // has names of that kind, but of those that route, receive and exchange, where of writes only worker 0 has some; and its
+    // exchanges have ascending versions. `check` has then found its files well-formed, and `make` has written the lines of the
+    // events that are made. Of `audit` some order of all steps of the journal is a run of the job of the files, and the answer
+    // is the one-thread answer.
     ensures answer { result.code ≡ 0
         → IsCommandAnswered IsKeptBy (command_in words.now) (D.files depot.old) (D.files depot.new) }
     // An audit refutes a journal only where no order of its steps is such a run, or the answer is another.
