@@ -1,5 +1,6 @@
 //! The audit of a job of one bid: the worked journal is legal with the answer that it writes; others aren't, and no journal is with
 //! another answer.
+ghost use Rattle.std.specs.Prelude.{◌≡◌, IfOk, None};
 ghost use Rattle.mp_model.specs.Legal.{EventIsLegal};
 
 use mp_job::{Event, Job, Shape};
@@ -52,7 +53,9 @@ fn bid() -> Event
     }
 }
 
-fn one_bid(alloc: Global) -> Result<Job<Q1>, AllocError> {
+fn one_bid(alloc: Global) -> Result<Job<Q1>, AllocError>
+    ensures { IfOk result (λ job. job.until ≡ None) }
+{
     let events = vec![in alloc; bid()]?;
     let job = Job::new(alloc, Q1::given(), events, Vec::new(alloc), SHAPE)?;
     Ok(job)

@@ -14,3 +14,5 @@ mod msg;
 mod outline;
 #[cfg(test)]
 mod rows;
+#[cfg(test)]
+mod stops;

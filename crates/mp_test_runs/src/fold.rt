@@ -20,18 +20,19 @@ use std::marker::Brand;
 use std::process::Abort;
 use std::test::Fail;
 
-const SHAPE: Shape = Shape {
+/// Three workers, four bins and the stages of q4.
+pub const SHAPE: Shape = Shape {
     workers: 3,
     bins: 4,
     stages: 2,
 };
 
 /// Auctions that close at several times, with their bids.
-const CLOSINGS: &[u8] =
+pub const CLOSINGS: &[u8] =
     b"A|0|1|9|10|0|100\nA|0|2|9|10|0|100\nA|3|3|8|4|50|700\nB|1|1|5|30\nB|2|2|5|41\nB|10|3|5|49\nB|650|3|6|80\nB|90|1|6|35\nA|5|4|8|10|0|20\nB|6|4|1|9\n";
 
 /// How bins move, how many messages a mailbox holds, and the seed of the schedule.
-const WAYS: [(&[u8], u32, u64); 3] = [
+pub const WAYS: [(&[u8], u32, u64); 3] = [
     (b"", 2, 3),
     (
         b"M|0|0|0|2\nM|2|0|1|0\nM|20|0|2|1\nM|20|0|3|2\nM|100|0|0|1\nM|700|0|1|1\n",

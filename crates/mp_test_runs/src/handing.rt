@@ -1,9 +1,11 @@
 //! A bin with a pending wake is handed off, step by step.
-ghost use Rattle.mp_model.specs.Legal.{EventIsLegal};
+ghost use Rattle.std.specs.Prelude.{IfOk};
+ghost use Rattle.mp_job.specs.Legal.{ControlsFit};
+ghost use Rattle.mp_model.specs.Legal.{EventIsLegal, EventsAreLegal};
 
 use crate::script::{Line, Part, follows};
 use mp_board::Cause;
-use mp_job::{Control, Event, Job, Shape};
+use mp_job::{Control, Event, Job, JobInputs, Shape};
 use mp_model::Value;
 use mp_names::{Frontier, Kind, Loc, Name, Tag};
 use mp_q_auction::Q4;
@@ -66,15 +68,38 @@ fn bid_on_it() -> Event
     }
 }
 
-/// The bin of the auction moves while it is open.
-pub fn one_move(alloc: Global) -> Result<Job<Q4>, AllocError> {
+// An auction, and a bid on it.
+fn events(alloc: Global) -> Result<Vec<Event>, AllocError>
+    ensures { IfOk result (λ v. EventsAreLegal v.items) }
+{
     let mut events = Vec::new(alloc);
     events.push(auction())?;
     events.push(bid_on_it())?;
+    Ok(events)
+}
+
+// The bin of the auction moves while it is open.
+fn controls(alloc: Global) -> Result<Vec<Control>, AllocError>
+    ensures { IfOk result (λ v. ControlsFit SHAPE v.items) }
+{
     let mut controls = Vec::new(alloc);
     controls.push(MOVE)?;
-    let job = Job::new(alloc, Q4::given(), events, controls, SHAPE)?;
-    Ok(job)
+    Ok(controls)
+}
+
+/// The bin of the auction moves while it is open.
+pub fn one_move(alloc: Global) -> Result<Job<Q4>, AllocError> {
+    Job::new(alloc, Q4::given(), events(alloc)?, controls(alloc)?, SHAPE)
+}
+
+// The same job stops while the auction is open.
+fn one_move_until_60(alloc: Global) -> Result<Job<Q4>, AllocError> {
+    let inputs = JobInputs {
+        events: events(alloc)?,
+        controls: controls(alloc)?,
+        firsts: Vec::new(alloc),
+    };
+    Job::until(alloc, Q4::given(), inputs, SHAPE, 60)
 }
 
 const CONTROL_TO_0: Turn = Turn::Did(Name::Ctrl { index: 0, to: 0 }, 1);
@@ -187,49 +212,89 @@ const BIN_COMES: [Line; 4] = [
 
 const GROUP_AT_THE_WAKE: [Line; 1] = [(1, APPLY, GROUP_AT_100)];
 
+// Before the stop time there is nothing left to do for worker 1, and worker 0 sees that.
+const WAKE_WAITS: [Line; 2] = [(1, APPLY, Turn::NotNow), (0, Kind::Exchange, Turn::Seen(8))];
+
+const CONTROLS: Part<'static> = Part {
+    lines: &CONTROLS_COME,
+    at: Loc::CtlMail,
+    frontier: Frontier::Done,
+};
+
+const RECORDS: Part<'static> = Part {
+    lines: &RECORDS_COME,
+    at: Loc::Mail(0),
+    frontier: Frontier::Done,
+};
+
+const MOVE_IS_OPEN: Part<'static> = Part {
+    lines: &[],
+    at: STATE,
+    frontier: Frontier::At(50),
+};
+
+const EARLIER_GROUPS: Part<'static> = Part {
+    lines: &GROUPS_BEFORE,
+    at: HOST,
+    frontier: Frontier::At(50),
+};
+
+const LEAVING: Part<'static> = Part {
+    lines: &BIN_LEAVES,
+    at: STATE,
+    frontier: Frontier::At(50),
+};
+
+const COMING: Part<'static> = Part {
+    lines: &BIN_COMES,
+    at: STATE,
+    frontier: Frontier::Done,
+};
+
+const WAKE: Part<'static> = Part {
+    lines: &GROUP_AT_THE_WAKE,
+    at: STATE,
+    frontier: Frontier::Done,
+};
+
+const NO_WAKE: Part<'static> = Part {
+    lines: &WAKE_WAITS,
+    at: HOST,
+    frontier: Frontier::At(100),
+};
+
 // The control record comes to both workers, and both records to worker 0. The bin leaves it once its groups
 // before the move are applied; the wake at 100 goes with it. Worker 1 applies the group at 100 once it has
 // the bin and knows that no packet is on its way.
 const PARTS: [Part<'static>; 7] = [
-    Part {
-        lines: &CONTROLS_COME,
-        at: Loc::CtlMail,
-        frontier: Frontier::Done,
-    },
-    Part {
-        lines: &RECORDS_COME,
-        at: Loc::Mail(0),
-        frontier: Frontier::Done,
-    },
-    Part {
-        lines: &[],
-        at: STATE,
-        frontier: Frontier::At(50),
-    },
-    Part {
-        lines: &GROUPS_BEFORE,
-        at: HOST,
-        frontier: Frontier::At(50),
-    },
-    Part {
-        lines: &BIN_LEAVES,
-        at: STATE,
-        frontier: Frontier::At(50),
-    },
-    Part {
-        lines: &BIN_COMES,
-        at: STATE,
-        frontier: Frontier::Done,
-    },
-    Part {
-        lines: &GROUP_AT_THE_WAKE,
-        at: STATE,
-        frontier: Frontier::Done,
-    },
+    CONTROLS,
+    RECORDS,
+    MOVE_IS_OPEN,
+    EARLIER_GROUPS,
+    LEAVING,
+    COMING,
+    WAKE,
+];
+
+// The same in a job that stops at 60: the wake goes along with the bin, and its group isn't applied.
+const PARTS_TO_THE_STOP: [Part<'static>; 7] = [
+    CONTROLS,
+    RECORDS,
+    MOVE_IS_OPEN,
+    EARLIER_GROUPS,
+    LEAVING,
+    COMING,
+    NO_WAKE,
 ];
 
 #[test]
 fn gated_handoff(rt: HostRuntime) -> Result<(), Cause> {
     let job = one_move(rt.alloc())?;
     follows::<Q4, Brand>(&rt, rt.alloc(), &job, 64, &PARTS)
+}
+
+#[test]
+fn stopped_handoff(rt: HostRuntime) -> Result<(), Cause> {
+    let job = one_move_until_60(rt.alloc())?;
+    follows::<Q4, Brand>(&rt, rt.alloc(), &job, 64, &PARTS_TO_THE_STOP)
 }

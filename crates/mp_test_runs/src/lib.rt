@@ -15,6 +15,8 @@ mod schedule;
 #[cfg(test)]
 mod script;
 #[cfg(test)]
+mod stops;
+#[cfg(test)]
 mod windows;
 #[cfg(test)]
 mod worked;
