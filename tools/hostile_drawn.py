@@ -83,9 +83,15 @@ def any_steps(draw, stages, workers):
     return b"".join(lines)
 
 
-def pieces(text):
-    """The places of the fields of a text."""
-    return [match.span() for match in re.finditer(rb"[^|\r\n]*", text)]
+FIELD_ENDS = (b"|", b"\r", b"\n")
+
+
+def piece(draw, text):
+    """The place of a field of a text: that around any place. A journal may have a million, so they aren't listed."""
+    at = draw.randint(0, len(text))
+    begin = 1 + max(text.rfind(mark, 0, at) for mark in FIELD_ENDS)
+    ends = [text.find(mark, at) for mark in FIELD_ENDS]
+    return begin, min((end for end in ends if end >= 0), default=len(text))
 
 
 class Places:
@@ -123,12 +129,12 @@ def repeat(draw, index, text, places):
 
 
 def put_number(draw, index, text, places):
-    begin, end = draw.choice(pieces(text))
+    begin, end = piece(draw, text)
     return text[:begin] + number(draw) + text[end:]
 
 
 def put_bytes(draw, index, text, places):
-    begin, end = draw.choice(pieces(text))
+    begin, end = piece(draw, text)
     return text[:begin] + bytes(draw.choices(range(256), k=draw.choice((0, 1, 63, 64, 65)))) + text[end:]
 
 
@@ -144,13 +150,13 @@ def put_line(draw, index, text, places):
 
 def put_word_of_a_line(draw, index, text, places):
     """A kind of line, or the name of a rule, in place of a field."""
-    begin, end = draw.choice(pieces(text))
+    begin, end = piece(draw, text)
     return text[:begin] + draw.choice(LINE_WORDS) + text[end:]
 
 
 def swap_fields(draw, index, text, places):
-    begin, end = draw.choice(pieces(text))
-    first, last = draw.choice(pieces(text))
+    begin, end = piece(draw, text)
+    first, last = piece(draw, text)
     if end > first:
         begin, end, first, last = first, last, begin, end
     if end > first:
