@@ -1,15 +1,16 @@
 -- What follows for a legal job.
-use Rattle.std.proofs.Common.{◌≡◌, ℕ, ◌<◌, Option, None, Some, List, All, option_map, slice_get, subst, sym}
+use Rattle.std.proofs.Common.{◌≡◌, ◌∙◌, ap, ℕ, ◌<◌, Option, None, Some, List, [], All, option_map, slice_get, subst, sym}
 use Rattle.std.proofs.lemmas.Nat.{pow_pos}
 use Rattle.std.proofs.lemmas.Option.{get_or_from_slice_get, option_and_then_some, slice_get_within}
 use Rattle.mp_model.specs.declared.record.Event.{Event}
 use Rattle.mp_model.specs.declared.record.Rec.{Rec}
-use Rattle.mp_model.specs.Facts.{JobFacts, QueryFacts}
+use Rattle.mp_model.specs.Facts.{JobFacts, QueryFacts, SavedState}
 use Rattle.mp_model.specs.Legal.{EventIsLegal, EventsAreLegal}
 use Rattle.mp_model.specs.QueryLaws.{HasStages, RecordIsLegal}
 use Rattle.mp_model.specs.Stages.{record_of}
 use Rattle.mp_bins.specs.Notes.{IsShape}
-use Rattle.mp_job.specs.Legal.{JobIsLegal}
+use Rattle.mp_model.specs.Tables.{opening_wakes}
+use Rattle.mp_job.specs.Legal.{JobIsLegal, KeepsToJob}
 use Rattle.mp_job.specs.Records.{record_at}
 
 module _ {Cell : Type 0} (q : QueryFacts Cell) where
@@ -27,6 +28,10 @@ module _ {Cell : Type 0} (q : QueryFacts Cell) where
     where
       get : (events : List Event) (i : ℕ) (e : Event) → All EventIsLegal events → slice_get events i ≡ Some e → EventIsLegal e
       get events i e all there = rw (get_or_from_slice_get events i e e there) at (all i e (slice_get_within events i e there))
+
+  -- no stage of a job that goes on from no saved state begins with wakes
+  pub begins_unwoken : (job : JobFacts) → KeepsToJob q job → job.from ≡ None → (j : ℕ) → q.waking j ≡ []
+  begins_unwoken job keeps from j = keeps.waking j ∙ ap (λ (f : Option SavedState). opening_wakes f j) from
 
   -- there is a worker, a bin and a stage
   pub shape_is_some : (job : JobFacts) → HasStages q → JobIsLegal q job → IsShape job.shape

@@ -3,6 +3,8 @@ pub mod Before
 pub mod Gathering
 pub mod Legality
 pub mod Members
+pub mod Opened
+pub mod Pairs
 pub mod Runs
 pub mod Same
 pub mod Sharing

@@ -17,7 +17,6 @@ legal_as q job paced legal = record {
   controls_count = legal.controls_count;
   stop = legal.stop;
   saved = legal.saved;
-  from = legal.from;
 }
 
 module _ (its job : JobFacts) (run : IsRunOf its job) where

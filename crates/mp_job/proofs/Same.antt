@@ -1,8 +1,9 @@
 -- Lists in which the same numbers stand.
-use Rattle.std.proofs.Common.{◌≡◌, ℕ, List, [], ◌∷◌, ◌++◌, Contains, sym, subst, ⊎_elim}
+use Rattle.std.proofs.Common.{◌≡◌, ℕ, Option, List, [], ◌∷◌, ◌++◌, Contains, sym, subst, ⊎_elim}
 use Rattle.std.proofs.lemmas.List.Elements.{Contains-append_cases, Contains-append_left, Contains-append_right}
 use Rattle.mp_model.specs.Ascending.{ascending}
-use Rattle.mp_job.specs.Times.{AllStandIn, HoldSame}
+use Rattle.mp_opening.specs.Openings.{OpeningOf}
+use Rattle.mp_job.specs.Times.{AllStandIn, HoldSame, opening_times}
 use Rattle.mp_job.proofs.Ascents.{ascending-is, ascending-Contains, Contains-ascending, IsStrictlyIncreasing-ascending}
 use Rattle.mp_job.proofs.Members.{nothing_in_nil, Contains-cases}
 
@@ -23,9 +24,26 @@ either xs ys zs h t i =
 pub same_before : (xs ys zs : List ℕ) → HoldSame xs ys → HoldSame (xs ++ zs) (ys ++ zs)
 same_before xs ys zs h t = (either xs ys zs (λ u. (h u).0) t, either ys xs zs (λ u. (h u).1) t)
 
+-- with the same in front of both
+pub same_after : (xs ys zs : List ℕ) → HoldSame ys zs → HoldSame (xs ++ ys) (xs ++ zs)
+same_after xs ys zs h t = (behind ys zs (λ u. (h u).0), behind zs ys (λ u. (h u).1))
+  where
+    behind : (ls ms : List ℕ) → AllStandIn ls ms → Contains (xs ++ ls) t → Contains (xs ++ ms) t
+    behind ls ms in_it i =
+        ⊎_elim
+        (λ (k : Contains xs t). Contains-append_left xs ms t k)
+        (λ (k : Contains ls t). Contains-append_right xs ms t (in_it t k))
+        (Contains-append_cases xs ls t i)
+
 -- what is added first, and what is added then
 pub same_twice : (new next old more all : List ℕ) → HoldSame new (next ++ more) → HoldSame next old → old ++ more ≡ all → HoldSame new all
 same_twice new next old more all h k is = subst (λ (l : List ℕ). HoldSame new l) is (same_then new (next ++ more) (old ++ more) h (same_before next old more k))
+
+-- what is added behind a list, and then the times of a checkpoint's wakes
+pub opened_too : {Cell : Type 0} (new old all : List ℕ) (opening : Option (OpeningOf Cell)) (wakes : List ℕ) → wakes ≡ opening_times opening
+    → HoldSame new (old ++ opening_times opening) → HoldSame old all → HoldSame new (all ++ wakes)
+opened_too new old all opening wakes is h k =
+    subst (λ (ts : List ℕ). HoldSame new (all ++ ts)) (sym is) (same_then new (old ++ opening_times opening) (all ++ opening_times opening) h (same_before old all (opening_times opening) k))
 
 -- with what stands there already
 pub same_again : (xs ys : List ℕ) → AllStandIn ys xs → HoldSame xs (xs ++ ys)

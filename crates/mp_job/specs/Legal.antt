@@ -60,5 +60,3 @@ pub record JobIsLegal {Cell : Type 0} (q : QueryFacts Cell) (job : JobFacts) : T
   pub controls_count : All (λ c. counts job c.time ≡ true) job.controls
   pub stop : StopFits job.until
   pub saved : SavedFits q job.from
-  -- for the time being no job goes on from a saved state
-  pub from : job.from ≡ None

@@ -5,7 +5,7 @@ ghost use Rattle.mp_names.specs.Limits.{last_time};
 ghost use Rattle.mp_model.specs.Folds.{times_in};
 ghost use Rattle.mp_model.specs.Legal.{EventsAreLegal};
 ghost use Rattle.mp_model.specs.Stages.{input_records, record_of};
-ghost use Rattle.mp_job.specs.Parts.{shares_of, table_until, with_index};
+ghost use Rattle.mp_job.specs.Parts.{shares_of, table_in, with_index};
 ghost use Rattle.mp_job.specs.Times.{AllStandIn, HoldSame};
 
 use crate::posted::Posted;
@@ -28,10 +28,10 @@ pub fn gather<Q: Query>(
     requires legal { EventsAreLegal events.old }
     requires some_worker { 0 < length shares.old }
     requires empty { shares.old ≡ map (λ _. []) (range_with_len 0 (length shares.old)) }
-    ensures shares { OnOk result (shares.new ≡ shares_of (table_until Q.facts (Q.values source.now.query) source.now.stop) events.old (length shares.old)) }
-    ensures times { let q = table_until Q.facts (Q.values source.now.query) source.now.stop in
+    ensures shares { OnOk result (shares.new ≡ shares_of (table_in Q.facts Q.text_of (Q.values source.now.query) source.now.stop source.now.opening) events.old (length shares.old)) }
+    ensures times { let q = table_in Q.facts Q.text_of (Q.values source.now.query) source.now.stop source.now.opening in
         OnOk result (HoldSame times.new.items (times.old.items ++ times_in q 0 (input_records q events.old))) }
-    ensures posts { let q = table_until Q.facts (Q.values source.now.query) source.now.stop in
+    ensures posts { let q = table_in Q.facts Q.text_of (Q.values source.now.query) source.now.stop source.now.opening in
         IfOk result (λ posts. HoldSame posts.items (flat_map (q.posts 0) (input_records q events.old))) }
     ensures events { events.new ≡ events.old }
 {
@@ -64,10 +64,10 @@ fn take_in<Q: Query>(
     requires some_worker { 0 < length shares.old }
     requires posted { AllStandIn posted.old.last times.old.items }
     ensures shares { OnOk result (shares.new ≡
-        (if is_some (record_of (table_until Q.facts (Q.values source.now.query) source.now.stop) index event.old) then with_index index shares.old else shares.old)) }
-    ensures times { let q = table_until Q.facts (Q.values source.now.query) source.now.stop in
+        (if is_some (record_of (table_in Q.facts Q.text_of (Q.values source.now.query) source.now.stop source.now.opening) index event.old) then with_index index shares.old else shares.old)) }
+    ensures times { let q = table_in Q.facts Q.text_of (Q.values source.now.query) source.now.stop source.now.opening in
         OnOk result (HoldSame times.new.items (times.old.items ++ times_in q 0 (option_to_list (record_of q index event.old)))) }
-    ensures posts { let q = table_until Q.facts (Q.values source.now.query) source.now.stop in
+    ensures posts { let q = table_in Q.facts Q.text_of (Q.values source.now.query) source.now.stop source.now.opening in
         OnOk result (HoldSame posted.new.times (posted.old.times ++ flat_map (q.posts 0) (option_to_list (record_of q index event.old)))) }
     ensures posted { OnOk result (AllStandIn posted.new.last times.new.items) }
     ensures event { event.new ≡ event.old }

@@ -1,35 +1,32 @@
 //! A query with its events, its control records and its shape.
-ghost use Rattle.std.specs.Prelude.{◌≡◌, ◌↔◌, ◌<◌, ◌≤◌, [], All, IfOk, IsSome, IsTrue, Some, filter, length, nat_lt, true};
+ghost use Rattle.std.specs.Prelude.{◌≡◌, ◌↔◌, ◌<◌, ◌≤◌, ◌&&◌, [], All, IfOk, IsSome, IsTrue, Some, filter, length, nat_le, nat_lt, true};
 ghost use Rattle.mp_names.specs.Limits.{greatest_time};
 ghost use Rattle.mp_names.specs.Outlines.{IsBeforeStop, is_before_stop};
 ghost use Rattle.mp_model.specs.Legal.{EventsAreLegal};
-ghost use Rattle.mp_model.specs.Tables.{table_of};
+ghost use Rattle.mp_model.specs.Tables.{is_after_saved, table_of};
+ghost use Rattle.mp_saved.specs.Checkpoints.{saved_in};
+ghost use Rattle.mp_opening.specs.Openings.{MayOpen};
 ghost use Rattle.mp_bins.specs.Notes.{first_owner};
 ghost use Rattle.mp_job.specs.Legal.{ControlsFit, FirstsFit, JobIsLegal, ShapeIsLegal, StopFits};
-ghost use Rattle.mp_job.specs.Parts.{job_of, job_until};
+ghost use Rattle.mp_job.specs.Openings.{AreOpeningCells, AreOpeningWakes};
+ghost use Rattle.mp_job.specs.Parts.{OpeningFits, job_in, job_of, saved_of};
 ghost use Rattle.mp_job.specs.Records.{record_at, share_of};
 ghost use Rattle.mp_job.specs.Times.{post_times_of, times_of};
 
 use crate::gather::gather;
+use crate::inputs::JobInputs;
 use crate::records::record_of;
 use crate::shares::{Share, empty_shares};
 use crate::source::Source;
-use crate::times::{add_control_times, before, put_in_order};
+use crate::times::{add_control_times, add_wake_times, before, put_in_order, since};
 use mp_bins::FirstOwners;
 use mp_model::{Control, Event, First, Query, Rec, Shape, Time};
+use mp_opening::{Checkpoint, Opening};
 use std::alloc::{AllocError, Global};
 use std::marker::Model;
 
-/// The lists that a job is made of.
-#[derive(Drop)]
-pub struct JobInputs {
-    /// In the order of the event file.
-    pub events: Vec<Event>,
-    /// In the order of the control list.
-    pub controls: Vec<Control>,
-    /// The first owners that aren't the usual ones.
-    pub firsts: Vec<First>,
-}
+// No more wakes than this are gone on from.
+const MOST_WAKES: usize = 1 << 28;
 
 /// A query with its events, its control records and its shape; and, made from them once, the share of each worker
 /// and the times at which something happens. Contracts see what is told of the job, a `JobFacts`.
@@ -49,15 +46,15 @@ pub struct Job<Q: Query> {
 impl<Q: Query> Model for Job<Q> {
     ghost use Rattle.mp_model.specs.Facts.{JobFacts};
     ghost use Rattle.mp_model.specs.Tables.{table_of};
-    ghost use Rattle.mp_job.specs.Parts.{HoldsParts, job_until};
+    ghost use Rattle.mp_job.specs.Parts.{HoldsParts, job_in, saved_of};
 
     ghost Value = { JobFacts };
 
-    ghost view = { λ j. job_until (Q.values j.source.query) j.events.items j.controls.items j.owners.shape j.owners.firsts j.source.stop };
+    ghost view = { λ j. job_in (Q.values j.source.query) j.events.items j.controls.items j.owners.shape j.owners.firsts j.source.stop (saved_of Q.text_of j.source.opening) };
 
     ghost invariant = { λ j.
-        let job = job_until (Q.values j.source.query) j.events.items j.controls.items j.owners.shape j.owners.firsts j.source.stop in
-        HoldsParts (table_of Q.facts job) job j.shares.items j.times.items j.post_times };
+        let job = job_in (Q.values j.source.query) j.events.items j.controls.items j.owners.shape j.owners.firsts j.source.stop (saved_of Q.text_of j.source.opening) in
+        HoldsParts (table_of Q.facts job) job j.shares.items j.times.items j.post_times j.source.opening };
 }
 
 impl<Q: Query> Job<Q> {
@@ -95,7 +92,11 @@ impl<Q: Query> Job<Q> {
         requires firsts { FirstsFit shape firsts.items }
         ensures { IfOk result (λ job. job ≡ job_of (Q.values query) events.items controls.items shape firsts.items) }
     {
-        let source = Source { query, stop: None };
+        let source = Source {
+            query,
+            stop: None,
+            opening: None,
+        };
         let inputs = JobInputs {
             events,
             controls,
@@ -122,15 +123,53 @@ impl<Q: Query> Job<Q> {
         ensures { let controls = filter (λ c. nat_lt c.time time) inputs.controls.items in
             IfOk result (λ job. job ≡ record (job_of (Q.values query) inputs.events.items controls shape inputs.firsts.items) { until = Some time }) }
     {
-        let stop = Some(time);
+        let source = Source {
+            query,
+            stop: Some(time),
+            opening: None,
+        };
         let inputs = JobInputs {
             controls: before(inputs.controls, time),
             ..inputs
         };
-        Job::build(alloc, Source { query, stop }, inputs, shape)
+        Job::build(alloc, source, inputs, shape)
     }
 
-    // A job of lists whose control records are before the stop time, where there is one. `AllocError`: no memory.
+    /// A job of these lists that goes on from a checkpoint: events before its time make no record, and it has the control
+    /// records from that time on alone. First owners are as for other jobs. `AllocError`: no memory, or more than 2^28 wakes.
+    pub fn resume(
+        alloc: Global,
+        query: Q,
+        inputs: JobInputs,
+        shape: Shape,
+        from: Checkpoint<Q>,
+    ) -> Result<Job<Q>, AllocError>
+        requires shape { ShapeIsLegal shape }
+        requires stages { shape.stages ≡ (Q.facts (Q.values query)).stages }
+        requires events { EventsAreLegal inputs.events.items }
+        requires controls { ControlsFit shape inputs.controls.items }
+        requires firsts { FirstsFit shape inputs.firsts.items }
+        requires saved { MayOpen (Q.facts (Q.values query)) from }
+        ensures { let controls = filter (λ c. nat_le from.time c.time) inputs.controls.items in
+            IfOk result (λ job. job ≡ record (job_of (Q.values query) inputs.events.items controls shape inputs.firsts.items) { from = Some (saved_in Q.text_of from) }) }
+    {
+        if from.wakes.len() > MOST_WAKES {
+            return Err(AllocError);
+        }
+        let inputs = JobInputs {
+            controls: since(inputs.controls, from.time),
+            ..inputs
+        };
+        let source = Source {
+            query,
+            stop: None,
+            opening: Some(Opening::new(alloc, from, shape.bins)?),
+        };
+        Job::build(alloc, source, inputs, shape)
+    }
+
+    // A job of lists whose control records are of times that count, with a checkpoint that is cut into the shape's bins, if
+    // there is one. `AllocError`: no memory.
     fn build(
         alloc: Global,
         source: Source<Q>,
@@ -143,8 +182,9 @@ impl<Q: Query> Job<Q> {
         requires controls { ControlsFit shape inputs.controls.items }
         requires firsts { FirstsFit shape inputs.firsts.items }
         requires stop { StopFits source.stop }
-        requires before { All (λ c. is_before_stop source.stop c.time ≡ true) inputs.controls.items }
-        ensures { IfOk result (λ job. job ≡ job_until (Q.values source.query) inputs.events.items inputs.controls.items shape inputs.firsts.items source.stop) }
+        requires opening { OpeningFits (Q.facts (Q.values source.query)) shape.bins source.opening }
+        requires count { All (λ c. (is_after_saved (saved_of Q.text_of source.opening) c.time && is_before_stop source.stop c.time) ≡ true) inputs.controls.items }
+        ensures { IfOk result (λ job. job ≡ job_in (Q.values source.query) inputs.events.items inputs.controls.items shape inputs.firsts.items source.stop (saved_of Q.text_of source.opening)) }
     {
         let JobInputs {
             mut events,
@@ -155,8 +195,10 @@ impl<Q: Query> Job<Q> {
         let mut shares = empty_shares(alloc, shape.workers)?;
         let mut times = Vec::new(alloc);
         let mut posts = gather(alloc, &source, &mut events, &mut shares, &mut times)?;
+        add_wake_times(&source.opening, &mut posts)?;
         put_in_order(&mut posts);
         add_control_times(&controls, &mut times)?;
+        add_wake_times(&source.opening, &mut times)?;
         put_in_order(&mut times);
         times.shrink_to_fit();
         Ok(Job {
@@ -248,17 +290,44 @@ impl<Q: Query> Job<Q> {
         }
     }
 
-    /// The times of the records of stage 0, of their posts and of the control records, ascending and each once.
+    /// The times of the records of stage 0, of their posts, of the control records and of the wakes that the job begins
+    /// with, ascending and each once.
     pub fn times(&self) -> &[Time]
         ensures { result.now ≡ times_of (table_of Q.facts self.now) self.now.events self.now.controls }
     {
         self.times.as_slice()
     }
 
-    /// How many times the records of stage 0 post, each counted once.
+    /// How many times the records of stage 0 post or the wakes have that the job begins with, each counted once.
     pub fn count_of_post_times(&self) -> usize
         ensures { result ≡ length (post_times_of (table_of Q.facts self.now) self.now.events) }
     {
         self.post_times
+    }
+
+    /// Copies of the cells that a bin of a stage begins with, with their keys: every other key of the bin begins with a fresh
+    /// cell. `AllocError`: no memory.
+    pub fn opening_cells(
+        &self,
+        alloc: Global,
+        stage: u32,
+        bin: u32,
+    ) -> Result<Vec<(u64, Q::Cell)>, AllocError>
+        ensures { IfOk result (λ cells. AreOpeningCells (table_of Q.facts self.now) self.now.shape.bins stage bin cells.items) }
+    {
+        match &self.source.opening {
+            Some(opening) => opening.copy_cells(alloc, &self.source.query, stage, bin),
+            None => Ok(Vec::new(alloc)),
+        }
+    }
+
+    /// The wakes that a bin of a stage begins with, each a time and a key, by time and then by key.
+    pub fn opening_wakes(&self, stage: u32, bin: u32) -> &[(Time, u64)]
+        ensures { AreOpeningWakes (table_of Q.facts self.now) self.now.shape.bins stage bin result.now }
+    {
+        match &self.source.opening {
+            Some(opening) => opening.wakes_of(stage, bin),
+            None => &[],
+        }
     }
 }

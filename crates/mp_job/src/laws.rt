@@ -10,8 +10,8 @@ pub fn shares_hold_each_record_once<Q: Query>()
     ensures { SharesAlwaysHoldEachOnce Q.Cell }
 {}
 
-/// The times of a job ascend, each once. A time is among them exactly where a record of stage 0 has it or posts it,
-/// or a control record has it.
+/// The times of a job ascend, each once. A time is among them exactly where a record of stage 0 has it or posts it, a
+/// control record has it, or a wake that stage 0 begins with.
 pub fn times_are_ascending<Q: Query>()
     ensures rise { TimesAlwaysRise Q.Cell }
     ensures exact { TimesAreExact Q.Cell }

@@ -5,6 +5,7 @@
 #![tactic(auto)]
 
 mod gather;
+mod inputs;
 mod job;
 mod laws;
 mod posted;
@@ -13,7 +14,9 @@ mod shares;
 mod source;
 mod times;
 
-pub use job::{Job, JobInputs};
+pub use inputs::JobInputs;
+pub use job::Job;
 pub use laws::{shares_hold_each_record_once, times_are_ascending};
 pub use mp_model::{Control, Event, First, Query, Rec, Shape, Time};
+pub use mp_opening::{Checkpoint, KeyCell, KeyWake};
 pub use times::put_in_order;

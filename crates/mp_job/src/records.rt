@@ -2,7 +2,7 @@
 ghost use Rattle.std.specs.Prelude.{◌≡◌, ◌≤◌, IfOk};
 ghost use Rattle.mp_names.specs.Limits.{last_time};
 ghost use Rattle.mp_model.specs.Stages.{record_of};
-ghost use Rattle.mp_job.specs.Parts.{table_until};
+ghost use Rattle.mp_job.specs.Parts.{table_in};
 
 use crate::source::Source;
 use mp_model::{Event, Query, Rec, Tag};
@@ -15,7 +15,7 @@ pub fn record_of<Q: Query>(
     event: &Event,
 ) -> Result<Option<Rec>, AllocError>
     requires { event.now.time ≤ last_time }
-    ensures { IfOk result (λ rec. rec ≡ record_of (table_until Q.facts (Q.values source.now.query) source.now.stop) index event.now) }
+    ensures { IfOk result (λ rec. rec ≡ record_of (table_in Q.facts Q.text_of (Q.values source.now.query) source.now.stop source.now.opening) index event.now) }
 {
     match source.key(event) {
         Some(key) => Ok(Some(Rec {

@@ -1,9 +1,10 @@
 //! The times at which something happens.
-ghost use Rattle.std.specs.Prelude.{◌≡◌, ◌++◌, OnOk, filter, nat_lt};
+ghost use Rattle.std.specs.Prelude.{◌≡◌, ◌++◌, OnOk, filter, map, nat_le, nat_lt};
 ghost use Rattle.mp_model.specs.Ascending.{ascending};
-ghost use Rattle.mp_job.specs.Times.{control_times};
+ghost use Rattle.mp_job.specs.Times.{HoldSame, control_times, opening_times};
 
-use mp_model::{Control, Time};
+use mp_model::{Control, Query, Time};
+use mp_opening::Opening;
 use std::alloc::AllocError;
 
 /// Adds the times of control records. `AllocError`: no memory.
@@ -12,6 +13,29 @@ pub fn add_control_times(controls: &[Control], times: &mut Vec<Time>) -> Result<
 {
     for control in controls {
         times.push(control.time)?;
+    }
+    Ok(())
+}
+
+/// Adds the times of the wakes that a job begins with, in any order. `AllocError`: no memory.
+pub fn add_wake_times<Q: Query>(
+    opening: &Option<Opening<Q>>,
+    times: &mut Vec<Time>,
+) -> Result<(), AllocError>
+    ensures { OnOk result (HoldSame times.new.items (times.old.items ++ opening_times opening.now)) }
+{
+    match opening {
+        Some(opening) => add_first_of(opening.wakes(), times),
+        None => Ok(()),
+    }
+}
+
+// Adds the times of wakes, each a time and a key. `AllocError`: no memory.
+fn add_first_of(wakes: &[(Time, u64)], times: &mut Vec<Time>) -> Result<(), AllocError>
+    ensures { OnOk result (times.new.items ≡ times.old.items ++ map (λ w. w.0) wakes.now) }
+{
+    for wake in wakes {
+        times.push(wake.0)?;
     }
     Ok(())
 }
@@ -29,5 +53,13 @@ pub fn before(mut controls: Vec<Control>, time: Time) -> Vec<Control>
     ensures { result.items ≡ filter (λ c. nat_lt c.time time) controls.items }
 {
     controls.retain(|control| control.time < time);
+    controls
+}
+
+/// The control records of this time and later ones, in their order.
+pub fn since(mut controls: Vec<Control>, time: Time) -> Vec<Control>
+    ensures { result.items ≡ filter (λ c. nat_le time c.time) controls.items }
+{
+    controls.retain(|control| time <= control.time);
     controls
 }

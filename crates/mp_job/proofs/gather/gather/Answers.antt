@@ -1,14 +1,14 @@
 use Rattle.std.proofs.Common.{◌≡◌, ◌++◌, ◌∷◌, ◌<◌, ◌∙◌, ℕ, List, ap, arith, get_or, length, set}
 use Rattle.std.proofs.lemmas.List.{get_or_default, set-get_or}
 use Rattle.mp_model.specs.declared.record.Rec.{Rec}
-use Rattle.mp_job.specs.Parts.{table_until}
+use Rattle.mp_job.specs.Parts.{table_in}
 use Rattle.mp_job.proofs.Same.{same_list, same_then}
 use Rattle.mp_job.proofs.Sharing.{none_left, taken_in, times_added, times_from}
 use Rattle.mp_job.proofs.gather.gather.Goals as goal
 
 pub loop-index-preserved : goal.loop-index-preserved
 loop-index-preserved g c =
-    let q = table_until g.Q.Query.facts (g.Q.Query.values c.args.source.now.query) c.args.source.now.stop in
+    let q = table_in g.Q.Query.facts g.Q.Query.text_of (g.Q.Query.values c.args.source.now.query) c.args.source.now.stop c.args.source.now.opening in
     let events = c.args.events.now in
     let workers = length c.args.shares.now in
     let l = c.loop-index in
@@ -27,14 +27,14 @@ loop-index-preserved g c =
 
 pub returns-clause-times : goal.returns-clause-times
 returns-clause-times g c =
-    let q = table_until g.Q.Query.facts (g.Q.Query.values c.args.source.now.query) c.args.source.now.stop in
+    let q = table_in g.Q.Query.facts g.Q.Query.text_of (g.Q.Query.values c.args.source.now.query) c.args.source.now.stop c.args.source.now.opening in
     let l = c.loop-index in
     let times : Rec → List ℕ = λ r. r.time ∷ q.posts 0 r in
     same_then _ (l.times.items ++ times_from q times c.args.events.now l.index) _ (same_list _ _ (none_left q times c.args.events.now l.index l.times.items (omega (arith, c.loop-index-test.false)))) l.invariant.added
 
 pub returns-clause-posts : goal.returns-clause-posts
 returns-clause-posts g c =
-    let q = table_until g.Q.Query.facts (g.Q.Query.values c.args.source.now.query) c.args.source.now.stop in
+    let q = table_in g.Q.Query.facts g.Q.Query.text_of (g.Q.Query.values c.args.source.now.query) c.args.source.now.stop c.args.source.now.opening in
     let l = c.loop-index in
     same_then _ (l.posted.times ++ times_from q (q.posts 0) c.args.events.now l.index) _
     (same_list _ _ (c.into_times.ensures ∙ none_left q (q.posts 0) c.args.events.now l.index l.posted.times (omega (arith, c.loop-index-test.false)))) l.invariant.posts

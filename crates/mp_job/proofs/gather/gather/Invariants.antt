@@ -4,14 +4,14 @@ use Rattle.std.proofs.Common.{◌≡◌, ◌++◌, drop, filter, length, map}
 use Rattle.std.specs.List.{enumerate_from, filter_map, flat_map, range_with_len}
 use Rattle.mp_model.specs.Folds.{times_in}
 use Rattle.mp_model.specs.Stages.{input_records, record_of}
-use Rattle.mp_job.specs.Parts.{table_until}
+use Rattle.mp_job.specs.Parts.{table_in}
 use Rattle.mp_job.specs.Records.{is_taken_by}
 use Rattle.mp_job.specs.Times.{AllStandIn, HoldSame}
 use Rattle.mp_job.proofs.gather.gather.Given as goal
 
 abbrev pub invariant-loop-index : goal.invariant-loop-index
 invariant-loop-index g l =
-    let q = table_until g.Q.Query.facts (g.Q.Query.values l.source.query) l.source.stop in
+    let q = table_in g.Q.Query.facts g.Q.Query.text_of (g.Q.Query.values l.source.query) l.source.stop l.source.opening in
     let events = l.initial.events in
     let workers = length l.initial.shares in
     record {

@@ -1,5 +1,5 @@
 use Rattle.std.proofs.Common.{◌++◌, ◌∷◌, []}
-use Rattle.mp_job.specs.Parts.{table_until}
+use Rattle.mp_job.specs.Parts.{table_in}
 use Rattle.mp_job.proofs.Same.{same_list, same_then, same_twice, stands_still}
 use Rattle.mp_job.proofs.Sharing.{posts_made, times_made}
 use Rattle.mp_job.proofs.gather.take_in.Goals as goal
@@ -9,7 +9,7 @@ add_posts-requires g c = stands_still c.args.posted.now.last c.args.times.now.it
 
 pub returns-clause-times : goal.returns-clause-times
 returns-clause-times g c =
-    let q = table_until g.Q.Query.facts (g.Q.Query.values c.args.source.now.query) c.args.source.now.stop in
+    let q = table_in g.Q.Query.facts g.Q.Query.text_of (g.Q.Query.values c.args.source.now.query) c.args.source.now.stop c.args.source.now.opening in
     let old = c.args.times.now.items in
     let event = c.args.event.now in
     let posts = c.posts-posts.result in
@@ -20,7 +20,7 @@ returns-clause-times g c =
 
 pub returns-clause-posts : goal.returns-clause-posts
 returns-clause-posts g c =
-    let q = table_until g.Q.Query.facts (g.Q.Query.values c.args.source.now.query) c.args.source.now.stop in
+    let q = table_in g.Q.Query.facts g.Q.Query.text_of (g.Q.Query.values c.args.source.now.query) c.args.source.now.stop c.args.source.now.opening in
     let all =
     posts_made q c.args.index c.from.result c.in-Some.key c.args.event.now c.replace.result c.key.result c.args.posted.now.times c.posts-posts.result c.key.ensures c.in-Some.is c.from.ensures c.replace.ensures.value c.posts-posts.ensures
     in
