@@ -11,7 +11,7 @@ use Rattle.mp_names.specs.Laws.{IsMade}
 use Rattle.mp_names.specs.Names.{In, is_group}
 use Rattle.mp_names.specs.Outlines.{IsOwed, OutlineIsSound, groups_of, is_posted, time_of}
 use Rattle.mp_names.proofs.Listed.{group_cause, groups_are}
-use Rattle.mp_names.proofs.NameParts.{same_parts}
+use Rattle.mp_names.proofs.NameParts.{same_group, same_parts}
 use Rattle.mp_names.proofs.Owners.{move_has_control}
 use Rattle.mp_model.specs.declared.record.Rec.{Rec}
 use Rattle.mp_model.specs.Facts.{JobFacts, QueryFacts}
@@ -21,10 +21,11 @@ use Rattle.mp_job.specs.Laws.{HasTime}
 use Rattle.mp_job.specs.Legal.{JobIsLegal}
 use Rattle.mp_job.specs.Times.{times_of}
 use Rattle.mp_job.proofs.Gathering.{times_have}
+use Rattle.mp_job.proofs.Members.{map-Contains}
 use Rattle.mp_outline.specs.JobOutline.{opening_names, outline_of, record_names}
 use Rattle.mp_outline.proofs.Found.{found_there}
 use Rattle.mp_outline.proofs.Stages.{post_named, record_named}
-use Rattle.mp_outline.proofs.Whole.{nothing_opens}
+use Rattle.mp_outline.proofs.Waking.{wake_named, wakes_are_first}
 use Rattle.mp_board.specs.Soundness.{HoldsAllTimes}
 
 module _ {Cell : Type 0} (q : QueryFacts Cell) (nothing : LaterStagesPostNothing q) (job : JobFacts) (ok : OutlineIsSound (outline_of q job)) (legal : JobIsLegal q job) where
@@ -37,7 +38,7 @@ module _ {Cell : Type 0} (q : QueryFacts Cell) (nothing : LaterStagesPostNothing
   control_time : (i : ℕ) → i < length job.controls → Has (control_of job.controls i).time
   control_time i l =
       let c = control_of job.controls i in
-      inr (found_there (λ (d : Control). d.time ≡ c.time) job.controls c (i, l, get_or_default job.controls i c no_control l) refl)
+      inr (inl (found_there (λ (d : Control). d.time ≡ c.time) job.controls c (i, l, get_or_default job.controls i c no_control l) refl))
 
   input_time : (t k : ℕ) (g : Tag) → In (RecName 0 t k g) (record_names q job 0) → Has t
   input_time t k g i =
@@ -50,9 +51,16 @@ module _ {Cell : Type 0} (q : QueryFacts Cell) (nothing : LaterStagesPostNothing
       let posted = subst (λ (x : Name). is_posted (outline_of q job) x t ≡ true) (sym r.2) p in
       inl (found_there (IsOf t) (input_records q job.events) r.0 r.1 (inr (post_named q nothing job 0 r.0 t r.1 posted)))
 
-  -- a group's time is that of its records, or one that they post
+  -- the time of an opening wake, which is of the first stage
+  wake_time : (j t k : ℕ) → In (Group j t k) (opening_names q job j) → Has t
+  wake_time j t k i =
+      let a = wake_named q job j (Group j t k) i in
+      let there = subst (λ (n : ℕ). Contains (q.waking n) a.0) (wakes_are_first q job legal j a.0 a.1) a.1 in
+      inr (inr (map-Contains (λ (w : ℕ × ℕ). w.0) (q.waking 0) t (found_there (λ (w : ℕ × ℕ). w.0 ≡ t) (q.waking 0) a.0 there (same_group j a.0.0 a.0.1 t k a.2).0)))
+
+  -- a group's time is that of an opening wake or of its records, or one that they post
   group_from : (j t k : ℕ) → ((s l : ℕ) (g : Tag) → In (RecName j s l g) (record_names q job j) → Has s) → In (Group j t k) (groups_of (outline_of q job) j) → Has t
-  group_from j t k records i = ⊎_elim (λ (e : In (Group j t k) (opening_names q job j)). absurd (nothing_opens q job legal j (Group j t k) e)) (λ (m : IsMade (outline_of q job) j t k). from j m records) (group_cause (outline_of q job) ok j t k i)
+  group_from j t k records i = ⊎_elim (λ (e : In (Group j t k) (opening_names q job j)). wake_time j t k e) (λ (m : IsMade (outline_of q job) j t k). from j m records) (group_cause (outline_of q job) ok j t k i)
     where
       from : (n : ℕ) → IsMade (outline_of q job) n t k → ((s l : ℕ) (g : Tag) → In (RecName n s l g) (record_names q job n) → Has s) → Has t
       from zero c recs =

@@ -11,7 +11,6 @@ pub mod Records
 pub mod Posts
 pub mod Waking
 pub mod Ends
-pub mod Whole
 pub mod Runs
 pub mod Stages
 pub mod Soundness

@@ -1,6 +1,7 @@
 -- Lists of the names of things.
-use Rattle.std.proofs.Common.{◌≡◌, ◌<◌, Bool, true, false, cond, List, [], ◌∷◌, map, Contains, refl, sym, subst, ⊎_elim}
+use Rattle.std.proofs.Common.{◌≡◌, ℕ, ◌<◌, Bool, true, false, cond, List, [], ◌∷◌, map, count_by, Contains, refl, sym, ap, subst, ⊎_elim, arith}
 use Rattle.std.proofs.lemmas.Bool.{false≢true, false_from_ne_true}
+use Rattle.std.proofs.lemmas.List.Sums.{sum_by-cons}
 use Rattle.mp_names.specs.declared.names.Name.{Name}
 use Rattle.mp_names.specs.Names.{has, In, Distinct}
 use Rattle.mp_names.specs.Outlines.{StandByIndex, index_of}
@@ -31,6 +32,16 @@ module _ {X : Type 0} (f : X → Name) where
   pub named_once : (xs : List X) → Pairs (λ x y. f x ≡ f y → ⊥) xs → Distinct (map f xs)
   named_once [] h = tt
   named_once (x ∷ xs) h = (false_from_ne_true (has (map f xs) (f x)) (λ i. let a = In_named xs (f x) i in h.0 a.0 a.1 (sym a.2)), named_once xs h.1)
+
+  -- as many names pass a test as things pass it by their names
+  pub count_named : (p : Name → Bool) (r : X → Bool) (xs : List X) → ((x : X) → Contains xs x → p (f x) ≡ r x) → count_by p (map f xs) ≡ count_by r xs
+  count_named p r [] h = refl
+  count_named p r (x ∷ xs) h =
+      let a = sum_by-cons (λ (n : Name). cond (p n) 1 0) (f x) (map f xs) in
+      let b = sum_by-cons (λ (y : X). cond (r y) 1 0) x xs in
+      let c : cond {A = ℕ} (p (f x)) 1 0 ≡ cond {A = ℕ} (r x) 1 0 = ap (λ (b : Bool). cond {A = ℕ} b 1 0) (h x (Contains-here x xs)) in
+      let d = count_named p r xs (λ y i. h y (Contains-later x y xs i)) in
+      omega arith
 
   -- where indices rise the names stand by them
   pub named_by_index : (xs : List X) → Pairs (λ x y. index_of (f x) < index_of (f y)) xs → StandByIndex (map f xs)

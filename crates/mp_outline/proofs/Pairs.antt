@@ -1,5 +1,5 @@
 -- What holds between each element of a list and all later ones.
-use Rattle.std.proofs.Common.{◌≡◌, ◌⊎◌, ℕ, zero, suc, ◌<◌, Bool, List, [], ◌∷◌, ◌++◌, get_or, filter, AllPairs, Contains, sym, ◌∙◌, subst, inl, inr, ⊎_elim, arith}
+use Rattle.std.proofs.Common.{◌≡◌, ◌⊎◌, ℕ, zero, suc, ◌<◌, Bool, List, [], ◌∷◌, ◌++◌, length, get_or, filter, AllPairs, Contains, sym, ◌∙◌, subst, inl, inr, ⊎_elim, arith}
 use Rattle.std.proofs.lemmas.Bool.{cond_both}
 use Rattle.std.proofs.lemmas.List.Elements.{Contains-append_cases, Contains-get_or}
 use Rattle.mp_job.proofs.Ascents.{Rises}
@@ -65,6 +65,14 @@ module _ {X : Type 0} where
   AllPairs-Pairs R (x ∷ xs) h zero (suc j) d l m = h.0 (get_or xs j d) (Contains-get_or xs j d (omega arith))
   AllPairs-Pairs R (x ∷ xs) h (suc i) zero d l m = absurd (omega arith)
   AllPairs-Pairs R (x ∷ xs) h (suc i) (suc j) d l m = AllPairs-Pairs R xs h.1 i j d (omega arith) (omega arith)
+
+  -- and back
+  pub Pairs-AllPairs : (R : X → X → Type 0) (xs : List X) → AllPairs R xs → Pairs R xs
+  Pairs-AllPairs R [] h = tt
+  Pairs-AllPairs R (x ∷ xs) h = (
+    (λ y i. let l : i.0 < length xs = i.1 in subst (R x) i.2 (h 0 (suc i.0) y (omega arith) (omega arith))),
+    Pairs-AllPairs R xs (λ i j d l m. h (suc i) (suc j) d (omega arith) (omega arith)),
+  )
 
 -- in a rising list each number is below all later ones
 pub Pairs-Rises : (xs : List ℕ) → Rises xs → Pairs (λ x y. x < y) xs

@@ -4,6 +4,8 @@ pub mod Several
 pub mod Controls
 pub mod Nothing
 pub mod Sources
+pub mod Wakes
+pub mod Waiting
 pub mod EmptyLog
 pub mod RowTaken
 pub mod Netted

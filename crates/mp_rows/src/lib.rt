@@ -11,6 +11,7 @@ mod netting;
 mod new_names;
 mod opening;
 mod outlined;
+mod waking;
 
 pub use lists::LogList;
 pub use log::Log;

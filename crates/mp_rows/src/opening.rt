@@ -8,13 +8,15 @@ ghost use Rattle.mp_rows.specs.Entries.{AreContributions};
 ghost use Rattle.mp_rows.specs.Opening.{control_entries, source_entries};
 ghost use Rattle.mp_model.specs.Tables.{table_of};
 
+use crate::waking::add_wakes;
 use crate::{Change, Pointstamp};
 use mp_job::{Control, Event, Job, Query};
 use mp_names::Loc;
 use std::alloc::{AllocError, Global};
 
 /// The contributions of the empty log of a worker, whether the job runs paced or not: on worker 0 the control records that
-/// it has to send to each worker, and the records of the worker's share. `AllocError`: no memory.
+/// it has to send to each worker; the records of the worker's share; and the wakes that the job begins with, of the bins
+/// whose first owner the worker is. `AllocError`: no memory.
 pub fn opening_entries<Q: Query>(
     alloc: Global,
     job: &Job<Q>,
@@ -28,6 +30,7 @@ pub fn opening_entries<Q: Query>(
     let mut entries = Vec::new(alloc);
     add_controls(job.controls(), shape.workers, worker, &mut entries)?;
     add_records(job.events(), job.share(worker), &mut entries)?;
+    add_wakes(job, worker, &mut entries)?;
     Ok(entries)
 }
 

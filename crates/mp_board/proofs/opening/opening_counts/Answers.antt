@@ -8,7 +8,7 @@ use Rattle.mp_board.proofs.Opened.{opened_next}
 use Rattle.mp_model.specs.Folds.{times_in}
 use Rattle.mp_model.specs.Stages.{input_records}
 use Rattle.mp_model.specs.Tables.{table_of}
-use Rattle.mp_job.specs.Times.{control_times}
+use Rattle.mp_job.specs.Times.{control_times, wake_times}
 use Rattle.mp_job.proofs.Runs.{run_shape}
 use Rattle.mp_job.proofs.Ascents.{IsStrictlyIncreasing-ascending}
 use Rattle.mp_board.proofs.opening.opening_counts.Goals as goal
@@ -16,7 +16,8 @@ use Rattle.mp_board.proofs.opening.opening_counts.Goals as goal
 pub over-requires-clause-rising : goal.over-requires-clause-rising
 over-requires-clause-rising g c =
     let job = c.args.job.now in
-    rw c.times.ensures (IsStrictlyIncreasing-ascending (times_in (table_of g.Q.Query.facts job) 0 (input_records (table_of g.Q.Query.facts job) job.events) ++ control_times job.controls))
+    let q = table_of g.Q.Query.facts job in
+    rw c.times.ensures (IsStrictlyIncreasing-ascending ((times_in q 0 (input_records q job.events) ++ control_times job.controls) ++ wake_times q))
 
 pub loop-worker-preserved : goal.loop-worker-preserved
 loop-worker-preserved g c =
