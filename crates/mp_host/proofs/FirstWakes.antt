@@ -1,28 +1,15 @@
--- A new host has no wakes, and the first wake tells whether the first group has one.
-use Rattle.std.proofs.Common.{◌≡◌, ◌↔◌, ◌==◌, ◌&&◌, ℕ, zero, suc, Bool, true, false, cond, Option, None, Some, [], ◌∷◌, All, arith, nat_eq, refl, subst, sym}
+-- The first wake tells whether the first group has one.
+use Rattle.std.proofs.Common.{◌≡◌, ◌↔◌, ◌&&◌, ℕ, true, false, Option, None, Some, [], arith, nat_eq, subst, sym}
 use Rattle.std.specs.List.{list_any}
 use Rattle.std.specs.Option.{option_eq}
 use Rattle.std.proofs.lemmas.Bool.{false≢true, or_right}
-use Rattle.std.proofs.lemmas.List.Elements.{All-append, All-cons, All-nil}
-use Rattle.mp_bins.specs.Notes.{first_owner}
+use Rattle.std.proofs.lemmas.List.Elements.{All-nil}
 use Rattle.mp_model.specs.Facts.{JobFacts, QueryFacts}
-use Rattle.mp_outline.specs.JobOutline.{layout_of}
 use Rattle.mp_msg.specs.Contents.{IsRecordOf}
 use Rattle.mp_postdated.specs.Wakes.{ComesNoLater}
-use Rattle.mp_host_laws.specs.declared.held.Held.{Held}
-use Rattle.mp_host_laws.specs.Hosted.{Hosted, StandsInOrder, empty_state, first_group, first_held, first_wake_of, has_wake_at, is_of, waits_at}
+use Rattle.mp_host_laws.specs.Hosted.{Hosted, StandsInOrder, first_group, first_wake_of, has_wake_at, is_of, waits_at}
 use Rattle.mp_host_laws.proofs.Firsts.{first_waits, none_waits}
 use Rattle.mp_host_laws.proofs.Logs.{same_test}
-
--- a new host has no wakes
-module _ {Cell : Type 0} where
-  one_without : (b : ℕ) (own : Bool) → All (λ (s : Held Cell). s.state.wakes ≡ []) (cond own (record { bin = b; since = None; state = empty_state } ∷ []) [])
-  one_without b true = All-cons (λ (s : Held Cell). s.state.wakes ≡ []) _ [] refl (All-nil (λ (s : Held Cell). s.state.wakes ≡ []))
-  one_without b false = All-nil (λ (s : Held Cell). s.state.wakes ≡ [])
-
-  pub first_without : (job : JobFacts) (j w n : ℕ) → All (λ (s : Held Cell). s.state.wakes ≡ []) (first_held job j w n)
-  first_without job j w zero = All-nil (λ (s : Held Cell). s.state.wakes ≡ [])
-  first_without job j w (suc n) = All-append (λ (s : Held Cell). s.state.wakes ≡ []) (first_held job j w n) _ (first_without job j w n) (one_without n (first_owner (layout_of job) j n == w))
 
 same_group : (w : ℕ × ℕ) (t k : ℕ) → ComesNoLater w (t, k) → ComesNoLater (t, k) w → (w.0 ≡ t) × (w.1 ≡ k)
 same_group w t k a b = grind arith

@@ -1,5 +1,5 @@
 -- What a host is once the first group is applied to the state of its key's bin.
-use Rattle.std.proofs.Common.{◌≡◌, ◌≢◌, ◌<◌, ℕ, suc, ◌==◌, Bool, List, [], ◌∷◌, ◌++◌, All, Contains, IsSome, filter, not, sym, ◌∙◌, subst, ⊎_elim, length, refl, arith, length-append}
+use Rattle.std.proofs.Common.{◌≡◌, ◌≢◌, ◌<◌, ℕ, suc, ◌==◌, Bool, List, [], ◌∷◌, ◌++◌, All, Contains, IsSome, filter, not, sym, ◌∙◌, subst, inr, ⊎_elim, length, refl, arith, length-append}
 use Rattle.std.proofs.lemmas.Bool.{and_parts, cond-true, eqb-true}
 use Rattle.std.proofs.lemmas.List.{drop_at, get_or_at, take_at}
 use Rattle.std.proofs.lemmas.List.Elements.{All-append, All-cons, All-contains, All-drop, All-take}
@@ -130,10 +130,10 @@ module _ {Cell : Type 0} (q : QueryFacts Cell) (job its : JobFacts) (h : Hosted 
                 ((how.takes.wakes u l).0 i);
           };
         };
-        posted = λ u l i.
+        caused = λ u l i.
             ⊎_elim
-            (λ (old : Has (wakes_in stepped.one) u l × (IsWake t k (u, l) → ⊥)). fits.posted u l old.0)
-            (λ (new : (l ≡ k) × Contains (posts_here q h t k) u). let r = posted_here u new.1 in (r.0, r.1, r.2 ∙ sym new.0, r.3))
+            (λ (old : Has (wakes_in stepped.one) u l × (IsWake t k (u, l) → ⊥)). fits.caused u l old.0)
+            (λ (new : (l ≡ k) × Contains (posts_here q h t k) u). let r = posted_here u new.1 in inr (r.0, r.1, r.2 ∙ sym new.0, r.3))
             ((how.takes.wakes u l).0 i);
       }
 

@@ -1,31 +1,30 @@
 -- What a host keeps to as it changes, where a call succeeds and where it is refused.
-use Rattle.std.proofs.Common.{◌≡◌, ◌<◌, ◌≤◌, ◌==◌, ◌+◌, ◌++◌, ◌∙◌, ℕ, zero, suc, add-one, refl, sym, ap, subst, Bool, true, false, cond, Option, None, Some, IfNone, IsOk, List, [], ◌∷◌, All, arith}
-use Rattle.std.specs.List.Sorted.{IsStrictlySortedBy}
-use Rattle.std.specs.Ordering.{nat_cmp}
+use Rattle.std.proofs.Common.{◌≡◌, ◌<◌, ◌==◌, ◌+◌, ◌++◌, ◌∙◌, ℕ, zero, suc, refl, sym, ap, subst, Bool, true, false, cond, Option, None, Some, IfNone, IsOk, List, [], ◌∷◌, All, Contains, filter, inl, arith}
+use Rattle.std.specs.List.{range_with_len}
 use Rattle.std.specs.Result.{OnErr, OnOk}
-use Rattle.std.specs.declared.cmp.Ordering.{Ordering}
 use Rattle.std.specs.declared.result.Result.{Result}
 use Rattle.std.specs.declared.result.Result.TheVariants.{Ok, Err}
 use Rattle.std.proofs.lemmas.Bool.{eq-eqb, ne_eqb}
-use Rattle.std.proofs.lemmas.List.{append-nil}
-use Rattle.std.proofs.lemmas.List.Elements.{All-append, All-cons, All-contains, All-nil, All-weaker}
-use Rattle.mp_bins.specs.Notes.{Layout, first_owner}
+use Rattle.std.proofs.lemmas.List.{append-nil, map-append}
+use Rattle.std.proofs.lemmas.List.Elements.{All-contains, All-nil, All-push, All-weaker, filter-append}
+use Rattle.mp_bins.specs.Notes.{first_owner}
 use Rattle.mp_model.specs.declared.record.Rec.{Rec}
 use Rattle.mp_model.specs.Facts.{JobFacts, QueryFacts}
 use Rattle.mp_job.specs.Legal.{JobIsLegal}
 use Rattle.mp_job.specs.Runs.{IsRunOf}
-use Rattle.mp_job.proofs.Members.{nothing_in_nil}
+use Rattle.mp_job.proofs.Members.{map-Contains}
+use Rattle.mp_model.specs.Tables.{table_of}
 use Rattle.mp_outline.specs.JobOutline.{layout_of}
-use Rattle.mp_msg.proofs.States.{same_content}
+use Rattle.mp_outline.proofs.Found.{found_there}
 use Rattle.mp_msg.specs.Contents.{IsRecordOf}
-use Rattle.mp_msg.specs.States.{BinContent}
+use Rattle.mp_msg.specs.States.{BinContent, IsStateAtFirst}
 use Rattle.mp_ordered.specs.InOrder.{IsInOrder, put_in_order}
 use Rattle.mp_ordered.proofs.Placing.{put_all, put_keeps}
-use Rattle.mp_postdated.specs.Wakes.{wake_cmp}
 use Rattle.mp_host_laws.specs.declared.held.Held.{Held}
-use Rattle.mp_host_laws.specs.Hosted.{Hosted, IsNew, StateStands, empty_state, first_held, group_rank}
+use Rattle.mp_host_laws.specs.Hosted.{Hosted, IsNew, StateStands, first_bins, group_rank}
+use Rattle.mp_host_laws.proofs.Beginning.{first_bin_is}
 use Rattle.mp_host_laws.proofs.Lists.{All-each}
-use Rattle.mp_host.specs.Hosts.{IsHosted, MayBeHeld, WakesArePosted}
+use Rattle.mp_host.specs.Hosts.{AreAtFirst, IsHosted, MayBeHeld, WakesAreCaused}
 
 -- where a call does one thing on `Ok` and another on `Err`, and either will do
 pub either_way : {A E : Type 0} (r : Result A E) (P Q R : Type 0) → OnOk r P → OnErr r Q → (P → R) → (Q → R) → R
@@ -50,7 +49,7 @@ on_ok (Err e) P Q p f = tt
 -- a host of a run is one of the run itself
 pub of_the_run : {Cell : Type 0} {q : QueryFacts Cell} {job its : JobFacts} {old new : Hosted Cell} → old ≡ new → IsHosted q job its old → IsHosted q job job new
 of_the_run {q = q} {job = job} {old = old} is hosted =
-    let itself : IsHosted q job job old = record { run = refl; legal = hosted.legal; stage = hosted.stage; worker = hosted.worker; order = hosted.order; posted = hosted.posted } in
+    let itself : IsHosted q job job old = record { run = refl; legal = hosted.legal; stage = hosted.stage; worker = hosted.worker; order = hosted.order; caused = hosted.caused } in
     subst (IsHosted q job job) is itself
 
 module _ {Cell : Type 0} (q : QueryFacts Cell) (job its : JobFacts) where
@@ -60,7 +59,7 @@ module _ {Cell : Type 0} (q : QueryFacts Cell) (job its : JobFacts) where
       All-each (MayBeHeld q job h.stage) h.held
       (λ s i. record {
         denotes = All-contains (StateStands q job h.stage) h.held s hosted.order.states i;
-        posted = All-contains (WakesArePosted q job h.stage) h.held s hosted.posted i;
+        caused = All-contains (WakesAreCaused q job h.stage) h.held s hosted.caused i;
       })
 
   -- with other records in order, and other such states, it keeps to what a host keeps to
@@ -73,7 +72,7 @@ module _ {Cell : Type 0} (q : QueryFacts Cell) (job its : JobFacts) where
     stage = hosted.stage;
     worker = hosted.worker;
     order = record { content = content; records = order; states = All-weaker (MayBeHeld q job h.stage) (StateStands q job h.stage) (λ s f. f.denotes) held fit };
-    posted = All-weaker (MayBeHeld q job h.stage) (WakesArePosted q job h.stage) (λ s f. f.posted) held fit;
+    caused = All-weaker (MayBeHeld q job h.stage) (WakesAreCaused q job h.stage) (λ s f. f.caused) held fit;
   }
 
   -- with a record of the stage put at its place
@@ -85,54 +84,85 @@ module _ {Cell : Type 0} (q : QueryFacts Cell) (job its : JobFacts) where
       (rw e (put_keeps group_rank r h.records hosted.order.records))
       (states_fit h hosted)
 
-none_sorted : {K : Type 0} (cmp : K → K → Ordering) → IsStrictlySortedBy cmp []
-unfolding IsStrictlySortedBy
-none_sorted cmp = tt
+-- The bins that a worker first owns
 
--- a bin of the job without cells and wakes
-module _ {Cell : Type 0} (q : QueryFacts Cell) (job : JobFacts) (j w : ℕ) where
-  empty_fits : (b : ℕ) → b < job.shape.bins → MayBeHeld q job j (record { bin = b; since = None; state = empty_state })
-  empty_fits b l = record {
-    denotes = record {
-      bin = l;
-      order = record { cells = none_sorted nat_cmp; wakes = none_sorted wake_cmp };
-      own = record { cells = λ k c i. absurd (nothing_in_nil (k, c) i); wakes = λ u k i. absurd (nothing_in_nil (u, k) i) };
-    };
-    posted = λ u k i. absurd (nothing_in_nil (u, k) i);
-  }
+-- those below a number
+abbrev pub bins_below : JobFacts → ℕ → ℕ → ℕ → List ℕ
+bins_below job j w n = filter (λ b. first_owner (layout_of job) j b == w) (range_with_len 0 n)
 
-  one_or_none : (b : ℕ) → b < job.shape.bins → (own : Bool) → All (MayBeHeld q job j) (cond own (record { bin = b; since = None; state = empty_state } ∷ []) [])
-  one_or_none b l true = All-cons (MayBeHeld q job j) _ [] (empty_fits b l) (All-nil (MayBeHeld q job j))
-  one_or_none b l false = All-nil (MayBeHeld q job j)
+range_more : (a n : ℕ) → range_with_len a (suc n) ≡ range_with_len a n ++ (a + n) ∷ []
+range_more a zero = let same : a ≡ a + 0 = omega arith in ap (λ (b : ℕ). b ∷ []) same
+range_more a (suc n) =
+    let same : a + 1 + n ≡ a + suc n = omega arith in
+    ap (λ (bs : List ℕ). a ∷ bs) (range_more (a + 1) n ∙ ap (λ (b : ℕ). range_with_len (a + 1) n ++ b ∷ []) same)
 
-  pub first_fit : (n : ℕ) → n ≤ job.shape.bins → All (MayBeHeld q job j) (first_held job j w n)
-  first_fit zero l = All-nil (MayBeHeld q job j)
-  first_fit (suc b) l = All-append (MayBeHeld q job j) (first_held job j w b) _ (first_fit b (omega arith)) (one_or_none b (omega arith) (first_owner (layout_of job) j b == w))
+below_more : (p : ℕ → Bool) (b : ℕ) → filter p (range_with_len 0 (b + 1)) ≡ filter p (range_with_len 0 b) ++ cond (p b) (b ∷ []) []
+below_more p b =
+    let next : b + 1 ≡ suc b = omega arith in
+    let same : 0 + b ≡ b = omega arith in
+    ap (λ (n : ℕ). filter p (range_with_len 0 n)) next
+    ∙ ap (filter p) (range_more 0 b)
+    ∙ filter-append p (range_with_len 0 b) ((0 + b) ∷ [])
+    ∙ ap (λ (n : ℕ). filter p (range_with_len 0 b) ++ cond (p n) (n ∷ []) []) same
 
--- one bin more
-module _ {Cell : Type 0} (job : JobFacts) (j w b : ℕ) (held : List (Held Cell)) (was : held ≡ first_held job j w b) where
-  pub one_first : (s : BinContent Cell) → s.cells ≡ [] → s.wakes ≡ [] → first_owner (layout_of job) j b ≡ w → held ++ record { bin = b; since = None; state = s } ∷ [] ≡ first_held job j w (b + 1)
-  one_first s cells wakes e =
-      let own : (first_owner (layout_of job) j b == w) ≡ true = eq-eqb (first_owner (layout_of job) j b) w e in
-      let none : s ≡ empty_state = same_content s empty_state cells wakes in
-      rw (add-one, own, was, none) refl
+module _ {Cell : Type 0} (q : QueryFacts Cell) (job : JobFacts) (j w b : ℕ) (held : List (Held Cell)) (are : AreAtFirst q job j (bins_below job j w b) held) where
+  -- one bin more that is the worker's, with what it begins with
+  pub one_first : (s : BinContent Cell) → IsStateAtFirst q job j b s → first_owner (layout_of job) j b ≡ w → AreAtFirst q job j (bins_below job j w (b + 1)) (held ++ record { bin = b; since = None; state = s } ∷ [])
+  one_first s at e =
+      let one : Held Cell = record { bin = b; since = None; state = s } in
+      let its : (first_owner (layout_of job) j b == w) ≡ true = eq-eqb (first_owner (layout_of job) j b) w e in
+      let more : bins_below job j w (b + 1) ≡ bins_below job j w b ++ b ∷ [] = below_more (λ (n : ℕ). first_owner (layout_of job) j n == w) b ∙ ap (λ (own : Bool). bins_below job j w b ++ cond own (b ∷ []) []) its in
+      record {
+        of = map-append (λ (r : Held Cell). r.bin) held (one ∷ []) ∙ ap (λ (bs : List ℕ). bs ++ b ∷ []) are.of ∙ sym more;
+        first = All-push (λ (r : Held Cell). r.since ≡ None) held one are.first refl;
+        states = All-push (λ (r : Held Cell). IsStateAtFirst q job j r.bin r.state) held one are.states at;
+      }
 
-  pub other_first : (first_owner (layout_of job) j b ≡ w → ⊥) → held ≡ first_held job j w (b + 1)
+  -- or one that isn't
+  pub other_first : (first_owner (layout_of job) j b ≡ w → ⊥) → AreAtFirst q job j (bins_below job j w (b + 1)) held
   other_first e =
       let other : (first_owner (layout_of job) j b == w) ≡ false = ne_eqb (first_owner (layout_of job) j b) w e in
-      rw (add-one, other) (was ∙ sym (append-nil (first_held job j w b)))
+      let more : bins_below job j w (b + 1) ≡ bins_below job j w b = below_more (λ (n : ℕ). first_owner (layout_of job) j n == w) b ∙ ap (λ (own : Bool). bins_below job j w b ++ cond own (b ∷ []) []) other ∙ append-nil (bins_below job j w b) in
+      subst (λ (bs : List ℕ). AreAtFirst q job j bs held) (sym more) are
 
--- a run of a job has the same first owners
-pub first_of_run : {Cell : Type 0} (its job : JobFacts) → IsRunOf its job → (j w n : ℕ) → first_held {Cell = Cell} its j w n ≡ first_held {Cell = Cell} job j w n
-first_of_run its job run j w zero = refl
-first_of_run {Cell} its job run j w (suc b) =
-    ap (λ (bins : List (Held Cell)). bins ++ cond (first_owner (layout_of its) j b == w) (record { bin = b; since = None; state = empty_state } ∷ []) []) (first_of_run its job run j w b)
-    ∙ ap (λ (l : Layout). first_held {Cell = Cell} job j w b ++ cond (first_owner l j b == w) (record { bin = b; since = None; state = empty_state } ∷ []) []) (ap layout_of run)
+-- a host may have them
+module _ {Cell : Type 0} (q : QueryFacts Cell) (job : JobFacts) (j w : ℕ) (held : List (Held Cell)) (are : AreAtFirst q job j (first_bins job j w) held) where
+  pub first_fit : All (MayBeHeld q job j) held
+  first_fit = All-each (MayBeHeld q job j) held fits
+    where
+      fits : (s : Held Cell) → Contains held s → MayBeHeld q job j s
+      fits s i =
+          let at = All-contains (λ (r : Held Cell). IsStateAtFirst q job j r.bin r.state) held s are.states i in
+          let there = map-Contains (λ (r : Held Cell). r.bin) held s.bin (found_there (λ (r : Held Cell). r.bin ≡ s.bin) held s i refl) in
+          record {
+            denotes = record { bin = (first_bin_is job j w s.bin (subst (λ (bs : List ℕ). Contains bs s.bin) are.of there)).0; order = at.order; own = at.own };
+            caused = λ u k has. inl ((at.wakes u k (at.own.wakes u k has)).0 has);
+          }
 
--- so a new host keeps to what a host keeps to
-pub new_hosted : {Cell : Type 0} (q : QueryFacts Cell) (job its : JobFacts) (h : Hosted Cell) → IsRunOf its job → JobIsLegal q job → h.stage < job.shape.stages → h.worker < job.shape.workers → IsNew job h → IsHosted q job its h
+-- What bins begin with doesn't depend on whether the job is paced
+
+module _ {Cell : Type 0} (q : QueryFacts Cell) (job : JobFacts) (paced : Bool) where
+  state_as : (j b : ℕ) (s : BinContent Cell) → IsStateAtFirst q job j b s → IsStateAtFirst q (record job { paced = paced }) j b s
+  state_as j b s at = record { order = at.order; own = record { cells = at.own.cells; wakes = at.own.wakes }; cells = at.cells; wakes = at.wakes }
+
+  first_as : (j : ℕ) (bins : List ℕ) (held : List (Held Cell)) → AreAtFirst q job j bins held → AreAtFirst q (record job { paced = paced }) j bins held
+  first_as j bins held are = record {
+    of = are.of;
+    first = are.first;
+    states = All-weaker (λ (s : Held Cell). IsStateAtFirst q job j s.bin s.state) (λ (s : Held Cell). IsStateAtFirst q (record job { paced = paced }) j s.bin s.state) (λ s at. state_as j s.bin s.state at) held are.states;
+  }
+
+-- so a host of a run with them is new
+pub new_of_run : {Cell : Type 0} (facts : List ℕ → QueryFacts Cell) (its job : JobFacts) → IsRunOf its job → (h : Hosted Cell) → h.records ≡ []
+    → AreAtFirst (table_of facts its) its h.stage (first_bins its h.stage h.worker) h.held → IsNew (table_of facts job) job h
+new_of_run facts its job run h none are =
+    let now = subst (λ (f : JobFacts). AreAtFirst (table_of facts f) f h.stage (first_bins f h.stage h.worker) h.held) run (first_as (table_of facts its) its job.paced h.stage (first_bins its h.stage h.worker) h.held are) in
+    record { records = none; bins = now.of; first = now.first; states = now.states }
+
+-- and keeps to what a host keeps to
+pub new_hosted : {Cell : Type 0} (q : QueryFacts Cell) (job its : JobFacts) (h : Hosted Cell) → IsRunOf its job → JobIsLegal q job → h.stage < job.shape.stages → h.worker < job.shape.workers → IsNew q job h → IsHosted q job its h
 new_hosted q job its h run legal stage worker new =
-    let fit : All (MayBeHeld q job h.stage) h.held = rw new.held (first_fit q job h.stage h.worker job.shape.bins (omega arith)) in
+    let fit : All (MayBeHeld q job h.stage) h.held = first_fit q job h.stage h.worker h.held (record { of = new.bins; first = new.first; states = new.states }) in
     record {
       run = run;
       legal = legal;
@@ -143,7 +173,7 @@ new_hosted q job its h run legal stage worker new =
         records = rw new.records (none_in_order group_rank);
         states = All-weaker (MayBeHeld q job h.stage) (StateStands q job h.stage) (λ s f. f.denotes) h.held fit;
       };
-      posted = All-weaker (MayBeHeld q job h.stage) (WakesArePosted q job h.stage) (λ s f. f.posted) h.held fit;
+      caused = All-weaker (MayBeHeld q job h.stage) (WakesAreCaused q job h.stage) (λ s f. f.caused) h.held fit;
     }
   where
     none_in_order : (rank : Rec → List ℕ) → IsInOrder rank []

@@ -1,5 +1,5 @@
 -- What a host is once a state is taken out, put back or installed, and which groups come and go with it.
-use Rattle.std.proofs.Common.{◌≡◌, ◌++◌, ◌||◌, ℕ, suc, ◌+◌, ◌<◌, Bool, true, false, not, Option, None, Some, List, [], ◌∷◌, All, drop, filter, get_or, length, position, take, sym, ap, ◌∙◌, subst, refl, add-one}
+use Rattle.std.proofs.Common.{◌≡◌, ◌++◌, ◌||◌, ℕ, suc, ◌+◌, ◌<◌, Bool, true, false, not, Option, None, Some, List, [], ◌∷◌, All, drop, filter, get_or, length, position, take, sym, ap, ◌∙◌, subst, refl, add-one, inl, inr, ⊎_elim}
 use Rattle.std.specs.List.{list_any}
 use Rattle.std.proofs.lemmas.List.Elements.{All-append, All-drop, All-get_or, All-push, All-take, filter_agree}
 use Rattle.std.proofs.lemmas.List.Sorted.{All-permutation, list_any-IsPermutation}
@@ -13,7 +13,7 @@ use Rattle.mp_model.specs.QueryLaws.{LaterStagesPostNothing}
 use Rattle.mp_outline.specs.JobOutline.{outline_of}
 use Rattle.mp_outline.proofs.Stages.{post_named, record_named}
 use Rattle.mp_msg.specs.Contents.{IsPacketOf}
-use Rattle.mp_msg.specs.States.{BinContent}
+use Rattle.mp_msg.specs.States.{BinContent, IsOpening, IsPostedAt}
 use Rattle.mp_host_laws.specs.declared.held.Held.{Held}
 use Rattle.mp_host_laws.specs.Hosted.{Hosted, has_wake_in, is_held_before, state_before, waits_at, wakes_in}
 use Rattle.mp_host_laws.specs.Moving.{AreNumbersOf, IsTakenOut, brought, last_first, not_waiting}
@@ -82,11 +82,14 @@ module _ {Cell : Type 0} (q : QueryFacts Cell) (job its : JobFacts) (h : Hosted 
 pub packet_fits : {Cell : Type 0} (q : QueryFacts Cell) → LaterStagesPostNothing q → (job : JobFacts) → OutlineIsSound (outline_of q job) → (j b t : ℕ) (s : BinContent Cell) → IsPacketOf q job j b t s → MayBeHeld q job j (brought b t s)
 packet_fits q nothing job sound j b t s is = record {
   denotes = record { bin = (move_in_shape (outline_of q job) sound j b t is.0).1; order = is.1.order; own = is.1.own };
-  posted = λ u k i.
-      let p = (is.1.wakes u k (is.1.own.wakes u k i)).0 i in
-      let a = record_named q job j (RecName j p.1 k p.3.0) p.3.1 in
-      let same = same_parts j j a.0.time p.1 a.0.key k a.0.tag p.3.0 a.2 in
-      (a.0, a.1, same.1, post_named q nothing job j a.0 u a.1 (subst (λ (x : Name). is_posted (outline_of q job) x u ≡ true) (sym a.2) p.3.2));
+  caused = λ u k i.
+      ⊎_elim
+      (λ (first : IsOpening q j k u). inl first)
+      (λ (p : (v : ℕ) × (v < t) × IsPostedAt q job j k v u).
+      let a = record_named q job j (RecName j p.0 k p.2.0) p.2.1 in
+      let same = same_parts j j a.0.time p.0 a.0.key k a.0.tag p.2.0 a.2 in
+      inr (a.0, a.1, same.1, post_named q nothing job j a.0 u a.1 (subst (λ (x : Name). is_posted (outline_of q job) x u ≡ true) (sym a.2) p.2.2)))
+      ((is.1.wakes u k (is.1.own.wakes u k i)).0 i).1;
 }
 
 -- where no state has a place none can be taken out

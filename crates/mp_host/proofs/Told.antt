@@ -21,7 +21,6 @@ use Rattle.mp_job.specs.Legal.{JobIsLegal}
 use Rattle.mp_job.proofs.Whole.{saved_fits}
 use Rattle.mp_outline.specs.JobOutline.{outline_of}
 use Rattle.mp_outline.proofs.Soundness.{outline_is_sound}
-use Rattle.mp_outline.proofs.Whole.{NothingOpens, nothing_opens}
 use Rattle.mp_msg.specs.Contents.{IsRecordOf}
 use Rattle.mp_msg.specs.States.{BinContent, IsStateBefore}
 use Rattle.mp_postdated.specs.Wakes.{ComesNoLater}
@@ -68,7 +67,7 @@ module _ {Cell : Type 0} (q : QueryFacts Cell) (job : JobFacts) (keeps : QueryKe
   sound_outline legal = outline_is_sound q keeps.stages keeps.later keeps.nothing job legal
 
   whole_law : JobIsLegal q job → FirstIsWhole q job
-  whole_law legal = first_is_whole q keeps.nothing job (keeps.fit legal) legal (sound_outline legal) (nothing_opens q job legal)
+  whole_law legal = first_is_whole q keeps.nothing job (keeps.fit legal) legal (sound_outline legal)
 
   -- a record that is received is held by the log with it taken
   pub takes_record : (r : Rec) (old new : Hosted Cell) → IsHosted q job its old → IsRecordOf q job old.stage r → IsReceived r old new → TakesRecord q job r old new
@@ -154,7 +153,7 @@ module _ {Cell : Type 0} (q : QueryFacts Cell) (job : JobFacts) (keeps : QueryKe
   least_first t k least = found (first_group h) refl
     where
       law : ((u l : ℕ) → first_group h ≡ Some (u, l) → IsLeast (IsWaiting (outline_of q job) h.worker log h.stage) (Group h.stage u l)) × (first_group h ≡ None → (u l : ℕ) → IsWaiting (outline_of q job) h.worker log h.stage (Group h.stage u l) → ⊥)
-      law = first_is_least q job (sound_outline q job keeps its hosted.legal) (nothing_opens q job hosted.legal) log h hosted.order informed.host informed.legal hosted.stage
+      law = first_is_least q job (sound_outline q job keeps its hosted.legal) log h hosted.order informed.host informed.legal hosted.stage
 
       found : (o : Option (ℕ × ℕ)) → first_group h ≡ o → first_group h ≡ Some (t, k)
       found None e = absurd (law.1 e t k least.0)
@@ -193,15 +192,12 @@ module _ {Cell : Type 0} (q : QueryFacts Cell) (job : JobFacts) (keeps : QueryKe
   pub applies_group : (new : Hosted Cell) (t k : ℕ) (woke : List ℕ) → IsReadyHere job seen notes h t k → IsApplied q job t k h new → woke ≡ woken_by q h t k → AppliesGroup q job log seen h new t k woke
   applies_group new t k woke ready applied same = record {
     ready = ready_by_log q job keeps its h hosted seen notes log informed t k ready;
-    held = groups_are_held q keeps.nothing job sound opens log seen h new t k hosted.order informed hosted.stage hosted.worker ready.first ready.mail ready.state applied;
-    woken = λ u. rw same (woken_are_told q keeps.nothing job sound opens log seen h t k u hosted.order informed hosted.stage hosted.worker ready.first ready.mail ready.state);
+    held = groups_are_held q keeps.nothing job sound log seen h new t k hosted.order informed hosted.stage hosted.worker ready.first ready.mail ready.state applied;
+    woken = λ u. rw same (woken_are_told q keeps.nothing job sound log seen h t k u hosted.order informed hosted.stage hosted.worker ready.first ready.mail ready.state);
   }
     where
       sound : OutlineIsSound (outline_of q job)
       sound = sound_outline q job keeps its hosted.legal
-
-      opens : NothingOpens q job
-      opens = nothing_opens q job hosted.legal
 
 -- no two groups are ready here
 pub one_ready : {Cell : Type 0} (job : JobFacts) (seen : Seen) (notes : Notes) (h : Hosted Cell) (t k u l : ℕ)

@@ -1,5 +1,5 @@
 -- The keys to be woken at a time, told one state after the other: each once. With the keys of records that have no wake they are the keys that wait.
-use Rattle.std.proofs.Common.{◌≡◌, ◌≢◌, ◌++◌, ℕ, zero, suc, ◌+◌, ◌<◌, ◌≤◌, ◌==◌, Bool, true, false, not, Option, None, Some, List, [], ◌∷◌, All, Contains, drop, filter, get_or, add-one, length, map, sym, ap, ◌∙◌, subst, ⊎_elim, refl, arith}
+use Rattle.std.proofs.Common.{◌≡◌, ◌≢◌, ◌⊎◌, ◌++◌, ℕ, zero, suc, ◌+◌, ◌<◌, ◌≤◌, ◌==◌, Bool, true, false, not, Option, None, Some, List, [], ◌∷◌, All, Contains, drop, filter, get_or, add-one, length, map, sym, ap, ◌∙◌, subst, ⊎_elim, refl, arith}
 use Rattle.std.specs.Cmp.{nat_eq_equiv}
 use Rattle.std.specs.List.{cons_option, enumerate_from, filter_map, list_any}
 use Rattle.std.specs.Ordering.{nat_cmp, ordering_then}
@@ -13,15 +13,17 @@ use Rattle.std.proofs.lemmas.Map.Keys.{sorted_head, sorted_tail}
 use Rattle.std.proofs.lemmas.Map.Made.{IsDistinct-from_AllPairs, length-le_from_is_member}
 use Rattle.std.proofs.lemmas.Map.Views.{Contains-from_any, list_any-from_Contains}
 use Rattle.std.proofs.Math.Seq.{drop-cons}
-use Rattle.mp_names.specs.Limits.{most_events}
+use Rattle.mp_names.specs.Limits.{most_bytes, most_events}
 use Rattle.mp_model.specs.declared.record.Event.{Event}
 use Rattle.mp_model.specs.declared.record.Rec.{Rec}
-use Rattle.mp_model.specs.Facts.{JobFacts, QueryFacts}
+use Rattle.mp_model.specs.Facts.{JobFacts, QueryFacts, SavedState, SavedWake}
 use Rattle.mp_model.specs.Legal.{EventsAreLegal}
-use Rattle.mp_model.specs.QueryLaws.{LaterStagesPostNothing}
+use Rattle.mp_model.specs.QueryLaws.{LaterStagesPostNothing, SavedFits}
 use Rattle.mp_model.specs.Stages.{input_records, record_of, stage_records}
+use Rattle.mp_model.specs.Tables.{opening_wakes}
+use Rattle.mp_msg.specs.States.{IsOpening}
 use Rattle.mp_job.proofs.Ascents.{Rises, Rises-ascending}
-use Rattle.mp_job.proofs.Members.{nothing_in_nil, Contains-here, Contains-filter, Contains-map, filter-Contains, map-Contains}
+use Rattle.mp_job.proofs.Members.{nothing_in_nil, Contains-filter, Contains-map, filter-Contains, map-Contains}
 use Rattle.mp_outline.proofs.Found.{found, found_there}
 use Rattle.mp_outline.proofs.Pairs.{AllPairs-Pairs, Pairs, Pairs-Rises, Pairs-append, Pairs-weaker}
 use Rattle.mp_ordered.specs.InOrder.{IsInOrder}
@@ -31,8 +33,9 @@ use Rattle.mp_host_laws.specs.Hosted.{Hosted, StandsInOrder, StateStands, all_wa
 use Rattle.mp_host_laws.proofs.Counted.{key_waits, waits_key}
 use Rattle.mp_host_laws.proofs.Lists.{passing}
 use Rattle.mp_host_laws.proofs.Waiting.{in_wake, wake_in, wake_waits}
-use Rattle.mp_host.specs.Hosts.{IsHosted, WakesArePosted}
+use Rattle.mp_host.specs.Hosts.{IsHosted, WakesAreCaused}
 use Rattle.mp_host.specs.Waiting.{is_new, new_keys, unwoken_keys, woken_keys}
+use Rattle.mp_host.proofs.Enough.{filter_length}
 use Rattle.mp_host.proofs.Unwoken.{add_if, is_unwoken, unwoken_is, unwoken_rise}
 
 -- lists of numbers, each once
@@ -169,7 +172,7 @@ waiting_counted h t records wakes =
     let both = length-append woken others in
     omega arith
 
--- no more keys are woken than there are events
+-- no more keys are woken than there are events and saved wakes
 
 one_option : {X : Type 0} (o : Option X) (xs : List X) → length (cons_option o xs) ≤ length xs + 1
 one_option None xs = omega arith
@@ -179,28 +182,57 @@ length-filter_map : {X Y : Type 0} (f : X → Option Y) (xs : List X) → length
 length-filter_map f [] = omega arith
 length-filter_map f (x ∷ xs) = omega (arith, one_option (f x) (filter_map f xs), length-filter_map f xs)
 
-none_there : (xs : List ℕ) → ((k : ℕ) → Contains xs k → ⊥) → length xs ≡ 0
-none_there [] h = refl
-none_there (x ∷ xs) h = absurd (h x (Contains-here x xs))
-
 module _ {Cell : Type 0} (q : QueryFacts Cell) (nothing : LaterStagesPostNothing q) (job : JobFacts) (legal : EventsAreLegal job.events) (t : ℕ) (ss : List (Held Cell)) where
-  -- a woken key is that of a record that posts
-  record_of_key : (j : ℕ) → All (WakesArePosted q job j) ss → (k : ℕ) → Contains (woken_keys t ss) k → (r : Rec) × Contains (stage_records q job.events j) r × (r.key ≡ k) × Contains (q.posts j r) t
-  record_of_key j posted k i =
+  -- a woken key is that of a wake that the job begins with, or of a record that posts
+  cause_of_key : (j : ℕ) → All (WakesAreCaused q job j) ss → (k : ℕ) → Contains (woken_keys t ss) k
+      → IsOpening q j k t ⊎ ((r : Rec) × Contains (stage_records q job.events j) r × (r.key ≡ k) × Contains (q.posts j r) t)
+  cause_of_key j caused k i =
       let a = passing (has_wake_in t k) ss (woken_is t ss k i) in
-      All-contains (WakesArePosted q job j) ss a.0 posted a.1 t k (wake_in (wakes_in a.0) t k a.2)
+      All-contains (WakesAreCaused q job j) ss a.0 caused a.1 t k (wake_in (wakes_in a.0) t k a.2)
 
-  pub woken_few : (j : ℕ) → All (InOrder t) ss → All (WakesArePosted q job j) ss → length (woken_keys t ss) ≤ most_events
-  woken_few zero order posted =
+  -- the key of a wake that a stage begins with
+  opening_key : (j k : ℕ) → IsOpening q j k t → Contains (map (λ w. w.1) (q.waking j)) k
+  opening_key j k i = map-Contains (λ (w : ℕ × ℕ). w.1) (q.waking j) k (found_there (λ (w : ℕ × ℕ). w.1 ≡ k) (q.waking j) (t, k) i refl)
+
+  pub woken_few : (j : ℕ) → length (q.waking j) ≤ most_bytes → All (InOrder t) ss → All (WakesAreCaused q job j) ss → length (woken_keys t ss) ≤ most_events + most_bytes
+  woken_few zero few order caused =
       let rs = input_records q job.events in
-      let within = length_within (woken_keys t ss) (map (λ r. r.key) rs) (woken_once t ss order) (λ k i. let a = record_of_key zero posted k i in map-Contains (λ (r : Rec). r.key) rs k (found_there (λ (r : Rec). r.key ≡ k) rs a.0 a.1 a.2)) in
+      let first = map (λ (w : ℕ × ℕ). w.1) (q.waking zero) in
+      let others = map (λ (r : Rec). r.key) rs in
+      let within = length_within (woken_keys t ss) (first ++ others) (woken_once t ss order)
+      (λ k i.
+      ⊎_elim
+      (λ (o : IsOpening q zero k t). Contains-append_left first others k (opening_key zero k o))
+      (λ (a : (r : Rec) × Contains (stage_records q job.events zero) r × (r.key ≡ k) × Contains (q.posts zero r) t).
+      Contains-append_right first others k (map-Contains (λ (r : Rec). r.key) rs k (found_there (λ (r : Rec). r.key ≡ k) rs a.0 a.1 a.2)))
+      (cause_of_key zero caused k i)) in
+      let both = length-append first others in
+      let opening = length-map (q.waking zero) (λ (w : ℕ × ℕ). w.1) in
       let keys = length-map rs (λ (r : Rec). r.key) in
       let made = length-filter_map (λ (p : ℕ × Event). record_of q p.0 p.1) (enumerate_from 0 job.events) in
       let events = length-enumerate_from 0 job.events in
       omega (arith, legal.few)
-  woken_few (suc j) order posted =
-      let none = none_there (woken_keys t ss) (λ k i. let a = record_of_key (suc j) posted k i in nothing_in_nil t (subst (λ (ts : List ℕ). Contains ts t) (nothing j a.0) a.3)) in
+  woken_few (suc j) few order caused =
+      let first = map (λ (w : ℕ × ℕ). w.1) (q.waking (suc j)) in
+      let within = length_within (woken_keys t ss) first (woken_once t ss order)
+      (λ k i.
+      ⊎_elim
+      (λ (o : IsOpening q (suc j) k t). opening_key (suc j) k o)
+      (λ (a : (r : Rec) × Contains (stage_records q job.events (suc j)) r × (r.key ≡ k) × Contains (q.posts (suc j) r) t).
+      absurd (nothing_in_nil t (subst (λ (ts : List ℕ). Contains ts t) (nothing j a.0) a.3)))
+      (cause_of_key (suc j) caused k i)) in
+      let opening = length-map (q.waking (suc j)) (λ (w : ℕ × ℕ). w.1) in
       omega arith
+
+-- no more wakes are saved than a file can say
+few_opening : (from : Option SavedState) → {Cell : Type 0} (q : QueryFacts Cell) → SavedFits q from → (j : ℕ) → length (opening_wakes from j) ≤ most_bytes
+few_opening None q fits j = omega arith
+few_opening (Some saved) q fits j =
+    let own : List SavedWake = filter (λ (w : SavedWake). w.stage == j) saved.wakes in
+    let fewer : length own ≤ length saved.wakes = filter_length (λ (w : SavedWake). w.stage == j) saved.wakes in
+    let same : length (opening_wakes (Some saved) j) ≡ length own = length-map own (λ (w : SavedWake). (w.time, w.key)) in
+    let few : length saved.wakes ≤ most_bytes = fits.few in
+    omega arith
 
 -- the states from a place on are one and those behind it
 pub woken_step : {Cell : Type 0} (t : ℕ) (ss : List (Held Cell)) (i : ℕ) (s : Held Cell) → i < length ss → s ≡ get_or ss i s
@@ -210,6 +242,7 @@ woken_step {Cell} t ss i s l is =
     ap (λ (rs : List (Held Cell)). length (woken_keys t rs)) from ∙ length-append (new_keys t s (drop (i + 1) ss)) (woken_keys t (drop (i + 1) ss))
 
 -- what stands in a host is few
-pub hosted_few : {Cell : Type 0} (q : QueryFacts Cell) → LaterStagesPostNothing q → (job its : JobFacts) (h : Hosted Cell) → IsHosted q job its h → (t : ℕ) → length (woken_keys t h.held) ≤ most_events
+pub hosted_few : {Cell : Type 0} (q : QueryFacts Cell) → LaterStagesPostNothing q → (job its : JobFacts) (h : Hosted Cell) → IsHosted q job its h → (t : ℕ) → length (woken_keys t h.held) ≤ most_events + most_bytes
 hosted_few q nothing job its h hosted t =
-    woken_few q nothing job hosted.legal.events t h.held h.stage (in_order q job h hosted.order t) hosted.posted
+    let few : length (q.waking h.stage) ≤ most_bytes = subst (λ (ws : List (ℕ × ℕ)). length ws ≤ most_bytes) (sym (hosted.legal.table.waking h.stage)) (few_opening job.from q hosted.legal.saved h.stage) in
+    woken_few q nothing job hosted.legal.events t h.held h.stage few (in_order q job h hosted.order t) hosted.caused

@@ -5,17 +5,17 @@ ghost use Rattle.mp_job.specs.Legal.{JobIsLegal};
 ghost use Rattle.mp_job.specs.Runs.{IsRunOf};
 ghost use Rattle.mp_msg.specs.Contents.{IsRecordOf};
 ghost use Rattle.mp_host_laws.specs.Applying.{IsReceived};
-ghost use Rattle.mp_host_laws.specs.Hosted.{IsNew, first_held};
+ghost use Rattle.mp_host_laws.specs.Hosted.{IsNew, first_bins};
 ghost use Rattle.mp_host_laws.specs.HostOf.{IsHostOf};
+ghost use Rattle.mp_host.specs.Hosts.{AreAtFirst};
 ghost use Rattle.mp_host.specs.Telling.{TakesRecord};
 ghost use Rattle.mp_model.specs.Tables.{table_of};
 
 use crate::order::ByGroup;
 use mp_host_laws::Held;
-use mp_host_states::InHand;
+use mp_host_states::{InHand, opening_state};
 use mp_job::Job;
 use mp_model::{Naming, Query, Rec};
-use mp_msg::BinState;
 use mp_ordered_runs::OrderedRuns;
 use std::alloc::{AllocError, Global};
 use std::marker::{Model, PhantomData};
@@ -47,7 +47,8 @@ impl<'a, Q: Query, J: Naming> Model for Host<'a, Q, J> {
 }
 
 impl<'a, Q: Query, J: Naming> Host<'a, Q, J> {
-    /// A host that has received nothing, with the bins whose first owner the worker is. `AllocError`: no memory.
+    /// A host that has received nothing, with the bins whose first owner the worker is, each with what it begins with.
+    /// `AllocError`: no memory.
     pub fn new(
         alloc: Global,
         stage: u32,
@@ -59,7 +60,7 @@ impl<'a, Q: Query, J: Naming> Host<'a, Q, J> {
         requires worker { worker < J.job.shape.workers }
         ensures stage { IfOk result (λ h. h.stage ≡ stage) }
         ensures worker { IfOk result (λ h. h.worker ≡ worker) }
-        ensures new { IfOk result (λ h. IsNew J.job h) }
+        ensures new { IfOk result (λ h. IsNew (table_of Q.facts J.job) J.job h) }
         ensures held { IfOk result (λ h. IsHostOf (table_of Q.facts J.job) J.job empty_log h) }
     {
         let held = first_held::<Q>(alloc, stage, worker, job)?;
@@ -101,14 +102,14 @@ impl<'a, Q: Query, J: Naming> Host<'a, Q, J> {
     }
 }
 
-// The bins of a stage whose first owner the worker is, with no cells and no wakes.
+// The bins of a stage whose first owner the worker is, each with what it begins with. `AllocError`: no memory.
 fn first_held<Q: Query>(
     alloc: Global,
     stage: u32,
     worker: u32,
     job: &Job<Q>,
 ) -> Result<Vec<Held<Q::Cell>>, AllocError>
-    ensures bins { IfOk result (λ v. v.items ≡ first_held job.now stage worker job.now.shape.bins) }
+    ensures first { IfOk result (λ v. AreAtFirst (table_of Q.facts job.now) job.now stage (first_bins job.now stage worker) v.items) }
     ensures legal { OnOk result (JobIsLegal (table_of Q.facts job.now) job.now) }
 {
     let shape = job.shape();
@@ -116,10 +117,11 @@ fn first_held<Q: Query>(
     for bin in 0..shape.bins {
         let owner = job.first_owner(stage, bin);
         if owner == worker {
+            let state = opening_state(alloc, job, stage, bin)?;
             held.push(Held {
                 bin,
                 since: None,
-                state: BinState::new(alloc),
+                state,
             })?;
         }
     }

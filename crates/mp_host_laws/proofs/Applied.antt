@@ -9,7 +9,7 @@ use Rattle.mp_names.specs.Names.{has, In}
 use Rattle.mp_names.specs.Outlines.{IsOwedBy, OutlineIsSound, groups_of, is_posted}
 use Rattle.mp_names.specs.Logs.{Log, LogIsLegal, has_record, has_wake, is_pending, left_since, with_applied}
 use Rattle.mp_names.specs.Keeping.{GroupIsWhole}
-use Rattle.mp_names.proofs.Hosts.{Brought, left_at}
+use Rattle.mp_names.proofs.Hosts.{Brought, IsOpeningHere, left_at}
 use Rattle.mp_names.proofs.Lists.{In_left, In_push}
 use Rattle.mp_names.proofs.NameParts.{same_group, same_parts}
 use Rattle.mp_bins.specs.Bins.{bin_of_key}
@@ -27,20 +27,19 @@ use Rattle.mp_outline.proofs.Found.{found, found_there}
 use Rattle.mp_outline.proofs.Outputs.{timeline_rises}
 use Rattle.mp_outline.proofs.Pairs.{AllPairs-Pairs, Pairs}
 use Rattle.mp_outline.proofs.Stages.{name_posts, name_stands, post_named, record_named}
-use Rattle.mp_outline.proofs.Whole.{NothingOpens}
 use Rattle.mp_postdated.specs.Wakes.{Has, IsWake}
 use Rattle.mp_msg.specs.Contents.{IsRecordOf}
-use Rattle.mp_msg.specs.States.{IsPostedAt, cell_in}
+use Rattle.mp_msg.specs.States.{IsOpening, IsPostedAt, cell_in}
 use Rattle.mp_host_laws.specs.declared.held.Held.{Held}
 use Rattle.mp_host_laws.specs.Hosted.{Hosted, StandsInOrder, began_before, is_of, records_of, waits_at, wakes_in}
 use Rattle.mp_host_laws.specs.Applying.{IsApplied, StateTakes, group_here, posts_here, woken_by}
-use Rattle.mp_host_laws.specs.HostOf.{CameInto, IsHostOf, IsInHandSince, IsStateOf, MovesInOrder, is_taken_in}
+use Rattle.mp_host_laws.specs.HostOf.{CameInto, IsHostOf, IsInHandSince, IsStateOf, IsWakeOf, MovesInOrder, OpensInto, is_taken_in}
 use Rattle.mp_host_laws.specs.Laws.{GroupsAreHeld, WokenAreTold}
 use Rattle.mp_host_laws.proofs.Changed.{All-changed, Any-changed, Contains-front, Contains-one, Contains-rest, Pairs-changed, Pairs-front, Pairs-rest}
 use Rattle.mp_host_laws.proofs.Groups.{in_group}
-use Rattle.mp_host_laws.proofs.Holding.{AreApart, by_parts}
+use Rattle.mp_host_laws.proofs.Holding.{AreApart, by_parts, wake_same}
 use Rattle.mp_host_laws.proofs.Lists.{Pairs-AllPairs, filter_within, fold_upto}
-use Rattle.mp_host_laws.proofs.Logs.{has_push, here_wake, pending_is, push_has, record_pends, wake_here, wake_pends}
+use Rattle.mp_host_laws.proofs.Logs.{IsPostedHere, has_push, here_wake, opening_wake, pending_is, push_has, record_pends, wake_here, wake_pends}
 use Rattle.mp_host_laws.proofs.Stays.{StaysSince, stay_began}
 use Rattle.mp_host_laws.proofs.Waiting.{from_is_of, is_of_from, waits_is_pending}
 use Rattle.mp_host_laws.proofs.Whole.{earlier_taken, full_here, group_is_whole, later_not_taken, later_unapplied, least_here, none_sent, on_timeline, records_are_whole, state_cell, state_here, unapplied_here}
@@ -92,6 +91,14 @@ came_from log j t (Some m) l v u c less began =
     let n : suc t ≤ m = ltb-false m (suc t) began in
     ⊎_elim (λ (p : (v < m) × (m ≤ u)). let k : m ≤ u = p.1 in omega arith) (λ (p : (m ≤ v) × In (Group j v l) log.applied). let k : m ≤ v = p.0 in omega arith) c
 
+-- so is an opening wake
+opens_from : (t : ℕ) (a : Option ℕ) (u : ℕ) → OpensInto a u → began_before (suc t) a ≡ false → t < u
+opens_from t None u opens began = absurd (false≢true (sym began))
+opens_from t (Some m) u opens began =
+    let n : suc t ≤ m = ltb-false m (suc t) began in
+    let l : m ≤ u = opens in
+    omega arith
+
 taken_still : (log : Log) (j : ℕ) (x : Name) (a : Option ℕ) (u l : ℕ) → is_taken_in log j a u l ≡ true → is_taken_in (with_applied log x) j a u l ≡ true
 taken_still log j x None u l e = In_left (Group j u l) log.applied (x ∷ []) e
 taken_still log j x (Some m) u l e =
@@ -121,7 +128,24 @@ taken_same log j t k (Some m) u l quiet =
     ap (λ (b : Bool). nat_lt u m || b) (sym (still_unapplied log j t k u l other)))
     (cases_lt u m)
 
-module _ {Cell : Type 0} (q : QueryFacts Cell) (nothing : LaterStagesPostNothing q) (job : JobFacts) (sound : OutlineIsSound (outline_of q job)) (opens : NothingOpens q job) (log : Log) (h : Hosted Cell) (t k : ℕ)
+module _ {Cell : Type 0} (q : QueryFacts Cell) (job : JobFacts) where
+  wake_still : (log : Log) (j : ℕ) (x : Name) (a : Option ℕ) (l u : ℕ) → IsWakeOf q job log j a l u → IsWakeOf q job (with_applied log x) j a l u
+  wake_still log j x a l u wake = wake_same q job log (with_applied log x) j a l u (λ v. came_still log j x a l v u) wake
+
+  -- a wake by the longer log is one by the log, or a record of the group posts it
+  wake_was : (log : Log) (j t k : ℕ) (a : Option ℕ) (l u : ℕ) → IsWakeOf q job (with_applied log (Group j t k)) j a l u
+      → IsWakeOf q job log j a l u ⊎ ((v : ℕ) × (v ≡ t) × (l ≡ k) × (began_before (suc v) a ≡ true) × IsPostedAt q job j l v u)
+  wake_was log j t k a l u wake =
+      ⊎_elim
+      (λ (c : IsOpening q j l u × OpensInto a u). inl (inl c))
+      (λ (p : (v : ℕ) × IsPostedAt q job j l v u × CameInto (with_applied log (Group j t k)) j a l v u).
+      ⊎_elim
+      (λ (c : CameInto log j a l p.0 u). inl (inr (p.0, p.1, c)))
+      (λ (c : (p.0 ≡ t) × (l ≡ k) × (began_before (suc p.0) a ≡ true)). inr (p.0, c.0, c.1, c.2, p.1))
+      (came_cases log j t k a l p.0 u p.2))
+      wake
+
+module _ {Cell : Type 0} (q : QueryFacts Cell) (nothing : LaterStagesPostNothing q) (job : JobFacts) (sound : OutlineIsSound (outline_of q job)) (log : Log) (h : Hosted Cell) (t k : ℕ)
     (host : IsHostOf q job log h) (legal : LogIsLegal (outline_of q job) h.worker log) (denotes : StandsInOrder q job h) (below : h.stage < job.shape.stages)
     (full : GroupIsWhole (outline_of q job) h.worker log h.stage t k) (unapplied : has log.applied (Group h.stage t k) ≡ false) (group : In (Group h.stage t k) (groups_of (outline_of q job) h.stage)) where
   -- What the group's records post
@@ -153,7 +177,7 @@ module _ {Cell : Type 0} (q : QueryFacts Cell) (nothing : LaterStagesPostNothing
       let own = same_parts j j r.time t r.key k r.tag g a.2 in
       let posts = post_named q nothing job j r u a.1 (subst (λ (x : Name). is_posted o x u ≡ true) (sym a.2) p.2) in
       let here = in_group q job j t k r a.1 own.0 own.1 in
-      let whole = records_are_whole q nothing job sound opens log h t k host legal denotes below full unapplied group in
+      let whole = records_are_whole q nothing job sound log h t k host legal denotes below full unapplied group in
       let there = subst (λ (rs : List Rec). Contains rs r) (sym whole) here in
       flat_map-Contains (q.posts j) (records_of h t k) u (found_there (λ (r : Rec). Contains (q.posts j r) u) (records_of h t k) r there posts)
 
@@ -163,11 +187,19 @@ module _ {Cell : Type 0} (q : QueryFacts Cell) (nothing : LaterStagesPostNothing
   posted_later : (v l u : ℕ) → IsPostedAt q job h.stage l v u → v < u
   posted_later v l u p = sound.posts_later h.stage (RecName h.stage v l p.0) u p.1 p.2
 
+  -- a wake of a state that began after t is of a later time than t
+  wake_from : (a : Option ℕ) (l u : ℕ) → IsWakeOf q job log h.stage a l u → began_before (suc t) a ≡ false → t < u
+  wake_from a l u wake began =
+      ⊎_elim
+      (λ (c : IsOpening q h.stage l u × OpensInto a u). opens_from t a u c.1 began)
+      (λ (p : (v : ℕ) × IsPostedAt q job h.stage l v u × CameInto log h.stage a l v u). came_from log h.stage t a l p.0 u p.2 (posted_later p.0 l u p.1) began)
+      wake
+
   -- each is later than the group, so its group isn't applied
   post_unapplied : (u : ℕ) → Contains (posts_here q h t k) u → has (with_applied log (Group h.stage t k)).applied (Group h.stage u k) ≡ false
   post_unapplied u i =
       let later : t < u = posted_later t k u (post_is_posted u i) in
-      still_unapplied log h.stage t k u k (λ e. let s : t ≡ u = e.0 in omega arith) ∙ later_unapplied q nothing job sound opens log h t k host legal denotes below full unapplied group u (omega arith)
+      still_unapplied log h.stage t k u k (λ e. let s : t ≡ u = e.0 in omega arith) ∙ later_unapplied q nothing job sound log h t k host legal denotes below full unapplied group u (omega arith)
 
   -- The records afterwards
 
@@ -213,7 +245,7 @@ module _ {Cell : Type 0} (q : QueryFacts Cell) (nothing : LaterStagesPostNothing
     was = All-contains (IsStateOf q job log h.stage) h.held one host.states there
 
     wakes_after : (u l : ℕ) → bin_of_key l job.shape.bins ≡ one.bin
-        → (Has (wakes_in changed) u l ↔ ((has (with_applied log (Group h.stage t k)).applied (Group h.stage u l) ≡ false) × (v : ℕ) × IsPostedAt q job h.stage l v u × CameInto (with_applied log (Group h.stage t k)) h.stage one.since l v u))
+        → (Has (wakes_in changed) u l ↔ ((has (with_applied log (Group h.stage t k)).applied (Group h.stage u l) ≡ false) × IsWakeOf q job (with_applied log (Group h.stage t k)) h.stage one.since l u))
     wakes_after u l own =
         let j = h.stage in
         let after = with_applied log (Group j t k) in (
@@ -221,18 +253,18 @@ module _ {Cell : Type 0} (q : QueryFacts Cell) (nothing : LaterStagesPostNothing
               ⊎_elim
               (λ (c : Has (wakes_in one) u l × (IsWake t k (u, l) → ⊥)).
               let b = (was.wakes u l own).0 c.0 in
-              (still_unapplied log j t k u l (λ e. c.1 (sym e.0, sym e.1)) ∙ b.0, b.1, b.2, came_still log j (Group j t k) one.since l b.1 u b.3))
+              (still_unapplied log j t k u l (λ e. c.1 (sym e.0, sym e.1)) ∙ b.0, wake_still q job log j (Group j t k) one.since l u b.1))
               (λ (c : (l ≡ k) × Contains (posts_here q h t k) u).
-              subst (λ (n : ℕ). (has after.applied (Group j u n) ≡ false) × (v : ℕ) × IsPostedAt q job j n v u × CameInto after j one.since n v u) (sym c.0)
-              (post_unapplied u c.1, t, post_is_posted u c.1, came_now log j t k one.since began u))
+              subst (λ (n : ℕ). (has after.applied (Group j u n) ≡ false) × IsWakeOf q job after j one.since n u) (sym c.0)
+              (post_unapplied u c.1, inr (t, post_is_posted u c.1, came_now log j t k one.since began u)))
               ((takes.wakes u l).0 i)),
           (λ p.
               (takes.wakes u l).1
               (⊎_elim
-              (λ (c : CameInto log j one.since l p.1 u).
-              inl ((was.wakes u l own).1 (was_unapplied log j t k u l p.0, p.1, p.2, c), (λ (w : IsWake t k (u, l)). both_ways (has after.applied (Group j u l)) p.0 (now_applied log j t k u l w.0 w.1))))
-              (λ (c : (p.1 ≡ t) × (l ≡ k) × (began_before (suc p.1) one.since ≡ true)). inr (c.1, posted_at p.1 l u c.0 c.1 p.2))
-              (came_cases log j t k one.since l p.1 u p.3))),
+              (λ (c : IsWakeOf q job log j one.since l u).
+              inl ((was.wakes u l own).1 (was_unapplied log j t k u l p.0, c), (λ (w : IsWake t k (u, l)). both_ways (has after.applied (Group j u l)) p.0 (now_applied log j t k u l w.0 w.1))))
+              (λ (c : (v : ℕ) × (v ≡ t) × (l ≡ k) × (began_before (suc v) one.since ≡ true) × IsPostedAt q job j l v u). inr (c.2, posted_at c.0 l u c.1 c.2 c.4))
+              (wake_was q job log j t k one.since l u p.1))),
         )
 
     -- the cell of the key after the group
@@ -241,9 +273,9 @@ module _ {Cell : Type 0} (q : QueryFacts Cell) (nothing : LaterStagesPostNothing
         let j = h.stage in
         let after = with_applied log (Group j t k) in
         let timeline = timeline_of q job j k in
-        let cell = state_cell q nothing job sound opens log h t k host legal denotes below full unapplied group a stays one there bin since in
-        let whole = group_is_whole q nothing job sound opens log h t k host legal denotes below full unapplied group in
-        let upto = fold_upto (λ (e : Entry). e.time) (q.step j) (q.opening j k) (λ (e : Entry). is_taken_in after j a e.time k) t (group_at q job j t k) timeline (timeline_rises q j k (stage_records q job.events j)) (on_timeline q nothing job sound opens log h t k host legal denotes below full unapplied group) refl early late in
+        let cell = state_cell q nothing job sound log h t k host legal denotes below full unapplied group a stays one there bin since in
+        let whole = group_is_whole q nothing job sound log h t k host legal denotes below full unapplied group in
+        let upto = fold_upto (λ (e : Entry). e.time) (q.step j) (q.opening j k) (λ (e : Entry). is_taken_in after j a e.time k) t (group_at q job j t k) timeline (timeline_rises q j k (stage_records q job.events j)) (on_timeline q nothing job sound log h t k host legal denotes below full unapplied group) refl early late in
         ap (λ (c : Cell). q.step j c (group_here h t k)) cell ∙ ap (q.step j (cell_before q j (stage_records q job.events j) k t)) whole ∙ sym upto
       where
         early : (e : Entry) → Contains (timeline_of q job h.stage k) e → e.time ≤ t → is_taken_in (with_applied log (Group h.stage t k)) h.stage a e.time k ≡ true
@@ -252,7 +284,7 @@ module _ {Cell : Type 0} (q : QueryFacts Cell) (nothing : LaterStagesPostNothing
             (λ (s : e.time ≡ t). taken_now log h.stage t k a e.time k s refl)
             (λ (s : (e.time < t) ⊎ (t < e.time)).
             ⊎_elim
-            (λ (m : e.time < t). taken_still log h.stage (Group h.stage t k) a e.time k (earlier_taken q nothing job sound opens log h t k host legal denotes below full unapplied group a stays e i m))
+            (λ (m : e.time < t). taken_still log h.stage (Group h.stage t k) a e.time k (earlier_taken q nothing job sound log h t k host legal denotes below full unapplied group a stays e i m))
             (λ (m : t < e.time). absurd (omega arith))
             s)
             (cases_order e.time t)
@@ -260,7 +292,7 @@ module _ {Cell : Type 0} (q : QueryFacts Cell) (nothing : LaterStagesPostNothing
         late : (e : Entry) → Contains (timeline_of q job h.stage k) e → t < e.time → is_taken_in (with_applied log (Group h.stage t k)) h.stage a e.time k ≡ false
         late e i l =
             sym (taken_same log h.stage t k a e.time k (λ s. let same : t ≡ e.time = s.0 in absurd (omega arith)))
-            ∙ later_not_taken q nothing job sound opens log h t k host legal denotes below full unapplied group a (stay_began (outline_of q job) log h.stage (bin_of_key k job.shape.bins) (suc t) a stays) e.time (omega arith)
+            ∙ later_not_taken q nothing job sound log h t k host legal denotes below full unapplied group a (stay_began (outline_of q job) log h.stage (bin_of_key k job.shape.bins) (suc t) a stays) e.time (omega arith)
 
     cells_after : (l : ℕ) → bin_of_key l job.shape.bins ≡ one.bin
         → cell_in (q.fresh h.stage) changed.state.cells l ≡ fold_of q h.stage (q.opening h.stage l) (filter (λ e. is_taken_in (with_applied log (Group h.stage t k)) h.stage one.since e.time l) (timeline_of q job h.stage l))
@@ -285,7 +317,7 @@ module _ {Cell : Type 0} (q : QueryFacts Cell) (nothing : LaterStagesPostNothing
         let after = with_applied log (Group j t k) in
         record {
           wakes = λ u l own.
-              subst (λ (c : Option ℕ). (Has (wakes_in changed) u l ↔ ((has after.applied (Group j u l) ≡ false) × (v : ℕ) × IsPostedAt q job j l v u × CameInto after j c l v u))) (sym takes.since) (wakes_after u l (own ∙ takes.bin));
+              subst (λ (c : Option ℕ). (Has (wakes_in changed) u l ↔ ((has after.applied (Group j u l) ≡ false) × IsWakeOf q job after j c l u))) (sym takes.since) (wakes_after u l (own ∙ takes.bin));
           cells = λ l own.
               subst (λ (c : Option ℕ). cell_in (q.fresh j) changed.state.cells l ≡ fold_of q j (q.opening j l) (filter (λ (e : Entry). is_taken_in after j c e.time l) (timeline_of q job j l))) (sym takes.since) (cells_after l (own ∙ takes.bin));
         }
@@ -298,22 +330,22 @@ module _ {Cell : Type 0} (q : QueryFacts Cell) (nothing : LaterStagesPostNothing
       key_quiet l own e = quiet (sym own ∙ ap (λ (n : ℕ). bin_of_key n job.shape.bins) (sym e))
 
       wakes : (u l : ℕ) → bin_of_key l job.shape.bins ≡ s.bin
-          → (Has (wakes_in s) u l ↔ ((has (with_applied log (Group h.stage t k)).applied (Group h.stage u l) ≡ false) × (v : ℕ) × IsPostedAt q job h.stage l v u × CameInto (with_applied log (Group h.stage t k)) h.stage s.since l v u))
+          → (Has (wakes_in s) u l ↔ ((has (with_applied log (Group h.stage t k)).applied (Group h.stage u l) ≡ false) × IsWakeOf q job (with_applied log (Group h.stage t k)) h.stage s.since l u))
       wakes u l own =
           let j = h.stage in (
             (λ i.
                 let b = (was.wakes u l own).0 i in
-                let v = b.1 in
-                let later = posted_later v l u b.2 in
-                let apart : (t ≡ u) × (k ≡ l) → ⊥ = λ e. let n : t < u = came_from log j t s.since l v u b.3 later (key_quiet l own e.1) in let same : t ≡ u = e.0 in omega arith in
-                (still_unapplied log j t k u l apart ∙ b.0, v, b.2, came_still log j (Group j t k) s.since l v u b.3)),
+                let apart : (t ≡ u) × (k ≡ l) → ⊥ = λ e. let n : t < u = wake_from s.since l u b.1 (key_quiet l own e.1) in let same : t ≡ u = e.0 in omega arith in
+                (still_unapplied log j t k u l apart ∙ b.0, wake_still q job log j (Group j t k) s.since l u b.1)),
             (λ p.
-                (was.wakes u l own).1
-                (⊎_elim
-                (λ (c : CameInto log j s.since l p.1 u). (was_unapplied log j t k u l p.0, p.1, p.2, c))
-                (λ (c : (p.1 ≡ t) × (l ≡ k) × (began_before (suc p.1) s.since ≡ true)).
-                absurd (both_ways (began_before (suc t) s.since) (key_quiet l own (sym c.1)) (subst (λ (n : ℕ). began_before (suc n) s.since ≡ true) c.0 c.2)))
-                (came_cases log j t k s.since l p.1 u p.3))),
+                (was.wakes u l own).1 (
+                  was_unapplied log j t k u l p.0,
+                  ⊎_elim
+                      (λ (c : IsWakeOf q job log j s.since l u). c)
+                      (λ (c : (v : ℕ) × (v ≡ t) × (l ≡ k) × (began_before (suc v) s.since ≡ true) × IsPostedAt q job j l v u).
+                      absurd (both_ways (began_before (suc t) s.since) (key_quiet l own (sym c.2)) (subst (λ (n : ℕ). began_before (suc n) s.since ≡ true) c.1 c.3)))
+                      (wake_was q job log j t k s.since l u p.1),
+                )),
           )
 
       cells : (l : ℕ) → bin_of_key l job.shape.bins ≡ s.bin → cell_in (q.fresh h.stage) s.state.cells l ≡ fold_of q h.stage (q.opening h.stage l) (filter (λ e. is_taken_in (with_applied log (Group h.stage t k)) h.stage s.since e.time l) (timeline_of q job h.stage l))
@@ -336,7 +368,7 @@ module _ {Cell : Type 0} (q : QueryFacts Cell) (nothing : LaterStagesPostNothing
     other_after : (s : Held Cell) → Contains h.held s → ((s.bin ≡ applied.held.one.bin) × (s.since ≡ applied.held.one.since) → ⊥) → IsStateOf q job (with_applied log (Group h.stage t k)) h.stage s
     other_after s i apart =
         let b = bin_of_key k job.shape.bins in
-        let there = (state_here q nothing job sound opens log h t k host legal denotes below full unapplied group).2 in
+        let there = (state_here q nothing job sound log h t k host legal denotes below full unapplied group).2 in
         let one = there.only applied.held.one one_there applied.held.found in
         other_is s (All-contains (IsStateOf q job log h.stage) h.held s host.states i) (λ bin. false_from_ne_true (began_before (suc t) s.since) (λ began.
         let own = there.only s i (and_from (s.bin == b) (began_before (suc t) s.since) (eq-eqb s.bin b bin) began) in
@@ -345,7 +377,7 @@ module _ {Cell : Type 0} (q : QueryFacts Cell) (nothing : LaterStagesPostNothing
     states_after : All (IsStateOf q job (with_applied log (Group h.stage t k)) h.stage) new.held
     states_after =
         let c = applied.held in
-        let here = state_here q nothing job sound opens log h t k host legal denotes below full unapplied group in
+        let here = state_here q nothing job sound log h t k host legal denotes below full unapplied group in
         let own = here.2.only c.one one_there c.found in
         let back : (z : Held Cell) → Contains (c.front ++ c.one ∷ c.rest) z → Contains h.held z = λ z i. subst (λ (l : List (Held Cell)). Contains l z) (sym c.was) i in
         subst (All (IsStateOf q job (with_applied log (Group h.stage t k)) h.stage)) (sym c.is)
@@ -393,16 +425,15 @@ module _ {Cell : Type 0} (q : QueryFacts Cell) (nothing : LaterStagesPostNothing
       let j = h.stage in
       let b = o.bin_of k in
       let p = post_is_posted u i in
-      let still = false_from_ne_true (left_since log j b t) (λ e. let r = left_at log j b t e in none_sent q nothing job sound opens log h t k host legal denotes below full unapplied group r.0 r.1 r.2) in
+      let still = false_from_ne_true (left_since log j b t) (λ e. let r = left_at log j b t e in none_sent q nothing job sound log h t k host legal denotes below full unapplied group r.0 r.1 r.2) in
       here_wake o h.worker (with_applied log (Group j t k)) j u k (t, p.0, p.1, p.2, inl (push_has log.applied (Group j t k), still))
 
-  -- a wake of the key that is here then was here before, or they post it
-  wake_cases : (u : ℕ) → has_wake (outline_of q job) h.worker (with_applied log (Group h.stage t k)) h.stage u k ≡ true → (has_wake (outline_of q job) h.worker log h.stage u k ≡ true) ⊎ Contains (posts_here q h t k) u
-  wake_cases u e =
+  -- a posted wake of the key that is here then was here before, or they post it
+  posted_cases : (u : ℕ) → IsPostedHere (outline_of q job) (with_applied log (Group h.stage t k)) h.stage u k → (has_wake (outline_of q job) h.worker log h.stage u k ≡ true) ⊎ Contains (posts_here q h t k) u
+  posted_cases u p =
       let o = outline_of q job in
       let j = h.stage in
       let b = o.bin_of k in
-      let p = wake_here o sound opens h.worker (with_applied log (Group j t k)) j u k e in
       let s = p.0 in
       ⊎_elim
       (λ (c : In (Group j s k) (with_applied log (Group j t k)).applied × (left_since log j b s ≡ false)).
@@ -413,6 +444,17 @@ module _ {Cell : Type 0} (q : QueryFacts Cell) (nothing : LaterStagesPostNothing
       (λ (c : Brought log j b s u). inl (here_wake o h.worker log j u k (s, p.1, p.2, p.3, inr c)))
       p.4
 
+  -- so was any other, as an opening wake is here whatever is applied
+  wake_cases : (u : ℕ) → has_wake (outline_of q job) h.worker (with_applied log (Group h.stage t k)) h.stage u k ≡ true → (has_wake (outline_of q job) h.worker log h.stage u k ≡ true) ⊎ Contains (posts_here q h t k) u
+  wake_cases u e =
+      let o = outline_of q job in
+      let j = h.stage in
+      let after = with_applied log (Group j t k) in
+      ⊎_elim
+      (λ (p : IsOpeningHere o h.worker after j u k). inl (opening_wake o h.worker log j u k p))
+      (λ (p : IsPostedHere o after j u k). posted_cases u p)
+      (wake_here o sound h.worker after j u k e)
+
   pub woken_told : (u : ℕ) → (Contains (woken_by q h t k) u ↔ ((is_pending (outline_of q job) h.worker (with_applied log (Group h.stage t k)) (Group h.stage u k) ≡ true) × (is_pending (outline_of q job) h.worker log (Group h.stage u k) ≡ false)))
   woken_told u =
       let o = outline_of q job in
@@ -420,7 +462,7 @@ module _ {Cell : Type 0} (q : QueryFacts Cell) (nothing : LaterStagesPostNothing
       let after = with_applied log (Group j t k) in
       let posts = posts_here q h t k in
       let quiet : ℕ → Bool = λ u. not (waits_at h u k) in
-      let waits = waits_is_pending q job sound opens log h host legal denotes u k in (
+      let waits = waits_is_pending q job sound log h below host legal denotes u k in (
         (λ i.
             let a = Contains-filter quiet posts u (Contains-ascending (filter quiet posts) u i) in
             (wake_pends o h.worker after j u k (post_unapplied u a.0) (post_wakes u a.0), sym waits ∙ not-true (waits_at h u k) a.1)),
@@ -439,17 +481,17 @@ module _ {Cell : Type 0} (q : QueryFacts Cell) (nothing : LaterStagesPostNothing
             ascending-Contains (filter quiet posts) u (filter-Contains quiet posts u there (not_from_false (waits_at h u k) (waits ∙ a.1)))),
       )
 
-module _ {Cell : Type 0} (q : QueryFacts Cell) (nothing : LaterStagesPostNothing q) (job : JobFacts) (sound : OutlineIsSound (outline_of q job)) (opens : NothingOpens q job) where
+module _ {Cell : Type 0} (q : QueryFacts Cell) (nothing : LaterStagesPostNothing q) (job : JobFacts) (sound : OutlineIsSound (outline_of q job)) where
   pub groups_are_held : GroupsAreHeld q job
   groups_are_held log seen old new t k denotes informed below inside first mail state applied =
-      let full = full_here q job sound opens log seen old t k denotes informed below first mail state in
-      let least = least_here q job sound opens log seen old t k denotes informed below first mail state in
-      let unapplied = unapplied_here q job sound opens log seen old t k denotes informed below first mail state in
-      applied_held q nothing job sound opens log old t k informed.host informed.legal denotes below full unapplied least.0.0 new applied
+      let full = full_here q job sound log seen old t k denotes informed below first mail state in
+      let least = least_here q job sound log seen old t k denotes informed below first mail state in
+      let unapplied = unapplied_here q job sound log seen old t k denotes informed below first mail state in
+      applied_held q nothing job sound log old t k informed.host informed.legal denotes below full unapplied least.0.0 new applied
 
   pub woken_are_told : WokenAreTold q job
   woken_are_told log seen h t k u denotes informed below inside first mail state =
-      let full = full_here q job sound opens log seen h t k denotes informed below first mail state in
-      let least = least_here q job sound opens log seen h t k denotes informed below first mail state in
-      let unapplied = unapplied_here q job sound opens log seen h t k denotes informed below first mail state in
-      woken_told q nothing job sound opens log h t k informed.host informed.legal denotes below full unapplied least.0.0 u
+      let full = full_here q job sound log seen h t k denotes informed below first mail state in
+      let least = least_here q job sound log seen h t k denotes informed below first mail state in
+      let unapplied = unapplied_here q job sound log seen h t k denotes informed below first mail state in
+      woken_told q nothing job sound log h t k informed.host informed.legal denotes below full unapplied least.0.0 u

@@ -21,11 +21,11 @@ use Rattle.mp_outline.proofs.Outputs.{timeline_rises}
 use Rattle.mp_outline.proofs.Pairs.{AllPairs-Pairs}
 use Rattle.mp_postdated.specs.Wakes.{Has}
 use Rattle.mp_msg.specs.Contents.{IsRecordOf}
-use Rattle.mp_msg.specs.States.{BinContent, IsPostedAt, IsStateBefore, cell_in}
+use Rattle.mp_msg.specs.States.{BinContent, IsOpening, IsPostedAt, IsStateBefore, cell_in}
 use Rattle.mp_host_laws.specs.declared.held.Held.{Held}
 use Rattle.mp_host_laws.specs.Hosted.{Hosted}
 use Rattle.mp_host_laws.specs.Moving.{IsPutIn, brought}
-use Rattle.mp_host_laws.specs.HostOf.{CameInto, IsHostOf, IsInHandSince, IsStateOf, is_taken_in}
+use Rattle.mp_host_laws.specs.HostOf.{CameInto, IsHostOf, IsInHandSince, IsStateOf, IsWakeOf, OpensInto, is_taken_in}
 use Rattle.mp_host_laws.specs.Laws.{PacketsAreHeld}
 use Rattle.mp_host_laws.proofs.Lists.{All-each, Pairs-AllPairs, take_below}
 use Rattle.mp_host_laws.proofs.Logs.{has_push, push_has}
@@ -41,16 +41,27 @@ module _ {Cell : Type 0} (q : QueryFacts Cell) (job : JobFacts) where
     late : (u k : ℕ) → bin_of_key k job.shape.bins ≡ b → t ≤ u → has log.applied (Group h.stage u k) ≡ false
     late u k own l = false_from_ne_true (has log.applied (Group h.stage u k)) (none_applied_untaken (outline_of q job) h.worker log good h.stage b t host.moves comes untaken u k own l)
 
-    brought_wakes : (u k : ℕ) → bin_of_key k job.shape.bins ≡ b → (Has s.wakes u k ↔ ((has log.applied (Group h.stage u k) ≡ false) × (v : ℕ) × IsPostedAt q job h.stage k v u × CameInto log h.stage (Some t) k v u))
+    -- what a packet brings for u came into the state, and nothing else did
+    brought_wakes : (u k : ℕ) → bin_of_key k job.shape.bins ≡ b → (Has s.wakes u k ↔ ((has log.applied (Group h.stage u k) ≡ false) × IsWakeOf q job log h.stage (Some t) k u))
     brought_wakes u k own = (
-      (λ i. let a = (before.wakes u k own).0 i in (late u k own a.0, a.1, a.3, inl (a.2, a.0))),
-      (λ a.
-          (before.wakes u k own).1
-          (⊎_elim
-          (λ (l : (a.1 < t) × (t ≤ u)). (l.1, a.1, l.0, a.2))
-          (λ (r : (t ≤ a.1) × In (Group h.stage a.1 k) log.applied). absurd (both_ways (has log.applied (Group h.stage a.1 k)) (late a.1 k own r.0) r.1))
-          a.3)),
+      (λ i. let a = (before.wakes u k own).0 i in (late u k own a.0, into a.0 a.1)),
+      (λ a. (before.wakes u k own).1 (back a.1)),
     )
+      where
+        into : t ≤ u → IsOpening q h.stage k u ⊎ ((v : ℕ) × (v < t) × IsPostedAt q job h.stage k v u) → IsWakeOf q job log h.stage (Some t) k u
+        into l was =
+            ⊎_elim (λ (c : IsOpening q h.stage k u). inl (c, l)) (λ (c : (v : ℕ) × (v < t) × IsPostedAt q job h.stage k v u). inr (c.0, c.2, inl (c.1, l))) was
+
+        back : IsWakeOf q job log h.stage (Some t) k u → (t ≤ u) × (IsOpening q h.stage k u ⊎ ((v : ℕ) × (v < t) × IsPostedAt q job h.stage k v u))
+        back wake =
+            ⊎_elim
+            (λ (c : IsOpening q h.stage k u × OpensInto (Some t) u). (c.1, inl c.0))
+            (λ (c : (v : ℕ) × IsPostedAt q job h.stage k v u × CameInto log h.stage (Some t) k v u).
+            ⊎_elim
+            (λ (l : (c.0 < t) × (t ≤ u)). (l.1, inr (c.0, l.0, c.1)))
+            (λ (r : (t ≤ c.0) × In (Group h.stage c.0 k) log.applied). absurd (both_ways (has log.applied (Group h.stage c.0 k)) (late c.0 k own r.0) r.1))
+            c.2)
+            wake
 
     brought_cells : (k : ℕ) → bin_of_key k job.shape.bins ≡ b → cell_in (q.fresh h.stage) s.cells k ≡ fold_of q h.stage (q.opening h.stage k) (filter (λ e. is_taken_in log h.stage (Some t) e.time k) (timeline_of q job h.stage k))
     brought_cells k own =

@@ -21,7 +21,6 @@ use Rattle.mp_outline.specs.JobOutline.{outline_of}
 use Rattle.mp_outline.proofs.Found.{found, found_there}
 use Rattle.mp_outline.proofs.Named.{In_named, named_In, named_once}
 use Rattle.mp_outline.proofs.Pairs.{Pairs-Rises, Pairs-weaker}
-use Rattle.mp_outline.proofs.Whole.{NothingOpens}
 use Rattle.mp_host_laws.specs.declared.held.Held.{Held}
 use Rattle.mp_host_laws.specs.Hosted.{Hosted, StandsInOrder, all_wakes, has_wake_at, keys_at, waits_at, wakes_in}
 use Rattle.mp_host_laws.specs.HostOf.{IsHostOf}
@@ -80,7 +79,7 @@ module _ {Cell : Type 0} (h : Hosted Cell) (t k : ℕ) where
       Contains-append_right keys woken k (map-Contains (λ (w : ℕ × ℕ). w.1) ws k (found_there (λ (w : ℕ × ℕ). w.1 ≡ k) ws (t, k) (filter-Contains (λ (w : ℕ × ℕ). w.0 == t) (all_wakes h) (t, k) (wake_all i) (eq-eqb t t refl)) refl)))
       (waits_why h t k e))
 
-module _ {Cell : Type 0} (q : QueryFacts Cell) (job : JobFacts) (sound : OutlineIsSound (outline_of q job)) (opens : NothingOpens q job) (log : Log) (h : Hosted Cell) (host : IsHostOf q job log h) (legal : LogIsLegal (outline_of q job) h.worker log) (denotes : StandsInOrder q job h) (t : ℕ) where
+module _ {Cell : Type 0} (q : QueryFacts Cell) (job : JobFacts) (sound : OutlineIsSound (outline_of q job)) (log : Log) (h : Hosted Cell) (inside : h.stage < job.shape.stages) (host : IsHostOf q job log h) (legal : LogIsLegal (outline_of q job) h.worker log) (denotes : StandsInOrder q job h) (t : ℕ) where
   -- the group waits, and has the time
   pends_then : Name → Bool
   pends_then x = is_pending (outline_of q job) h.worker log x && time_of (outline_of q job) x == t
@@ -90,7 +89,7 @@ module _ {Cell : Type 0} (q : QueryFacts Cell) (job : JobFacts) (sound : Outline
   name_pends x i =
       let o = outline_of q job in
       let a = In_named (Group h.stage t) (keys_at h t) x i in
-      let pends = sym (waits_is_pending q job sound opens log h host legal denotes t a.0) ∙ key_waits h t a.0 a.1 in
+      let pends = sym (waits_is_pending q job sound log h inside host legal denotes t a.0) ∙ key_waits h t a.0 a.1 in
       subst (λ (y : Name). (is_pending o h.worker log y && time_of o y == t) ≡ true) a.2 (and_from (is_pending o h.worker log (Group h.stage t a.0)) (t == t) pends (eq-eqb t t refl))
 
   name_listed : (x : Name) → In x (names_of h.stage t (keys_at h t)) → pends_then x ≡ true → In x (groups_of (outline_of q job) h.stage)
@@ -98,8 +97,8 @@ module _ {Cell : Type 0} (q : QueryFacts Cell) (job : JobFacts) (sound : Outline
   name_listed x i e =
       let o = outline_of q job in
       let a = In_named (Group h.stage t) (keys_at h t) x i in
-      let pends = sym (waits_is_pending q job sound opens log h host legal denotes t a.0) ∙ key_waits h t a.0 a.1 in
-      subst (λ (y : Name). In y (groups_of o h.stage)) a.2 (pending_in_groups q job sound opens log h host legal denotes t a.0 pends)
+      let pends = sym (waits_is_pending q job sound log h inside host legal denotes t a.0) ∙ key_waits h t a.0 a.1 in
+      subst (λ (y : Name). In y (groups_of o h.stage)) a.2 (pending_in_groups q job sound log h inside host legal denotes t a.0 pends)
 
   listed_named : (x : Name) → In x (groups_of (outline_of q job) h.stage) → pends_then x ≡ true → In x (names_of h.stage t (keys_at h t))
   unfolding pends_then names_of
@@ -109,7 +108,7 @@ module _ {Cell : Type 0} (q : QueryFacts Cell) (job : JobFacts) (sound : Outline
       let staged = eqb-true i h.stage (groups_are o sound h.stage (Group i u k) m).1 in
       let timed = eqb-true u t p.1 in
       let pends = subst (λ (u : ℕ). is_pending o h.worker log (Group h.stage u k) ≡ true) timed (subst (λ (i : ℕ). is_pending o h.worker log (Group i u k) ≡ true) staged p.0) in
-      let key = waits_key h t k (waits_is_pending q job sound opens log h host legal denotes t k ∙ pends) in
+      let key = waits_key h t k (waits_is_pending q job sound log h inside host legal denotes t k ∙ pends) in
       let name = named_In (Group h.stage t) (keys_at h t) k key in
       subst (λ (i : ℕ). In (Group i u k) (map (Group h.stage t) (keys_at h t))) (sym staged) (subst (λ (u : ℕ). In (Group h.stage u k) (map (Group h.stage t) (keys_at h t))) (sym timed) name)
   listed_named x m e = absurd (false≢true (groups_are (outline_of q job) sound h.stage x m).1)
@@ -125,5 +124,5 @@ module _ {Cell : Type 0} (q : QueryFacts Cell) (job : JobFacts) (sound : Outline
       sym (length-map (keys_at h t) (Group h.stage t)) ∙ sym (all_counted p names name_pends) ∙ sym same
 
 module _ {Cell : Type 0} (q : QueryFacts Cell) (job : JobFacts) where
-  pub waiting_are_counted : OutlineIsSound (outline_of q job) → NothingOpens q job → WaitingAreCounted q job
-  waiting_are_counted sound opens log h t denotes host legal below = waiting_counted q job sound opens log h host legal denotes t
+  pub waiting_are_counted : OutlineIsSound (outline_of q job) → WaitingAreCounted q job
+  waiting_are_counted sound log h t denotes host legal inside = waiting_counted q job sound log h inside host legal denotes t

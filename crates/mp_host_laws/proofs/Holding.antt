@@ -9,9 +9,10 @@ use Rattle.mp_model.specs.Entry.{Entry}
 use Rattle.mp_model.specs.Facts.{JobFacts, QueryFacts}
 use Rattle.mp_model.specs.Folds.{fold_of}
 use Rattle.mp_outline.specs.Laws.{timeline_of}
+use Rattle.mp_msg.specs.States.{IsOpening, IsPostedAt}
 use Rattle.mp_host_laws.specs.declared.held.Held.{Held}
 use Rattle.mp_host_laws.specs.Hosted.{Hosted}
-use Rattle.mp_host_laws.specs.HostOf.{CameInto, IsStateOf, is_taken_in}
+use Rattle.mp_host_laws.specs.HostOf.{CameInto, IsStateOf, IsWakeOf, OpensInto, is_taken_in}
 use Rattle.mp_host_laws.proofs.Lists.{filter_within}
 
 -- Logs of which the same groups are applied
@@ -29,12 +30,20 @@ taken_same old new e j None u k = ap (λ (xs : List Name). has xs (Group j u k))
 taken_same old new e j (Some m) u k = ap (λ (xs : List Name). nat_lt u m || has xs (Group j u k)) e
 
 module _ {Cell : Type 0} (q : QueryFacts Cell) (job : JobFacts) where
+  -- a wake of a state by one log is one by another, where what records post comes into the state by both
+  pub wake_same : (old new : Log) (j : ℕ) (since : Option ℕ) (k u : ℕ) → ((v : ℕ) → CameInto old j since k v u → CameInto new j since k v u) → IsWakeOf q job old j since k u → IsWakeOf q job new j since k u
+  wake_same old new j since k u came wake =
+      ⊎_elim
+      (λ (o : IsOpening q j k u × OpensInto since u). inl o)
+      (λ (p : (v : ℕ) × IsPostedAt q job j k v u × CameInto old j since k v u). inr (p.0, p.1, came p.0 p.2))
+      wake
+
   -- a state in hand has the same by both
   pub state_same : (old new : Log) → old.applied ≡ new.applied → (j : ℕ) (s : Held Cell) → IsStateOf q job old j s → IsStateOf q job new j s
   state_same old new e j s is = record {
     wakes = λ u k b. (
-      (λ w. let a = (is.wakes u k b).0 w in (subst (λ (xs : List Name). has xs (Group j u k) ≡ false) e a.0, a.1, a.2, came_same old new e j s.since k a.1 u a.3)),
-      (λ a. (is.wakes u k b).1 (subst (λ (xs : List Name). has xs (Group j u k) ≡ false) (sym e) a.0, a.1, a.2, came_same new old (sym e) j s.since k a.1 u a.3)),
+      (λ w. let a = (is.wakes u k b).0 w in (subst (λ (xs : List Name). has xs (Group j u k) ≡ false) e a.0, wake_same old new j s.since k u (λ v. came_same old new e j s.since k v u) a.1)),
+      (λ a. (is.wakes u k b).1 (subst (λ (xs : List Name). has xs (Group j u k) ≡ false) (sym e) a.0, wake_same new old j s.since k u (λ v. came_same new old (sym e) j s.since k v u) a.1)),
     );
     cells = λ k b.
         is.cells k b

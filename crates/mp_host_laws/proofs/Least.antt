@@ -10,7 +10,6 @@ use Rattle.mp_names.specs.Keeping.{IsWaiting}
 use Rattle.mp_names.proofs.Listed.{groups_are}
 use Rattle.mp_model.specs.Facts.{JobFacts, QueryFacts}
 use Rattle.mp_outline.specs.JobOutline.{outline_of}
-use Rattle.mp_outline.proofs.Whole.{NothingOpens}
 use Rattle.mp_postdated.specs.Wakes.{ComesNoLater}
 use Rattle.mp_host_laws.specs.Hosted.{Hosted, StandsInOrder, first_group, waits_at}
 use Rattle.mp_host_laws.specs.HostOf.{IsHostOf}
@@ -37,7 +36,7 @@ not_less j t k u l a b =
     z.1)
     b
 
-module _ {Cell : Type 0} (q : QueryFacts Cell) (job : JobFacts) (sound : OutlineIsSound (outline_of q job)) (opens : NothingOpens q job) (log : Log) (h : Hosted Cell) (host : IsHostOf q job log h) (legal : LogIsLegal (outline_of q job) h.worker log) (denotes : StandsInOrder q job h) where
+module _ {Cell : Type 0} (q : QueryFacts Cell) (job : JobFacts) (sound : OutlineIsSound (outline_of q job)) (log : Log) (h : Hosted Cell) (inside : h.stage < job.shape.stages) (host : IsHostOf q job log h) (legal : LogIsLegal (outline_of q job) h.worker log) (denotes : StandsInOrder q job h) where
   -- a group that waits, under whatever name it is
   waiting_form : (P : Name → Type 0) → ((u l : ℕ) → is_pending (outline_of q job) h.worker log (Group h.stage u l) ≡ true → P (Group h.stage u l)) → (x : Name) → IsWaiting (outline_of q job) h.worker log h.stage x → P x
   waiting_form P f (Group i u l) w =
@@ -48,19 +47,19 @@ module _ {Cell : Type 0} (q : QueryFacts Cell) (job : JobFacts) (sound : Outline
   -- what waits here is a group that waits by the log
   pub is_waiting : (t k : ℕ) → waits_at h t k ≡ true → IsWaiting (outline_of q job) h.worker log h.stage (Group h.stage t k)
   is_waiting t k e =
-      let pends = sym (waits_is_pending q job sound opens log h host legal denotes t k) ∙ e in
-      (pending_in_groups q job sound opens log h host legal denotes t k pends, pends)
+      let pends = sym (waits_is_pending q job sound log h inside host legal denotes t k) ∙ e in
+      (pending_in_groups q job sound log h inside host legal denotes t k pends, pends)
 
   pub first_least : (t k : ℕ) → first_group h ≡ Some (t, k) → IsLeast (IsWaiting (outline_of q job) h.worker log h.stage) (Group h.stage t k)
   first_least t k e =
       let f = first_waits q job h denotes t k e in (
         is_waiting t k f.0,
-        waiting_form (λ x. Less x (Group h.stage t k) → ⊥) (λ u l p less. not_less h.stage t k u l (f.1 u l (waits_is_pending q job sound opens log h host legal denotes u l ∙ p)) less),
+        waiting_form (λ x. Less x (Group h.stage t k) → ⊥) (λ u l p less. not_less h.stage t k u l (f.1 u l (waits_is_pending q job sound log h inside host legal denotes u l ∙ p)) less),
       )
 
   none_least : first_group h ≡ None → (t k : ℕ) → IsWaiting (outline_of q job) h.worker log h.stage (Group h.stage t k) → ⊥
-  none_least e t k w = none_waits q job h denotes e t k (waits_is_pending q job sound opens log h host legal denotes t k ∙ w.1)
+  none_least e t k w = none_waits q job h denotes e t k (waits_is_pending q job sound log h inside host legal denotes t k ∙ w.1)
 
 module _ {Cell : Type 0} (q : QueryFacts Cell) (job : JobFacts) where
-  pub first_is_least : OutlineIsSound (outline_of q job) → NothingOpens q job → FirstIsLeast q job
-  first_is_least sound opens log h denotes host legal below = (first_least q job sound opens log h host legal denotes, none_least q job sound opens log h host legal denotes)
+  pub first_is_least : OutlineIsSound (outline_of q job) → FirstIsLeast q job
+  first_is_least sound log h denotes host legal inside = (first_least q job sound log h inside host legal denotes, none_least q job sound log h inside host legal denotes)

@@ -1,25 +1,27 @@
 -- What the log of a worker says of wakes: each came into a state that is in hand.
-use Rattle.std.proofs.Common.{◌≡◌, ◌⊎◌, ℕ, suc, ◌<◌, ◌≤◌, ◌==◌, ◌&&◌, ◌||◌, Bool, true, false, not, Option, None, Some, List, [], ◌∷◌, ◌++◌, filter, refl, sym, subst, inl, inr, ⊎_elim, arith}
+use Rattle.std.proofs.Common.{◌≡◌, ◌⊎◌, ℕ, zero, suc, ◌<◌, ◌≤◌, ◌==◌, ◌&&◌, ◌||◌, Bool, true, false, not, Option, None, Some, List, [], ◌∷◌, ◌++◌, filter, Contains, refl, sym, ◌∙◌, subst, subst₂, inl, inr, ⊎_elim, arith}
 use Rattle.std.specs.List.{list_any}
 use Rattle.std.proofs.lemmas.Bool.{false≢true, and_from, and_parts, both_ways, eq-eqb, eqb-true, false_from_ne_true, not-true, ltb-true, not_from_false, or_cases, or_left, or_right}
 use Rattle.mp_names.specs.declared.names.Name.{Name}
 use Rattle.mp_names.specs.declared.names.Name.TheVariants.{Rec, Packet, Group}
 use Rattle.mp_names.specs.declared.names.Tag.{Tag}
 use Rattle.mp_names.specs.Names.{has, In, is_group, IsAscending, IsPrefix, Less}
-use Rattle.mp_names.specs.Outlines.{Outline, OutlineIsSound, group_owner, groups_of, due_groups, is_posted}
+use Rattle.mp_names.specs.Outlines.{IsMove, Outline, OutlineIsSound, group_owner, groups_of, due_groups, is_posted}
 use Rattle.mp_names.specs.Logs.{Log, LogIsLegal, brings_wake, has_record, has_wake, is_opening_here, is_pending, is_record_of, is_owned, is_wake_here, left_since, owned_groups}
 use Rattle.mp_names.proofs.Lists.{any_at, any_from, filter_In, In_append, In_filter, In_here, In_left, In_push, In_right}
 use Rattle.mp_names.proofs.Orders.{before_rest, filter_ascends, less_irreflexive, less_trans}
-use Rattle.mp_names.proofs.Listed.{due_groups_ascend, earlier_stop, group_due, posted_group}
+use Rattle.mp_names.proofs.Listed.{due_groups_ascend, earlier_stop, group_due, opening_group, posted_group}
+use Rattle.mp_names.proofs.NameParts.{same_group}
+use Rattle.mp_names.proofs.Owners.{opening_owner}
 use Rattle.mp_names.proofs.Steps.{applied_before_stop}
-use Rattle.mp_names.proofs.Hosts.{Brought, brought_at, brought_from, left_at, left_from, opening_at}
+use Rattle.mp_names.proofs.Hosts.{Brought, IsOpeningHere, brought_at, brought_from, left_at, left_from, opening_at, opening_from}
 use Rattle.mp_model.specs.Facts.{JobFacts, QueryFacts}
-use Rattle.mp_outline.specs.JobOutline.{outline_of}
-use Rattle.mp_outline.proofs.Whole.{NothingOpens}
-use Rattle.mp_msg.specs.States.{IsPostedAt}
+use Rattle.mp_outline.specs.JobOutline.{opening_names, outline_of}
+use Rattle.mp_outline.proofs.Waking.{wake_named, wake_stands}
+use Rattle.mp_msg.specs.States.{IsOpening, IsPostedAt}
 use Rattle.mp_host_laws.specs.Hosted.{began_before}
-use Rattle.mp_host_laws.specs.HostOf.{CameInto, IsInHandSince}
-use Rattle.mp_host_laws.proofs.Stays.{since_before}
+use Rattle.mp_host_laws.specs.HostOf.{CameInto, IsInHandSince, IsWakeOf, OpensInto}
+use Rattle.mp_host_laws.proofs.Stays.{owner_first, since_before}
 
 -- two tests that follow from each other are one
 pub same_test : (a b : Bool) → (a ≡ true → b ≡ true) → (b ≡ true → a ≡ true) → a ≡ b
@@ -32,17 +34,18 @@ abbrev pub IsKept : Outline → Log → ℕ → ℕ → ℕ → ℕ → Type 0
 IsKept o log j k s u = (In (Group j s k) log.applied × (left_since log j (o.bin_of k) s ≡ false)) ⊎ Brought log j (o.bin_of k) s u
 
 -- a record of the key posts the time, and the wake is here
-abbrev pub IsHere : Outline → Log → ℕ → ℕ → ℕ → Type 0
-IsHere o log j u k = (s : ℕ) × (g : Tag) × In (Rec j s k g) (o.records j) × (is_posted o (Rec j s k g) u ≡ true) × IsKept o log j k s u
+abbrev pub IsPostedHere : Outline → Log → ℕ → ℕ → ℕ → Type 0
+IsPostedHere o log j u k = (s : ℕ) × (g : Tag) × In (Rec j s k g) (o.records j) × (is_posted o (Rec j s k g) u ≡ true) × IsKept o log j k s u
 
-pub wake_here : (o : Outline) → OutlineIsSound o → ((j : ℕ) (x : Name) → In x (o.opening j) → ⊥) → (w : ℕ) (log : Log) (j u k : ℕ) → has_wake o w log j u k ≡ true → IsHere o log j u k
-wake_here o sound none w log j u k h =
+-- a wake that is here is an opening wake, or was posted
+pub wake_here : (o : Outline) → OutlineIsSound o → (w : ℕ) (log : Log) (j u k : ℕ) → has_wake o w log j u k ≡ true → IsOpeningHere o w log j u k ⊎ IsPostedHere o log j u k
+wake_here o sound w log j u k h =
     ⊎_elim
-    (λ (e : is_opening_here o w log j u k ≡ true). absurd (none j (Group j u k) (opening_at o w log j u k e).0))
-    (λ (e : list_any (is_wake_here o log j u k) (o.records j) ≡ true). let r = any_at (is_wake_here o log j u k) (o.records j) e in form r.0 r.1 r.2)
+    (λ (e : is_opening_here o w log j u k ≡ true). inl (opening_at o w log j u k e))
+    (λ (e : list_any (is_wake_here o log j u k) (o.records j) ≡ true). let r = any_at (is_wake_here o log j u k) (o.records j) e in inr (form r.0 r.1 r.2))
     (or_cases (is_opening_here o w log j u k) (list_any (is_wake_here o log j u k) (o.records j)) h)
   where
-    form : (x : Name) → In x (o.records j) → is_wake_here o log j u k x ≡ true → IsHere o log j u k
+    form : (x : Name) → In x (o.records j) → is_wake_here o log j u k x ≡ true → IsPostedHere o log j u k
     form (Rec i s l g) f e =
         let applied = has log.applied (Group j s k) in
         let left = left_since log j (o.bin_of k) s in
@@ -63,7 +66,7 @@ wake_here o sound none w log j u k h =
         )
     form _ f e = absurd (false≢true e)
 
-pub here_wake : (o : Outline) (w : ℕ) (log : Log) (j u k : ℕ) → IsHere o log j u k → has_wake o w log j u k ≡ true
+pub here_wake : (o : Outline) (w : ℕ) (log : Log) (j u k : ℕ) → IsPostedHere o log j u k → has_wake o w log j u k ≡ true
 here_wake o w log j u k p =
     let s = p.0 in
     let b = o.bin_of k in
@@ -78,19 +81,46 @@ here_wake o w log j u k p =
     or_right (is_opening_here o w log j u k) (list_any (is_wake_here o log j u k) (o.records j))
     (any_from (is_wake_here o log j u k) x (o.records j) p.2 (and_from (k == k) (is_posted o x u && (applied && not left || brought)) (eq-eqb k k refl) (and_from (is_posted o x u) (applied && not left || brought) p.3 kept)))
 
+pub opening_wake : (o : Outline) (w : ℕ) (log : Log) (j u k : ℕ) → IsOpeningHere o w log j u k → has_wake o w log j u k ≡ true
+opening_wake o w log j u k p = or_left (is_opening_here o w log j u k) (list_any (is_wake_here o log j u k) (o.records j)) (opening_from o w log j u k p)
+
 -- a wake that is here has a group
-pub here_in_groups : (o : Outline) (log : Log) (j u k : ℕ) → IsHere o log j u k → In (Group j u k) (groups_of o j)
-here_in_groups o log j u k p = posted_group o j p.0 k u p.1 p.2 p.3
+pub here_in_groups : (o : Outline) (w : ℕ) (log : Log) (j u k : ℕ) → IsOpeningHere o w log j u k ⊎ IsPostedHere o log j u k → In (Group j u k) (groups_of o j)
+here_in_groups o w log j u k h =
+    ⊎_elim
+    (λ (p : IsOpeningHere o w log j u k). opening_group o j (Group j u k) p.0)
+    (λ (p : IsPostedHere o log j u k). posted_group o j p.0 k u p.1 p.2 p.3)
+    h
 
 -- a bin that hasn't left since an earlier time hasn't since a later one
 pub still_later : (log : Log) (j b m s : ℕ) → m ≤ s → left_since log j b m ≡ false → left_since log j b s ≡ false
 still_later log j b m s l e =
     false_from_ne_true (left_since log j b s) (λ h. let r = left_at log j b s h in let g : s < r.0 = r.1 in both_ways (left_since log j b m) e (left_from log j b m r.0 (omega arith) r.2))
 
-module _ {Cell : Type 0} (q : QueryFacts Cell) (job : JobFacts) (sound : OutlineIsSound (outline_of q job)) (opens : NothingOpens q job) (w : ℕ) (log : Log) (legal : LogIsLegal (outline_of q job) w log) where
-  -- The wake that a record of the key at some time posts came into a state of the key's bin that is in hand
+-- where a stage begins with wakes no bin of it moves at 0
+pub moves_later : (o : Outline) → OutlineIsSound o → (j : ℕ) (x : Name) → In x (o.opening j) → (b m : ℕ) → IsMove o j b m → 0 < m
+moves_later o sound j x i b zero move = absurd (move (owner_first o j b ∙ sym (opening_owner o sound j x i b)))
+moves_later o sound j x i b (suc m) move = omega arith
+
+-- a bin of which no packet is sent hasn't left
+never_left : (log : Log) (j b s : ℕ) → ((m : ℕ) → has log.sent (Packet j b m) ≡ false) → left_since log j b s ≡ false
+never_left log j b s unsent = false_from_ne_true (left_since log j b s) (λ e. let r = left_at log j b s e in both_ways (has log.sent (Packet j b r.0)) (unsent r.0) r.2)
+
+module _ {Cell : Type 0} (q : QueryFacts Cell) (job : JobFacts) (j u k : ℕ) where
+  -- a group whose name is that of an opening wake is one that the job begins with
+  pub opening_named : In (Group j u k) (opening_names q job j) → IsOpening q j k u
+  opening_named i =
+      let a = wake_named q job j (Group j u k) i in
+      let w = a.0 in
+      let same = same_group j w.0 w.1 u k a.2 in
+      subst₂ (λ (t l : ℕ). Contains (q.waking j) (t, l)) same.0 same.1 a.1
+
+module _ {Cell : Type 0} (q : QueryFacts Cell) (job : JobFacts) (sound : OutlineIsSound (outline_of q job)) (w : ℕ) (log : Log) (legal : LogIsLegal (outline_of q job) w log) where
+  -- A wake of the key came into a state of the key's bin that is in hand
   abbrev pub HasSource : ℕ → ℕ → ℕ → Type 0
-  HasSource j u k = (since : Option ℕ) × IsInHandSince q job w log j ((outline_of q job).bin_of k) since × (v : ℕ) × IsPostedAt q job j k v u × CameInto log j since k v u
+  HasSource j u k = (since : Option ℕ) × IsInHandSince q job w log j ((outline_of q job).bin_of k) since × IsWakeOf q job log j since k u
+
+  -- a posted wake
 
   applied_source : (j u k v : ℕ) → IsPostedAt q job j k v u → In (Group j v k) log.applied → left_since log j ((outline_of q job).bin_of k) v ≡ false → HasSource j u k
   applied_source j u k v posted applied still =
@@ -100,34 +130,71 @@ module _ {Cell : Type 0} (q : QueryFacts Cell) (job : JobFacts) (sound : Outline
       came s.0 s.1 s.2
     where
       came : (since : Option ℕ) → IsInHandSince q job w log j ((outline_of q job).bin_of k) since → began_before (suc v) since ≡ true → HasSource j u k
-      came None own began = (None, own, v, posted, applied)
-      came (Some m) own began = let l : m < suc v = ltb-true m (suc v) began in (Some m, own, v, posted, inr (omega arith, applied))
+      came None own began = (None, own, inr (v, posted, applied))
+      came (Some m) own began = let l : m < suc v = ltb-true m (suc v) began in (Some m, own, inr (v, posted, inr (omega arith, applied)))
+
+  posted_source : (j u k : ℕ) → IsPostedHere (outline_of q job) log j u k → HasSource j u k
+  posted_source j u k p =
+      let b = (outline_of q job).bin_of k in
+      ⊎_elim
+      (λ (c : In (Group j p.0 k) log.applied × (left_since log j b p.0 ≡ false)). applied_source j u k p.0 (p.1, p.2, p.3) c.0 c.1)
+      (λ (c : Brought log j b p.0 u). (Some c.0, (c.4, c.3), inr (p.0, (p.1, p.2, p.3), inl (c.1, c.2))))
+      p.4
+
+  source_posted : (j u k : ℕ) (since : Option ℕ) → IsInHandSince q job w log j ((outline_of q job).bin_of k) since → (v : ℕ) → IsPostedAt q job j k v u → CameInto log j since k v u → has_wake (outline_of q job) w log j u k ≡ true
+  source_posted j u k None own v posted came =
+      let b = (outline_of q job).bin_of k in
+      here_wake (outline_of q job) w log j u k (v, posted.0, posted.1, posted.2, inl (came, never_left log j b v own.2))
+  source_posted j u k (Some m) own v posted came =
+      let b = (outline_of q job).bin_of k in
+      let kept : IsKept (outline_of q job) log j k v u = ⊎_elim
+      (λ (c : (v < m) × (m ≤ u)). inr (m, c.0, c.1, own.1, own.0))
+      (λ (c : (m ≤ v) × In (Group j v k) log.applied). inl (c.1, still_later log j b m v c.0 own.1))
+      came in
+      here_wake (outline_of q job) w log j u k (v, posted.0, posted.1, posted.2, kept)
+
+  -- an opening wake
+
+  opening_source : (j u k : ℕ) → IsOpeningHere (outline_of q job) w log j u k → HasSource j u k
+  opening_source j u k p =
+      let o = outline_of q job in
+      let b = o.bin_of k in
+      let opens = opening_named q job j u k p.0 in
+      ⊎_elim
+      (λ (c : (o.first_owner j b ≡ w) × (left_since log j b 0 ≡ false)).
+      let unsent : (m : ℕ) → has log.sent (Packet j b m) ≡ false = λ m.
+      false_from_ne_true (has log.sent (Packet j b m)) (λ i. both_ways (left_since log j b 0) c.1 (left_from log j b 0 m (moves_later o sound j (Group j u k) p.0 b m (legal.sent_owed (Packet j b m) i).0) i)) in
+      (None, (sound.bins_fit k, c.0, unsent), inl (opens, tt)))
+      (λ (c : Brought log j b 0 u). (Some c.0, (c.4, c.3), inl (opens, c.2)))
+      p.1
+
+  source_opening : (j u k : ℕ) → j < job.shape.stages → (since : Option ℕ) → IsInHandSince q job w log j ((outline_of q job).bin_of k) since → IsOpening q j k u → OpensInto since u → has_wake (outline_of q job) w log j u k ≡ true
+  source_opening j u k below None own opens into =
+      let o = outline_of q job in
+      opening_wake o w log j u k (wake_stands q job j (u, k) below opens, inl (own.1, never_left log j (o.bin_of k) 0 own.2))
+  source_opening j u k below (Some m) own opens into =
+      let o = outline_of q job in
+      let name = wake_stands q job j (u, k) below opens in
+      let later = moves_later o sound j (Group j u k) name (o.bin_of k) m (legal.took_owed (Packet j (o.bin_of k) m) own.0).0 in
+      opening_wake o w log j u k (name, inr (m, later, into, own.1, own.0))
+
+  -- either
 
   pub wake_source : (j u k : ℕ) → has_wake (outline_of q job) w log j u k ≡ true → HasSource j u k
   wake_source j u k h =
       let o = outline_of q job in
-      let p = wake_here o sound opens w log j u k h in
       ⊎_elim
-      (λ (c : In (Group j p.0 k) log.applied × (left_since log j (o.bin_of k) p.0 ≡ false)). applied_source j u k p.0 (p.1, p.2, p.3) c.0 c.1)
-      (λ (c : Brought log j (o.bin_of k) p.0 u). (Some c.0, (c.4, c.3), p.0, (p.1, p.2, p.3), inl (c.1, c.2)))
-      p.4
+      (λ (p : IsOpeningHere o w log j u k). opening_source j u k p)
+      (λ (p : IsPostedHere o log j u k). posted_source j u k p)
+      (wake_here o sound w log j u k h)
 
   -- and the other way round
-  pub source_wake : (j u k : ℕ) → HasSource j u k → has_wake (outline_of q job) w log j u k ≡ true
-  source_wake j u k h = form h.0 h.1 h.2 h.3 h.4
-    where
-      form : (since : Option ℕ) → IsInHandSince q job w log j ((outline_of q job).bin_of k) since → (v : ℕ) → IsPostedAt q job j k v u → CameInto log j since k v u → has_wake (outline_of q job) w log j u k ≡ true
-      form None own v posted came =
-          let b = (outline_of q job).bin_of k in
-          let still = false_from_ne_true (left_since log j b v) (λ e. let r = left_at log j b v e in both_ways (has log.sent (Packet j b r.0)) (own.2 r.0) r.2) in
-          here_wake (outline_of q job) w log j u k (v, posted.0, posted.1, posted.2, inl (came, still))
-      form (Some m) own v posted came =
-          let b = (outline_of q job).bin_of k in
-          let kept : IsKept (outline_of q job) log j k v u = ⊎_elim
-          (λ (c : (v < m) × (m ≤ u)). inr (m, c.0, c.1, own.1, own.0))
-          (λ (c : (m ≤ v) × In (Group j v k) log.applied). inl (c.1, still_later log j b m v c.0 own.1))
-          came in
-          here_wake (outline_of q job) w log j u k (v, posted.0, posted.1, posted.2, kept)
+  pub source_wake : (j u k : ℕ) → j < job.shape.stages → HasSource j u k → has_wake (outline_of q job) w log j u k ≡ true
+  source_wake j u k below h =
+      ⊎_elim
+      (λ (c : IsOpening q j k u × OpensInto h.0 u). source_opening j u k below h.0 h.1 c.0 c.1)
+      (λ (c : (v : ℕ) × IsPostedAt q job j k v u × CameInto log j h.0 k v u). source_posted j u k h.0 h.1 c.0 c.1 c.2)
+      h.2
 
 -- What waits
 

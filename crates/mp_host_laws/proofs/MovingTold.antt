@@ -12,7 +12,6 @@ use Rattle.mp_job.proofs.Members.{Contains-filter, filter-Contains}
 use Rattle.mp_model.specs.declared.record.Rec.{Rec}
 use Rattle.mp_model.specs.Facts.{JobFacts, QueryFacts}
 use Rattle.mp_outline.specs.JobOutline.{outline_of}
-use Rattle.mp_outline.proofs.Whole.{NothingOpens}
 use Rattle.mp_msg.specs.States.{BinContent, IsStateBefore}
 use Rattle.mp_host_laws.specs.declared.held.Held.{Held}
 use Rattle.mp_host_laws.specs.Hosted.{Hosted, StandsInOrder, StateStands, has_wake_at, has_wake_in, is_of, waits_at, wakes_in}
@@ -62,11 +61,11 @@ module _ {Cell : Type 0} (one : Held Cell) (less more : Hosted Cell) (records : 
       idle : ℕ × ℕ → Bool
       idle w = not (waits_at less w.0 w.1)
 
-module _ {Cell : Type 0} (q : QueryFacts Cell) (job : JobFacts) (sound : OutlineIsSound (outline_of q job)) (opens : NothingOpens q job) where
+module _ {Cell : Type 0} (q : QueryFacts Cell) (job : JobFacts) (sound : OutlineIsSound (outline_of q job)) where
   -- a host that holds what a log says tells by it whether a group waits
-  told_by : (log : Log) (j w : ℕ) (h : Hosted Cell) → h.stage ≡ j → h.worker ≡ w → IsHostOf q job log h → LogIsLegal (outline_of q job) w log → StandsInOrder q job h → (u k : ℕ) → waits_at h u k ≡ is_pending (outline_of q job) w log (Group j u k)
-  told_by log j w h a b host good standing u k =
-      waits_is_pending q job sound opens log h host (subst (λ (n : ℕ). LogIsLegal (outline_of q job) n log) (sym b) good) standing u k
+  told_by : (log : Log) (j w : ℕ) (h : Hosted Cell) → j < job.shape.stages → h.stage ≡ j → h.worker ≡ w → IsHostOf q job log h → LogIsLegal (outline_of q job) w log → StandsInOrder q job h → (u k : ℕ) → waits_at h u k ≡ is_pending (outline_of q job) w log (Group j u k)
+  told_by log j w h inside a b host good standing u k =
+      waits_is_pending q job sound log h (subst (λ (n : ℕ). n < job.shape.stages) (sym a) inside) host (subst (λ (n : ℕ). LogIsLegal (outline_of q job) n log) (sym b) good) standing u k
       ∙ ap (λ (n : ℕ). is_pending (outline_of q job) h.worker log (Group n u k)) a
       ∙ ap (λ (n : ℕ). is_pending (outline_of q job) n log (Group j u k)) b
 
@@ -106,8 +105,8 @@ module _ {Cell : Type 0} (q : QueryFacts Cell) (job : JobFacts) (sound : Outline
       let there = other_was_here q job sound log old b t host good may one new taken in
       let standing_new = stands_without b t one old new taken there standing in
       by_logs old.worker (with_sent log (Packet old.stage b t)) log old new one.state old.stage u k
-      (told_by log old.stage old.worker old refl refl host good standing u k)
-      (told_by (with_sent log (Packet old.stage b t)) old.stage old.worker new taken.stage taken.worker without may.legal standing_new u k)
+      (told_by log old.stage old.worker old below refl refl host good standing u k)
+      (told_by (with_sent log (Packet old.stage b t)) old.stage old.worker new below taken.stage taken.worker without may.legal standing_new u k)
       (one_told one new old (sym taken.records) (one_was_here q job sound log old b t host good may one new taken)
       (λ s i.
       ⊎_elim
@@ -125,8 +124,8 @@ module _ {Cell : Type 0} (q : QueryFacts Cell) (job : JobFacts) (sound : Outline
       let standing_new = stands_with b t s old new inside before put standing in
       let good_new = took_keeps (outline_of q job) old.worker log good (Packet old.stage b t) untaken comes in
       by_logs old.worker log came new old s old.stage u k
-      (told_by came old.stage old.worker new put.stage put.worker with_it good_new standing_new u k)
-      (told_by log old.stage old.worker old refl refl host good standing u k)
+      (told_by came old.stage old.worker new below put.stage put.worker with_it good_new standing_new u k)
+      (told_by log old.stage old.worker old below refl refl host good standing u k)
       (one_told one old new put.records (subst (λ (hs : List (Held Cell)). Contains hs one) (sym put.held) (Contains-push old.held one))
       (λ r i.
       ⊎_elim

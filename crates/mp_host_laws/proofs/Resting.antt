@@ -1,11 +1,11 @@
 -- The state of a stay of a bin is what the bin has just before a time, where up to that time its groups are applied and from then on none.
-use Rattle.std.proofs.Common.{◌≡◌, ◌↔◌, ℕ, suc, ◌<◌, ◌≤◌, nat_lt, true, false, Option, None, Some, Contains, refl, sym, ap, ◌∙◌, subst, inl, inr, ⊎_elim, arith}
+use Rattle.std.proofs.Common.{◌≡◌, ◌↔◌, ◌⊎◌, ℕ, suc, ◌<◌, ◌≤◌, nat_lt, true, false, Option, None, Some, Contains, refl, sym, ap, ◌∙◌, subst, inl, inr, ⊎_elim, arith}
 use Rattle.std.proofs.lemmas.Bool.{both_ways, cases_lt, le-ltb, lt-ltb, or_from, or_left, or_right}
 use Rattle.mp_names.specs.declared.names.Name.TheVariants.{Rec as RecName, Group}
 use Rattle.mp_names.specs.Names.{has, In}
 use Rattle.mp_names.specs.Outlines.{Outline, OutlineIsSound, group_owner, groups_of, owner_before}
 use Rattle.mp_names.specs.Logs.{EarlierApplied, Log}
-use Rattle.mp_names.proofs.Listed.{posted_group, record_group}
+use Rattle.mp_names.proofs.Listed.{opening_group, posted_group, record_group}
 use Rattle.mp_bins.specs.Bins.{bin_of_key}
 use Rattle.mp_model.specs.Entry.{Entry}
 use Rattle.mp_model.specs.Facts.{JobFacts, QueryFacts}
@@ -16,11 +16,12 @@ use Rattle.mp_outline.specs.JobOutline.{outline_of}
 use Rattle.mp_outline.specs.Laws.{timeline_of}
 use Rattle.mp_outline.proofs.Outputs.{group_is, timeline_rises}
 use Rattle.mp_outline.proofs.Stages.{group_named}
+use Rattle.mp_outline.proofs.Waking.{wake_stands}
 use Rattle.mp_postdated.specs.Wakes.{Has}
-use Rattle.mp_msg.specs.States.{IsOfBin, IsPostedAt, IsStateBefore, cell_in}
+use Rattle.mp_msg.specs.States.{IsOfBin, IsOpening, IsPostedAt, IsStateBefore, cell_in}
 use Rattle.mp_host_laws.specs.declared.held.Held.{Held}
 use Rattle.mp_host_laws.specs.Hosted.{StateStands, began_before, wakes_in}
-use Rattle.mp_host_laws.specs.HostOf.{CameInto, IsStateOf, is_taken_in}
+use Rattle.mp_host_laws.specs.HostOf.{CameInto, IsStateOf, IsWakeOf, OpensInto, is_taken_in}
 use Rattle.mp_host_laws.proofs.Lists.{take_below}
 use Rattle.mp_host_laws.proofs.Stays.{StaysSince, owned_in}
 
@@ -70,26 +71,56 @@ module _ {Cell : Type 0} (q : QueryFacts Cell) (job : JobFacts) (sound : Outline
       (λ (c : m ≤ v). inr (c, early (Some m) stays v k own (lt-ltb m (suc v) (omega arith)) l group))
       (cases_lt v m)
 
+  -- so did an opening wake from then on
+  opens_then : (a : Option ℕ) → StaysSince (outline_of q job) log j b t a → (u : ℕ) → t ≤ u → OpensInto a u
+  opens_then None stays u l = tt
+  opens_then (Some m) stays u l = let less : m < t = stays.0 in omega arith
+
+  -- an opening wake that came into the state is of a time since the stay began
+  opened_since : (a : Option ℕ) (u : ℕ) → OpensInto a u → began_before (suc u) a ≡ true
+  opened_since None u opens = refl
+  opened_since (Some m) u opens = let l : m ≤ u = opens in lt-ltb m (suc u) (omega arith)
+
+  opening_stands : (u k : ℕ) → IsOpening q j k u → In (Group j u k) (groups_of (outline_of q job) j)
+  opening_stands u k opening = opening_group (outline_of q job) j (Group j u k) (wake_stands q job j (u, k) inside opening)
+
+  -- a group since the stay began that isn't applied is of a time from then on
+  not_early : (a : Option ℕ) → StaysSince (outline_of q job) log j b t a → (u k : ℕ) → bin_of_key k job.shape.bins ≡ b → began_before (suc u) a ≡ true → In (Group j u k) (groups_of (outline_of q job) j) → has log.applied (Group j u k) ≡ false → t ≤ u
+  not_early a stays u k own began group unapplied =
+      ⊎_elim
+      (λ (l : u < t). absurd (both_ways (has log.applied (Group j u k)) unapplied (early a stays u k own began l group)))
+      (λ (l : t ≤ u). l)
+      (cases_lt u t)
+
+  -- the job begins with the wake, or a record before that time posts it
+  abbrev IsWakeThen : ℕ → ℕ → Type 0
+  IsWakeThen u k = IsOpening q j k u ⊎ ((v : ℕ) × (v < t) × IsPostedAt q job j k v u)
+
+  wake_then : (a : Option ℕ) → StaysSince (outline_of q job) log j b t a → (u k : ℕ) → bin_of_key k job.shape.bins ≡ b → has log.applied (Group j u k) ≡ false → IsWakeOf q job log j a k u → (t ≤ u) × IsWakeThen u k
+  wake_then a stays u k own unapplied wake =
+      ⊎_elim
+      (λ (c : IsOpening q j k u × OpensInto a u). (not_early a stays u k own (opened_since a u c.1) (opening_stands u k c.0) unapplied, inl c.0))
+      (λ (c : (v : ℕ) × IsPostedAt q job j k v u × CameInto log j a k v u).
+      let posted = c.1 in
+      let later : c.0 < u = sound.posts_later j (RecName j c.0 k posted.0) u posted.1 posted.2 in
+      let group = posted_group (outline_of q job) j c.0 k u posted.0 posted.1 posted.2 in
+      (not_early a stays u k own (came_since a k c.0 u later c.2) group unapplied, inr (c.0, came_before a stays k c.0 u own c.2, posted)))
+      wake
+
+  then_wake : (a : Option ℕ) → StaysSince (outline_of q job) log j b t a → (u k : ℕ) → bin_of_key k job.shape.bins ≡ b → t ≤ u → IsWakeThen u k → IsWakeOf q job log j a k u
+  then_wake a stays u k own l wake =
+      ⊎_elim
+      (λ (c : IsOpening q j k u). inl (c, opens_then a stays u l))
+      (λ (c : (v : ℕ) × (v < t) × IsPostedAt q job j k v u).
+      let posted = c.2 in
+      inr (c.0, posted, posted_came a stays k c.0 u own (record_group (outline_of q job) j c.0 k posted.0 posted.1) c.1 l))
+      wake
+
   rest_wakes : (s : Held Cell) → s.bin ≡ b → StaysSince (outline_of q job) log j b t s.since → IsStateOf q job log j s → (u k : ℕ) → bin_of_key k job.shape.bins ≡ b
-      → (Has (wakes_in s) u k ↔ ((t ≤ u) × (v : ℕ) × (v < t) × IsPostedAt q job j k v u))
+      → (Has (wakes_in s) u k ↔ ((t ≤ u) × IsWakeThen u k))
   rest_wakes s bin stays st u k own = (
-    (λ i.
-        let c = (st.wakes u k (own ∙ sym bin)).0 i in
-        let posted = c.2 in
-        let later : c.1 < u = sound.posts_later j (RecName j c.1 k posted.0) u posted.1 posted.2 in
-        let group = posted_group (outline_of q job) j c.1 k u posted.0 posted.1 posted.2 in (
-          ⊎_elim
-              (λ (l : u < t). absurd (both_ways (has log.applied (Group j u k)) c.0 (early s.since stays u k own (came_since s.since k c.1 u later c.3) l group)))
-              (λ (l : t ≤ u). l)
-              (cases_lt u t),
-          c.1,
-          came_before s.since stays k c.1 u own c.3,
-          posted,
-        )),
-    (λ c.
-        let posted = c.3 in
-        (st.wakes u k (own ∙ sym bin)).1
-        (rests.none_later u k own c.0, c.1, posted, posted_came s.since stays k c.1 u own (record_group (outline_of q job) j c.1 k posted.0 posted.1) c.2 c.0)),
+    (λ i. let c = (st.wakes u k (own ∙ sym bin)).0 i in wake_then s.since stays u k own c.0 c.1),
+    (λ c. (st.wakes u k (own ∙ sym bin)).1 (rests.none_later u k own c.0, then_wake s.since stays u k own c.0 c.1)),
   )
 
   module _ (nothing : LaterStagesPostNothing q) where

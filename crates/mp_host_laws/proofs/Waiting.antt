@@ -1,5 +1,5 @@
 -- A group waits at a host exactly where it waits by its worker's log.
-use Rattle.std.proofs.Common.{◌≡◌, ◌⊎◌, ℕ, ◌==◌, true, false, Option, List, Contains, refl, sym, subst, inl, inr, ⊎_elim}
+use Rattle.std.proofs.Common.{◌≡◌, ◌⊎◌, ◌<◌, ℕ, ◌==◌, true, false, Option, List, Contains, refl, sym, subst, inl, inr, ⊎_elim}
 use Rattle.std.specs.List.{list_any}
 use Rattle.std.proofs.lemmas.Bool.{and_from, and_parts, eq-eqb, eqb-true, or_cases, or_left, or_right}
 use Rattle.std.proofs.lemmas.List.Elements.{All-contains}
@@ -16,11 +16,10 @@ use Rattle.mp_model.specs.Facts.{JobFacts, QueryFacts}
 use Rattle.mp_outline.specs.JobOutline.{outline_of}
 use Rattle.mp_outline.proofs.Found.{found, found_there}
 use Rattle.mp_outline.proofs.Stages.{record_named}
-use Rattle.mp_outline.proofs.Whole.{NothingOpens}
 use Rattle.mp_postdated.specs.Wakes.{Has}
 use Rattle.mp_host_laws.specs.declared.held.Held.{Held}
 use Rattle.mp_host_laws.specs.Hosted.{Hosted, StandsInOrder, StateStands, has_wake_at, has_wake_in, is_of, is_wake, wakes_in, waits_at}
-use Rattle.mp_host_laws.specs.HostOf.{CameInto, IsHostOf, IsInHandSince, IsStateOf}
+use Rattle.mp_host_laws.specs.HostOf.{IsHostOf, IsInHandSince, IsStateOf, IsWakeOf}
 use Rattle.mp_host_laws.proofs.Lists.{passes, passing}
 use Rattle.mp_host_laws.proofs.Logs.{here_in_groups, pending_is, record_pends, record_taken, same_test, source_wake, taken_record, wake_here, wake_pends, wake_source}
 
@@ -78,16 +77,16 @@ module _ {Cell : Type 0} (q : QueryFacts Cell) (job : JobFacts) (log : Log) (h :
   pub state_is : (s : Held Cell) → Contains h.held s → IsStateOf q job log h.stage s
   state_is s i = All-contains (IsStateOf q job log h.stage) h.held s host.states i
 
-module _ {Cell : Type 0} (q : QueryFacts Cell) (job : JobFacts) (sound : OutlineIsSound (outline_of q job)) (opens : NothingOpens q job) (log : Log) (h : Hosted Cell) (host : IsHostOf q job log h) (legal : LogIsLegal (outline_of q job) h.worker log) (denotes : StandsInOrder q job h) where
+module _ {Cell : Type 0} (q : QueryFacts Cell) (job : JobFacts) (sound : OutlineIsSound (outline_of q job)) (log : Log) (h : Hosted Cell) (inside : h.stage < job.shape.stages) (host : IsHostOf q job log h) (legal : LogIsLegal (outline_of q job) h.worker log) (denotes : StandsInOrder q job h) where
   -- a wake by the log, of a group that isn't applied, is one of a state that is here
   pub log_wake_here : (t k : ℕ) → has_wake (outline_of q job) h.worker log h.stage t k ≡ true → has log.applied (Group h.stage t k) ≡ false → has_wake_at h t k ≡ true
   log_wake_here t k e unapplied =
       let j = h.stage in
-      let p = wake_source q job sound opens h.worker log legal j t k e in
+      let p = wake_source q job sound h.worker log legal j t k e in
       let r = state_since q job log h host (bin_of_key k job.shape.bins) p.0 p.1 in
       let s = r.0 in
-      let came = subst (λ (since : Option ℕ). CameInto log j since k p.2 t) (sym r.3) p.4 in
-      state_wakes h t k s r.1 (((state_is q job log h host s r.1).wakes t k (sym r.2)).1 (unapplied, p.2, p.3, came))
+      let came = subst (λ (since : Option ℕ). IsWakeOf q job log j since k t) (sym r.3) p.2 in
+      state_wakes h t k s r.1 (((state_is q job log h host s r.1).wakes t k (sym r.2)).1 (unapplied, came))
 
   -- the bin of a wake's key is its state's
   pub wake_bin : (s : Held Cell) (t k : ℕ) → Contains h.held s → Has (wakes_in s) t k → bin_of_key k job.shape.bins ≡ s.bin
@@ -102,7 +101,7 @@ module _ {Cell : Type 0} (q : QueryFacts Cell) (job : JobFacts) (sound : Outline
       let bin = wake_bin s t k r.1 r.2 in
       let a = ((state_is q job log h host s r.1).wakes t k bin).0 r.2 in
       let own = subst (λ (b : ℕ). IsInHandSince q job h.worker log j b s.since) (sym bin) (since_state q job log h host s r.1) in
-      (source_wake q job sound opens h.worker log legal j t k (s.since, own, a.1, a.2, a.3), a.0)
+      (source_wake q job sound h.worker log legal j t k inside (s.since, own, a.1), a.0)
 
   waits_pends : (t k : ℕ) → waits_at h t k ≡ true → is_pending (outline_of q job) h.worker log (Group h.stage t k) ≡ true
   waits_pends t k e =
@@ -150,5 +149,5 @@ module _ {Cell : Type 0} (q : QueryFacts Cell) (job : JobFacts) (sound : Outline
       let j = h.stage in
       ⊎_elim
       (λ (f : has_record log j t k ≡ true). let g = record_taken log j t k f in record_group o j t k g.0 (legal.took_owed (RecName j t k g.0) g.1).0.1)
-      (λ (f : has_wake o h.worker log j t k ≡ true). here_in_groups o log j t k (wake_here o sound opens h.worker log j t k f))
+      (λ (f : has_wake o h.worker log j t k ≡ true). here_in_groups o h.worker log j t k (wake_here o sound h.worker log j t k f))
       (pending_is o h.worker log j t k e).1

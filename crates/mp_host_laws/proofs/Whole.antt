@@ -32,7 +32,6 @@ use Rattle.mp_outline.proofs.Pairs.{Pairs, Pairs-filter, Pairs-within}
 use Rattle.mp_outline.proofs.Records.{records_in_order, same_record}
 use Rattle.mp_outline.proofs.Stages.{group_named, name_stands}
 use Rattle.mp_outline.proofs.Timelines.{groups_are_on, wakes_are}
-use Rattle.mp_outline.proofs.Whole.{NothingOpens}
 use Rattle.mp_msg.specs.States.{cell_in}
 use Rattle.mp_msg.proofs.Ordered.{same_ordered}
 use Rattle.mp_host_laws.specs.declared.held.Held.{Held}
@@ -98,7 +97,7 @@ fits_at q j cell e (f ∷ es) h i fits =
     rw (take_while-cons (λ (g : Entry). nat_lt g.time e.time) f es, l) (fits_at q j (q.step j cell f) e es h.1 k fits.1))
     (Contains-cases f e es i)
 
-module _ {Cell : Type 0} (q : QueryFacts Cell) (nothing : LaterStagesPostNothing q) (job : JobFacts) (sound : OutlineIsSound (outline_of q job)) (opens : NothingOpens q job) (log : Log) (h : Hosted Cell) (t k : ℕ)
+module _ {Cell : Type 0} (q : QueryFacts Cell) (nothing : LaterStagesPostNothing q) (job : JobFacts) (sound : OutlineIsSound (outline_of q job)) (log : Log) (h : Hosted Cell) (t k : ℕ)
     (host : IsHostOf q job log h) (legal : LogIsLegal (outline_of q job) h.worker log) (denotes : StandsInOrder q job h) (below : h.stage < job.shape.stages)
     (full : GroupIsWhole (outline_of q job) h.worker log h.stage t k) (unapplied : has log.applied (Group h.stage t k) ≡ false) (group : In (Group h.stage t k) (groups_of (outline_of q job) h.stage)) where
   -- The records
@@ -154,7 +153,7 @@ module _ {Cell : Type 0} (q : QueryFacts Cell) (nothing : LaterStagesPostNothing
   -- The wake
 
   wake_is_known : has_wake_at h t k ≡ (group_at q job h.stage t k).woken
-  wake_is_known = same_test (has_wake_at h t k) (has_wake (outline_of q job) h.worker log h.stage t k) (λ e. (wake_in_log q job sound opens log h host legal denotes t k e).0) (λ e. log_wake_here q job sound opens log h host legal denotes t k e unapplied) ∙ full.wake_known ∙ wakes_are q nothing job h.stage t k below
+  wake_is_known = same_test (has_wake_at h t k) (has_wake (outline_of q job) h.worker log h.stage t k) (λ e. (wake_in_log q job sound log h below host legal denotes t k e).0) (λ e. log_wake_here q job sound log h below host legal denotes t k e unapplied) ∙ full.wake_known ∙ wakes_are q nothing job h.stage t k below
 
   pub group_is_whole : group_here h t k ≡ group_at q job h.stage t k
   group_is_whole =
@@ -246,11 +245,11 @@ module _ {Cell : Type 0} (q : QueryFacts Cell) (nothing : LaterStagesPostNothing
     fits = group_fits fit job_legal;
   }
 
-module _ {Cell : Type 0} (q : QueryFacts Cell) (job : JobFacts) (sound : OutlineIsSound (outline_of q job)) (opens : NothingOpens q job) (log : Log) (seen : Seen) (h : Hosted Cell) (t k : ℕ)
+module _ {Cell : Type 0} (q : QueryFacts Cell) (job : JobFacts) (sound : OutlineIsSound (outline_of q job)) (log : Log) (seen : Seen) (h : Hosted Cell) (t k : ℕ)
     (denotes : StandsInOrder q job h) (informed : HostMatchesLogAndSeen q job log seen h) (below : h.stage < job.shape.stages) (first : first_group h ≡ Some (t, k))
     (mail : HasPassed (seen_at seen (Mail h.stage)) t) (state : HasPassed (seen_at seen (State h.stage)) t) where
   pub least_here : IsLeast (IsWaiting (outline_of q job) h.worker log h.stage) (Group h.stage t k)
-  least_here = first_least q job sound opens log h informed.host informed.legal denotes t k first
+  least_here = first_least q job sound log h below informed.host informed.legal denotes t k first
 
   pub full_here : GroupIsWhole (outline_of q job) h.worker log h.stage t k
   full_here = whole (outline_of q job) sound h.worker log informed.legal h.stage t k least_here (informed.done (Mail h.stage) t below mail) (informed.done (State h.stage) t below state)
@@ -261,10 +260,10 @@ module _ {Cell : Type 0} (q : QueryFacts Cell) (job : JobFacts) (sound : Outline
   pub ready_here : IsBeforeStop job.until t → IsReadyAt q job log seen h t k
   ready_here early = record { least = least_here; mail = mail; state = state; in_hand = full_here.bin_in_hand; early = early }
 
-module _ {Cell : Type 0} (q : QueryFacts Cell) (nothing : LaterStagesPostNothing q) (job : JobFacts) (fit : FoldsFit q job.events) (legal : JobIsLegal q job) (sound : OutlineIsSound (outline_of q job)) (opens : NothingOpens q job) where
+module _ {Cell : Type 0} (q : QueryFacts Cell) (nothing : LaterStagesPostNothing q) (job : JobFacts) (fit : FoldsFit q job.events) (legal : JobIsLegal q job) (sound : OutlineIsSound (outline_of q job)) where
   pub first_is_whole : FirstIsWhole q job
   first_is_whole log seen h t k denotes informed below inside first mail state early =
-      let full = full_here q job sound opens log seen h t k denotes informed below first mail state in
-      let least = least_here q job sound opens log seen h t k denotes informed below first mail state in
-      let unapplied = unapplied_here q job sound opens log seen h t k denotes informed below first mail state in
-      (ready_here q job sound opens log seen h t k denotes informed below first mail state early, is_whole_here q nothing job sound opens log h t k informed.host informed.legal denotes below full unapplied least.0.0 fit legal)
+      let full = full_here q job sound log seen h t k denotes informed below first mail state in
+      let least = least_here q job sound log seen h t k denotes informed below first mail state in
+      let unapplied = unapplied_here q job sound log seen h t k denotes informed below first mail state in
+      (ready_here q job sound log seen h t k denotes informed below first mail state early, is_whole_here q nothing job sound log h t k informed.host informed.legal denotes below full unapplied least.0.0 fit legal)

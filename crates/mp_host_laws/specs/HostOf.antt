@@ -18,7 +18,7 @@ use Rattle.mp_outline.specs.JobOutline.{layout_of, name_of_record, outline_of}
 use Rattle.mp_outline.specs.Laws.{timeline_of}
 use Rattle.mp_postdated.specs.Wakes.{Has}
 use Rattle.mp_msg.specs.Contents.{IsRecordOf}
-use Rattle.mp_msg.specs.States.{IsPostedAt, cell_in}
+use Rattle.mp_msg.specs.States.{IsOpening, IsPostedAt, cell_in}
 use Rattle.mp_host_laws.specs.declared.held.Held.{Held}
 use Rattle.mp_host_laws.specs.Hosted.{Hosted, wakes_in}
 
@@ -37,7 +37,16 @@ abbrev pub CameInto : Log → ℕ → Option ℕ → ℕ → ℕ → ℕ → Typ
 CameInto log j None k s u = In (Group j s k) log.applied
 CameInto log j (Some m) k s u = ((s < m) × (m ≤ u)) ⊎ ((m ≤ s) × In (Group j s k) log.applied)
 
+-- what the job begins with for u is a wake of the state: the first owner has it, or the packet brought it
+abbrev pub OpensInto : Option ℕ → ℕ → Type 0
+OpensInto None u = Unit {0}
+OpensInto (Some m) u = m ≤ u
+
 module _ {Cell : Type 0} (q : QueryFacts Cell) (job : JobFacts) where
+  -- a wake of the key at u came into the state: the job begins with it, or a record posts it
+  abbrev pub IsWakeOf : Log → ℕ → Option ℕ → ℕ → ℕ → Type 0
+  IsWakeOf log j since k u = (IsOpening q j k u × OpensInto since u) ⊎ ((v : ℕ) × IsPostedAt q job j k v u × CameInto log j since k v u)
+
   -- the worker has had a state of the bin in hand since then: as the first owner, or since it took the packet of that time; and it hasn't left
   abbrev pub IsInHandSince : ℕ → Log → ℕ → ℕ → Option ℕ → Type 0
   IsInHandSince w log j b None = (b < job.shape.bins) × (first_owner (layout_of job) j b ≡ w) × ((m : ℕ) → has log.sent (Packet j b m) ≡ false)
@@ -46,7 +55,7 @@ module _ {Cell : Type 0} (q : QueryFacts Cell) (job : JobFacts) where
   -- What a state in hand has: the wakes that came into it, of groups that aren't applied, and the cells of its bin's keys after the groups that were taken in
   pub record IsStateOf (log : Log) (j : ℕ) (s : Held Cell) : Type 0 where
     pub wakes : (u k : ℕ) → bin_of_key k job.shape.bins ≡ s.bin
-        → (Has (wakes_in s) u k ↔ ((has log.applied (Group j u k) ≡ false) × (v : ℕ) × IsPostedAt q job j k v u × CameInto log j s.since k v u))
+        → (Has (wakes_in s) u k ↔ ((has log.applied (Group j u k) ≡ false) × IsWakeOf log j s.since k u))
     pub cells : (k : ℕ) → bin_of_key k job.shape.bins ≡ s.bin
         → cell_in (q.fresh j) s.state.cells k ≡ fold_of q j (q.opening j k) (filter (λ e. is_taken_in log j s.since e.time k) (timeline_of q job j k))
 

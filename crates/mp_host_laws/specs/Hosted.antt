@@ -1,6 +1,6 @@
 -- What contracts see of a host, the part of a worker that keeps the state of a stage.
-use Rattle.std.specs.Prelude.{◌≡◌, ◌<◌, ℕ, zero, suc, true, ◌==◌, ◌&&◌, ◌||◌, ◌++◌, Bool, cond, Option, None, Some, List, [], ◌∷◌, All, filter, find, map, nat_lt, slice_get}
-use Rattle.std.specs.List.{flat_map, list_any}
+use Rattle.std.specs.Prelude.{◌≡◌, ◌<◌, ℕ, suc, true, ◌==◌, ◌&&◌, ◌||◌, ◌++◌, Bool, Option, None, Some, List, [], ◌∷◌, All, filter, find, map, nat_lt, slice_get}
+use Rattle.std.specs.List.{flat_map, list_any, range_with_len}
 use Rattle.std.specs.Option.{option_map, option_map_or}
 use Rattle.mp_bins.specs.Bins.{bin_of_key}
 use Rattle.mp_bins.specs.Notes.{first_owner}
@@ -9,7 +9,7 @@ use Rattle.mp_model.specs.Ascending.{ascending}
 use Rattle.mp_model.specs.Facts.{JobFacts, QueryFacts}
 use Rattle.mp_outline.specs.JobOutline.{layout_of}
 use Rattle.mp_msg.specs.Contents.{IsRecordOf}
-use Rattle.mp_msg.specs.States.{BinContent, IsInOrder as StateIsInOrder, IsOfBin, cell_in}
+use Rattle.mp_msg.specs.States.{IsInOrder as StateIsInOrder, IsOfBin, IsStateAtFirst, cell_in}
 use Rattle.mp_ordered.specs.InOrder.{IsInOrder}
 use Rattle.mp_tournament.specs.Firsts.{earlier_of}
 use Rattle.mp_host_laws.specs.declared.held.Held.{Held}
@@ -39,6 +39,10 @@ is_wake t k w = w.0 == t && w.1 == k
 abbrev pub began_before : ℕ → Option ℕ → Bool
 began_before t None = true
 began_before t (Some m) = nat_lt m t
+
+-- the bins of a stage whose first owner the worker is, ascending
+abbrev pub first_bins : JobFacts → ℕ → ℕ → List ℕ
+first_bins job j w = filter (λ b. first_owner (layout_of job) j b == w) (range_with_len 0 job.shape.bins)
 
 module _ {Cell : Type 0} where
   -- the state is of this bin, and began before this time
@@ -109,16 +113,9 @@ module _ {Cell : Type 0} where
     pub records : IsInOrder group_rank h.records
     pub states : All (StateStands q job h.stage) h.held
 
-  -- a state without cells and wakes, as the first owner of a bin has it from the start
-  abbrev pub empty_state : BinContent Cell
-  empty_state = record { cells = []; wakes = [] }
-
-  -- the bins of a stage below a number whose first owner the worker is, each with an empty state
-  abbrev pub first_held : JobFacts → ℕ → ℕ → ℕ → List (Held Cell)
-  first_held job j w zero = []
-  first_held job j w (suc b) = first_held job j w b ++ cond (first_owner (layout_of job) j b == w) (record { bin = b; since = None; state = empty_state } ∷ []) []
-
-  -- a host that has received and applied nothing has its bins, as their first owner
-  pub record IsNew (job : JobFacts) (h : Hosted Cell) : Type 0 where
+  -- a host that has received and applied nothing has the bins whose first owner its worker is, each with what it begins with
+  pub record IsNew (q : QueryFacts Cell) (job : JobFacts) (h : Hosted Cell) : Type 0 where
     pub records : h.records ≡ []
-    pub held : h.held ≡ first_held job h.stage h.worker job.shape.bins
+    pub bins : map (λ s. s.bin) h.held ≡ first_bins job h.stage h.worker
+    pub first : All (λ s. s.since ≡ None) h.held
+    pub states : All (λ s. IsStateAtFirst q job h.stage s.bin s.state) h.held

@@ -26,8 +26,8 @@ use Rattle.mp_host_laws.specs.HostOf.{IsHostOf, HostMatchesLogAndSeen, IsReadyAt
 
 module _ {Cell : Type 0} (q : QueryFacts Cell) (job : JobFacts) where
   -- a new host holds what the empty log says
-  abbrev pub NewHostsHoldNothing : Type 0
-  NewHostsHoldNothing = (h : Hosted Cell) → IsNew job h → IsHostOf q job empty_log h
+  abbrev pub NewHostsHoldTheOpening : Type 0
+  NewHostsHoldTheOpening = (h : Hosted Cell) → IsNew q job h → IsHostOf q job empty_log h
 
   -- a host that receives a record holds what the log says with that record taken
   abbrev pub RecordsAreHeld : Type 0

@@ -2,13 +2,13 @@
 ghost use Rattle.mp_model.specs.Facts.{JobFacts};
 ghost use Rattle.mp_model.specs.Tables.{table_of};
 ghost use Rattle.mp_job.specs.Legal.{JobIsLegal};
-ghost use Rattle.mp_host_laws.specs.Laws.{BinsLeave, BinsReturn, ComingAreTold, FirstIsLeast, FirstIsWhole, GroupsAreHeld, LeavingAreTold, LeavingBinsAreHere, NewHostsHoldNothing, PacketsAreHeld, RecordsAreHeld, WaitingAreCounted, WokenAreTold};
+ghost use Rattle.mp_host_laws.specs.Laws.{BinsLeave, BinsReturn, ComingAreTold, FirstIsLeast, FirstIsWhole, GroupsAreHeld, LeavingAreTold, LeavingBinsAreHere, NewHostsHoldTheOpening, PacketsAreHeld, RecordsAreHeld, WaitingAreCounted, WokenAreTold};
 
 use mp_model::Query;
 
-/// A new host holds what the empty log says.
-pub fn hosts_begin_empty<Q: Query>()
-    ensures { (job : JobFacts) → let q = table_of Q.facts job in JobIsLegal q job → NewHostsHoldNothing q job }
+/// A new host, whose bins have the cells and wakes that the job begins with, holds what the empty log says.
+pub fn hosts_begin_with_the_opening<Q: Query>()
+    ensures { (job : JobFacts) → let q = table_of Q.facts job in JobIsLegal q job → NewHostsHoldTheOpening q job }
 {}
 
 /// A host that receives a record holds what its worker's log says with that record taken.

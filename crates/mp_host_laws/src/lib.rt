@@ -10,6 +10,6 @@ mod laws;
 pub use held::Held;
 pub use last::last_states_are_held;
 pub use laws::{
-    bins_leave, groups_are_held, hosts_begin_empty, packets_are_held, records_are_held,
+    bins_leave, groups_are_held, hosts_begin_with_the_opening, packets_are_held, records_are_held,
     waiting_groups_are_told,
 };

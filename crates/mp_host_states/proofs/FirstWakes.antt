@@ -1,8 +1,8 @@
 -- The first wakes of bins tell the first wake of all states, and are kept as a bin's states change.
-use Rattle.std.proofs.Common.{◌≡◌, ◌≢◌, ◌⊎◌, ◌==◌, ◌++◌, ◌+◌, ◌<◌, ◌≤◌, ◌∙◌, ℕ, zero, suc, add-one, true, false, cond, Option, None, List, [], ◌∷◌, All, ap, arith, drop, get_or, get_or-set_other, get_or-set_same, length, refl, replicate, slice_get, slice_set, subst, sym, take, ⊎_elim}
+use Rattle.std.proofs.Common.{◌≡◌, ◌≢◌, ◌⊎◌, ◌==◌, ◌++◌, ◌+◌, ◌<◌, ◌≤◌, ◌∙◌, ℕ, zero, suc, add-one, true, false, cond, Option, None, List, [], ◌∷◌, All, ap, arith, drop, get_or, get_or-set_other, get_or-set_same, length, refl, slice_get, slice_set, subst, sym, take, ⊎_elim}
 use Rattle.std.proofs.Math.ListN.{length-set}
 use Rattle.std.proofs.lemmas.Bool.{cases_Bool, cases_order, eq-eqb, ne_eqb}
-use Rattle.std.proofs.lemmas.List.{append-nil, get_or-replicate, length-replicate, take_all, take_more}
+use Rattle.std.proofs.lemmas.List.{append-nil, take_all, take_more}
 use Rattle.std.proofs.lemmas.List.Elements.{filter-append}
 use Rattle.mp_host_laws.specs.declared.held.Held.{Held}
 use Rattle.mp_host_laws.specs.Hosted.{first_wake_of, wakes_in}
@@ -75,22 +75,34 @@ module _ {Cell : Type 0} where
       let count = are.count in
       sym (ap first_among (take_all bins firsts (omega arith))) ∙ (among_those firsts held bins (omega arith) are.each ∙ all_below bins held below)
 
+  -- where a bin's entry is set to what it is to be, each is that where those of the others are
+  set_told : (firsts : List (Option (ℕ × ℕ))) (held : List (Held Cell)) (bin b : ℕ) → bin < length firsts → (b ≢ bin → get_or firsts b None ≡ first_wake_of (of_bin b held))
+      → get_or (slice_set firsts bin (first_wake_of (of_bin bin held))) b None ≡ first_wake_of (of_bin b held)
+  set_told firsts held bin b inside others =
+      let first = first_wake_of (of_bin bin held) in
+      let other : b ≢ bin → get_or (slice_set firsts bin first) b None ≡ first_wake_of (of_bin b held) = λ ne. get_or-set_other firsts bin b first None ne ∙ others ne in
+      ⊎_elim
+      (λ (e : bin ≡ b). subst (λ (n : ℕ). get_or (slice_set firsts bin (first_wake_of (of_bin bin held))) n None ≡ first_wake_of (of_bin n held)) e (get_or-set_same firsts bin first None inside))
+      (λ (f : (bin < b) ⊎ (b < bin)). other (⊎_elim (λ (m : bin < b). λ e. absurd (omega arith)) (λ (m : b < bin). λ e. absurd (omega arith)) f))
+      (cases_order bin b)
+
   -- where only a bin's first wake changed only its entry has to
   pub first_set : (bins : ℕ) (firsts : List (Option (ℕ × ℕ))) (old new : List (Held Cell)) (bin : ℕ) → bin < bins → AreFirsts bins firsts old
       → ((b : ℕ) → b ≢ bin → first_wake_of (of_bin b new) ≡ first_wake_of (of_bin b old)) → AreFirsts bins (slice_set firsts bin (first_wake_of (of_bin bin new))) new
-  first_set bins firsts old new bin inside are others = record { count = length-set firsts bin first ∙ are.count; each = each }
-    where
-      first : Option (ℕ × ℕ)
-      first = first_wake_of (of_bin bin new)
+  first_set bins firsts old new bin inside are others =
+      let count = are.count in
+      record {
+        count = length-set firsts bin (first_wake_of (of_bin bin new)) ∙ are.count;
+        each = λ b l. set_told firsts new bin b (omega arith) (λ ne. are.each b l ∙ sym (others b ne));
+      }
 
-      each : (b : ℕ) → b < bins → get_or (slice_set firsts bin (first_wake_of (of_bin bin new))) b None ≡ first_wake_of (of_bin b new)
-      each b l =
-          let count = are.count in
-          let other : b ≢ bin → get_or (slice_set firsts bin (first_wake_of (of_bin bin new))) b None ≡ first_wake_of (of_bin b new) = λ ne. get_or-set_other firsts bin b (first_wake_of (of_bin bin new)) None ne ∙ (are.each b l ∙ sym (others b ne)) in
-          ⊎_elim
-          (λ (e : bin ≡ b). subst (λ (n : ℕ). get_or (slice_set firsts bin (first_wake_of (of_bin bin new))) n None ≡ first_wake_of (of_bin n new)) e (get_or-set_same firsts bin (first_wake_of (of_bin bin new)) None (omega arith)))
-          (λ (f : (bin < b) ⊎ (b < bin)). other (⊎_elim (λ (m : bin < b). λ e. absurd (omega arith)) (λ (m : b < bin). λ e. absurd (omega arith)) f))
-          (cases_order bin b)
+  -- with that of one bin more told those of the bins up to it are
+  pub one_told : (firsts : List (Option (ℕ × ℕ))) (held : List (Held Cell)) (bin : ℕ) → bin < length firsts → ((b : ℕ) → b < bin → get_or firsts b None ≡ first_wake_of (of_bin b held))
+      → (b : ℕ) → b < bin + 1 → get_or (slice_set firsts bin (first_wake_of (of_bin bin held))) b None ≡ first_wake_of (of_bin b held)
+  one_told firsts held bin inside each b l = set_told firsts held bin b inside (λ ne. each b (less_then b bin l ne))
+    where
+      less_then : (a n : ℕ) → a < n + 1 → a ≢ n → a < n
+      less_then a n l ne = grind arith
 
   -- the states of the other bins, where one is changed, out, or behind the others
   pub others_changed : (held : List (Held Cell)) (at : ℕ) (s d : Held Cell) → s.bin ≡ (get_or held at d).bin → (b : ℕ) → b ≢ s.bin → of_bin b (slice_set held at s) ≡ of_bin b held
@@ -156,20 +168,3 @@ module _ {Cell : Type 0} where
   others_with held one b ne =
       let other : (one.bin == b) ≡ false = apart one b ne in
       filter-append (λ (s : Held Cell). s.bin == b) held (one ∷ []) ∙ rw other (append-nil (of_bin b held))
-
-  -- states without wakes have no first one
-  none_first : (held : List (Held Cell)) (b : ℕ) → All (λ s. s.state.wakes ≡ []) held → first_wake_of (of_bin b held) ≡ None
-  none_first [] b none = refl
-  none_first (s ∷ ss) b none =
-      let rest = none_first ss b (λ k d l. none (suc k) d (omega arith)) in
-      let here : s.state.wakes ≡ [] = none 0 s (omega arith) in
-      ⊎_elim
-      (λ (e : (s.bin == b) ≡ true). rw (e, here) rest)
-      (λ (e : (s.bin == b) ≡ false). rw e rest)
-      (cases_Bool (s.bin == b))
-
-  pub no_firsts : (bins : ℕ) (held : List (Held Cell)) → All (λ s. s.state.wakes ≡ []) held → AreFirsts bins (replicate bins None) held
-  no_firsts bins held none = record {
-    count = length-replicate bins None;
-    each = λ b l. get_or-replicate bins b None None l ∙ sym (none_first held b none);
-  }

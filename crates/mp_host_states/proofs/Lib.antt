@@ -1,5 +1,6 @@
 pub mod Places
 mod Numbered
+mod Begun
 mod Finding
 mod Stepped
 mod Within

@@ -2,5 +2,6 @@
 pub mod Cells
 pub mod FirstWakes
 pub mod Numbers
+pub mod Openings
 pub mod Spans
 pub mod States

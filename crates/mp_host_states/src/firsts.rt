@@ -1,5 +1,5 @@
 //! The first wakes of bins, each kept as the states of its bin change.
-ghost use Rattle.std.specs.Prelude.{◌≡◌, ◌≢◌, ◌<◌, ℕ, List, length};
+ghost use Rattle.std.specs.Prelude.{◌≡◌, ◌≢◌, ◌<◌, ℕ, IfOk, List, length};
 ghost use Rattle.mp_host_laws.specs.declared.held.Held.{Held as HeldOf};
 ghost use Rattle.mp_host_laws.specs.Hosted.{first_wake_of};
 ghost use Rattle.mp_host_states.specs.FirstWakes.{AreFirsts, of_bin};
@@ -9,6 +9,26 @@ use crate::spans::{Span, Spans};
 use mp_host_laws::Held;
 use mp_model::Time;
 use mp_tournament::{Firsts, earlier_of};
+use std::alloc::{AllocError, Global};
+
+/// The first wakes of states, of so many bins. Takes n log n comparisons of n bins where each has one state. `AllocError`:
+/// no memory.
+pub fn firsts_of<C: Drop>(
+    alloc: Global,
+    bins: u32,
+    held: &[Held<C>],
+    spans: &Spans,
+) -> Result<Firsts, AllocError>
+    requires some { 0 < bins }
+    requires spans { AreSpans spans.now (bins_of held.now) }
+    ensures { IfOk result (λ firsts. AreFirsts bins firsts held.now) }
+{
+    let mut firsts = Firsts::new(alloc, bins as usize)?;
+    for bin in 0..bins {
+        firsts.set(bin as usize, first_wake(held, spans.of(bin), bin));
+    }
+    Ok(firsts)
+}
 
 /// Brings the first wake of a bin in line with the states in hand; those of the others are as they were.
 pub fn renew<C: Drop>(firsts: &mut Firsts, held: &[Held<C>], spans: &Spans, bin: u32)

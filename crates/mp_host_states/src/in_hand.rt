@@ -7,7 +7,7 @@ ghost use Rattle.mp_host_laws.specs.Hosted.{first_wake_of, is_held_before};
 ghost use Rattle.mp_host_states.specs.Spans.{without};
 ghost use Rattle.mp_host_states.specs.States.{StateIsStepped, cell_for, has_own_wake_beside, state_for};
 
-use crate::firsts::renew;
+use crate::firsts::{firsts_of, renew};
 use crate::spans::{Spans, spans_of};
 use crate::states::{has_wake, place_before};
 use crate::stepping::{most_of_state, step_state};
@@ -43,16 +43,16 @@ impl<C: Drop> Model for InHand<C> {
 }
 
 impl<C: Drop> InHand<C> {
-    /// These states without wakes, of bins below `bins`, which is a power of two from 1 to 4096. `AllocError`: no memory.
+    /// These states, of bins below `bins`, which is a power of two from 1 to 4096. Takes n log n comparisons of n bins where
+    /// each has one state. `AllocError`: no memory.
     pub fn new(alloc: Global, bins: u32, held: Vec<Held<C>>) -> Result<InHand<C>, AllocError>
         requires bins { IsBinCount bins }
         requires inside { All (λ s. s.bin < bins) held.items }
-        requires unwoken { All (λ s. s.state.wakes ≡ []) held.items }
         ensures bins { IfOk result (λ s. s.bins ≡ bins) }
         ensures held { IfOk result (λ s. s.held ≡ held.items) }
     {
         let spans = spans_of(alloc, bins, &held)?;
-        let firsts = Firsts::new(alloc, bins as usize)?;
+        let firsts = firsts_of(alloc, bins, &held, &spans)?;
         Ok(InHand {
             bins,
             held,

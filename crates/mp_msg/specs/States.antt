@@ -1,5 +1,5 @@
 -- What a bin has, and what it has just before a time.
-use Rattle.std.specs.Prelude.{◌≡◌, ◌≢◌, ◌↔◌, ◌<◌, ◌≤◌, ℕ, ◌==◌, cond, true, List, [], ◌∷◌, Contains, map}
+use Rattle.std.specs.Prelude.{◌≡◌, ◌≢◌, ◌↔◌, ◌⊎◌, ◌<◌, ◌≤◌, ℕ, ◌==◌, cond, true, List, [], ◌∷◌, Contains, map}
 use Rattle.std.specs.BTreeMap.{insert_entry}
 use Rattle.std.specs.List.Sorted.{IsStrictlySortedBy}
 use Rattle.std.specs.Ordering.{nat_cmp}
@@ -40,13 +40,24 @@ module _ {Cell : Type 0} where
     pub cells : (k : ℕ) (c : Cell) → Contains s.cells (k, c) → (bin_of_key k job.shape.bins ≡ b) × (c ≢ q.fresh j)
     pub wakes : (u k : ℕ) → Has s.wakes u k → bin_of_key k job.shape.bins ≡ b
 
+  -- the job begins with a wake of this key at u
+  abbrev pub IsOpening : QueryFacts Cell → ℕ → ℕ → ℕ → Type 0
+  IsOpening q j k u = Contains (q.waking j) (u, k)
+
   -- a record of this stage, key and time wakes the key at u
   abbrev pub IsPostedAt : QueryFacts Cell → JobFacts → ℕ → ℕ → ℕ → ℕ → Type 0
   IsPostedAt q job j k s u = (g : Tag) × In (Rec j s k g) ((outline_of q job).records j) × (is_posted (outline_of q job) (Rec j s k g) u ≡ true)
 
-  -- What a bin of a stage has just before a time: of its keys the cells that aren't fresh, and the wakes from that time on that records before it posted
+  -- What a bin of a stage has just before a time: of its keys the cells that aren't fresh, and the wakes from that time on that the job began with or that records before it posted
   pub record IsStateBefore (q : QueryFacts Cell) (job : JobFacts) (j b t : ℕ) (s : BinContent Cell) : Type 0 where
     pub order : IsInOrder s
     pub own : IsOfBin q job j b s
     pub cells : (k : ℕ) → bin_of_key k job.shape.bins ≡ b → cell_in (q.fresh j) s.cells k ≡ cell_before q j (stage_records q job.events j) k t
-    pub wakes : (u k : ℕ) → bin_of_key k job.shape.bins ≡ b → (Has s.wakes u k ↔ ((t ≤ u) × (v : ℕ) × (v < t) × IsPostedAt q job j k v u))
+    pub wakes : (u k : ℕ) → bin_of_key k job.shape.bins ≡ b → (Has s.wakes u k ↔ ((t ≤ u) × (IsOpening q j k u ⊎ ((v : ℕ) × (v < t) × IsPostedAt q job j k v u))))
+
+  -- What a bin of a stage begins with: of its keys the cells that aren't fresh, and the wakes that the job begins with
+  pub record IsStateAtFirst (q : QueryFacts Cell) (job : JobFacts) (j b : ℕ) (s : BinContent Cell) : Type 0 where
+    pub order : IsInOrder s
+    pub own : IsOfBin q job j b s
+    pub cells : (k : ℕ) → bin_of_key k job.shape.bins ≡ b → cell_in (q.fresh j) s.cells k ≡ q.opening j k
+    pub wakes : (u k : ℕ) → bin_of_key k job.shape.bins ≡ b → (Has s.wakes u k ↔ IsOpening q j k u)

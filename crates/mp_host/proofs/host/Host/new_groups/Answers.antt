@@ -3,7 +3,6 @@ use Rattle.mp_model.specs.declared.record.Rec.{Rec}
 use Rattle.mp_model.specs.Tables.{table_of}
 use Rattle.mp_outline.specs.JobOutline.{name_of_record, outline_of}
 use Rattle.mp_outline.proofs.Soundness.{outline_is_sound}
-use Rattle.mp_outline.proofs.Whole.{nothing_opens}
 use Rattle.mp_rows_laws.specs.Changes.{new_groups}
 use Rattle.mp_rows_laws.proofs.Pushes.{or_false}
 use Rattle.mp_rows_laws.proofs.Took.{unapplied}
@@ -45,9 +44,10 @@ returns-clause-told g c = λ log host good come.
     let rs = c.args.bundle.now.recs in
     let sound = outline_is_sound q (laws.has_stages job.values) (laws.posts_are_later job.values) (laws.later_stages_post_nothing job.values) job c.self.invariant.legal in
     let order = subst (λ (k : Hosted g.row.Q-Cell.Denot). StandsInOrder q job k) c.self.view_is c.self.invariant.order in
+    let inside = subst (λ (k : Hosted g.row.Q-Cell.Denot). k.stage < job.shape.stages) c.self.view_is c.self.invariant.stage in
     let coming : AreToCome o log h.worker (map (name_of_record j) rs) = subst (λ (n : ℕ). AreToCome o log h.worker (map (name_of_record n) rs)) c.requires come in
     let whole = subst (λ (ys : List Rec). c.loop-at.count ≡ groups_begun h [] ys) c.recs-recs.ensures (all_begun h c.recs-recs.result.now c.loop-at.at c.loop-at.count (omega (arith, c.loop-at-test.false)) c.loop-at.invariant.whole) in
     let new = begun_is_new o h.worker j h rs [] log
     (λ r i. unapplied o h.worker log good j r.time r.key r.tag (coming.owed (name_of_record j r) i) (coming.fresh (name_of_record j r) i))
-    (λ t k n. sym (waits_is_pending q job sound (nothing_opens q job c.self.invariant.legal) log h host good order t k) ∙ sym (or_false (waits_at h t k))) in
+    (λ t k n. sym (waits_is_pending q job sound log h inside host good order t k) ∙ sym (or_false (waits_at h t k))) in
     whole ∙ new ∙ ap (λ (n : ℕ). new_groups o h.worker log (map (name_of_record n) rs)) (sym c.requires)

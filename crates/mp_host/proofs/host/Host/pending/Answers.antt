@@ -1,6 +1,5 @@
 use Rattle.std.proofs.Common.{◌∙◌}
 use Rattle.mp_outline.proofs.Soundness.{outline_is_sound}
-use Rattle.mp_outline.proofs.Whole.{nothing_opens}
 use Rattle.mp_host_laws.proofs.Counted.{waiting_are_counted}
 use Rattle.mp_host.proofs.Woken.{in_order, waiting_counted}
 use Rattle.mp_host.proofs.host.Host.pending.Goals as goal
@@ -25,4 +24,4 @@ returns-clause-told g c = λ log host legal.
     let hosted = c.count_woken.ensures.hosted in
     let sound = outline_is_sound q (laws.has_stages rules) (laws.posts_are_later rules) (laws.later_stages_post_nothing rules) job hosted.legal in
     let here = waiting_counted h t hosted.order.records (in_order q job h hosted.order t) in
-    rw (c.count_woken.ensures.keys, c.count_unwoken.ensures.keys) (here ∙ waiting_are_counted q job sound (nothing_opens q job hosted.legal) log h t hosted.order host legal hosted.stage)
+    rw (c.count_woken.ensures.keys, c.count_unwoken.ensures.keys) (here ∙ waiting_are_counted q job sound log h t hosted.order host legal hosted.stage)

@@ -1,6 +1,5 @@
 use Rattle.std.proofs.Common.{◌≡◌, ◌∙◌, rules}
 use Rattle.mp_outline.proofs.Soundness.{outline_is_sound}
-use Rattle.mp_outline.proofs.Whole.{nothing_opens}
 use Rattle.mp_host_laws.specs.Hosted.{waits_at}
 use Rattle.mp_host_laws.proofs.Waiting.{waits_is_pending}
 use Rattle.mp_host.proofs.host.Host.waits.Goals as goal
@@ -13,7 +12,7 @@ returns-then-has_record-clause-told g c = λ log host legal.
     let q = table_of g.Q.Query.facts job in
     let sound = outline_is_sound q (laws.has_stages job.values) (laws.posts_are_later job.values) (laws.later_stages_post_nothing job.values) job c.has_record.ensures.hosted.legal in
     let here : c.has_record.result ≡ waits_at c.args.self.now c.args.time c.args.key = search rules in
-    here ∙ waits_is_pending q job sound (nothing_opens q job c.has_record.ensures.hosted.legal) log c.args.self.now host legal c.has_record.ensures.hosted.order c.args.time c.args.key
+    here ∙ waits_is_pending q job sound log c.args.self.now c.has_record.ensures.hosted.stage host legal c.has_record.ensures.hosted.order c.args.time c.args.key
 
 pub returns-else-has_record-clause-told : goal.returns-else-has_record-clause-told
 returns-else-has_record-clause-told g c = λ log host legal.
@@ -22,4 +21,4 @@ returns-else-has_record-clause-told g c = λ log host legal.
     let q = table_of g.Q.Query.facts job in
     let sound = outline_is_sound q (laws.has_stages job.values) (laws.posts_are_later job.values) (laws.later_stages_post_nothing job.values) job c.has_record.ensures.hosted.legal in
     let here : c.is_woken.result ≡ waits_at c.args.self.now c.args.time c.args.key = search rules in
-    here ∙ waits_is_pending q job sound (nothing_opens q job c.has_record.ensures.hosted.legal) log c.args.self.now host legal c.has_record.ensures.hosted.order c.args.time c.args.key
+    here ∙ waits_is_pending q job sound log c.args.self.now c.has_record.ensures.hosted.stage host legal c.has_record.ensures.hosted.order c.args.time c.args.key
