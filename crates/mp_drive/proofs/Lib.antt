@@ -19,4 +19,3 @@ pub mod Unmade
 pub mod Written
 pub mod Begun
 pub mod Counted
-pub mod LastStates

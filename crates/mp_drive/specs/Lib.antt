@@ -2,7 +2,6 @@
 pub mod Journals
 pub mod Driven
 pub mod Kept
-pub mod Last
 pub mod Ownership
 pub mod Pacing
 pub mod Refused

@@ -13,9 +13,11 @@ mod places;
 mod plain;
 mod run;
 mod seed;
+mod states;
 mod tallies;
 
 pub use mp_draws::Draws;
 pub use mp_worker::RunPlan;
 pub use plain::Plain;
 pub use run::{Replayed, replay, replay_with_tallies};
+pub use states::{ReplayedStates, replay_with_states};

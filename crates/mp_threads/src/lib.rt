@@ -9,9 +9,11 @@ mod handle;
 mod place;
 mod run;
 mod start;
+mod states;
 mod tallies;
 
 pub use crew::Crew;
 pub use mp_worker::RunPlan;
 pub use run::run_workers;
+pub use states::{EndedStates, run_with_states};
 pub use tallies::{Ended, run_with_tallies};

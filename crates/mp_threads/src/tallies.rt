@@ -143,8 +143,8 @@ fn steps_in<Q: Query, J: Naming>(worker: Worker<Q, J>) -> Vec<Kept>
     worker.into_steps()
 }
 
-// What each worker has done.
-fn tallies_of<Q: Query, J: Naming>(
+/// What each worker has done. `AllocError`: no memory.
+pub(crate) fn tallies_of<Q: Query, J: Naming>(
     alloc: Global,
     job: &Job<Q>,
     workers: &[Worker<Q, J>],

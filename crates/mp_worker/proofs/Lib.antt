@@ -1,5 +1,6 @@
 pub mod Arms
 pub mod Ended
+pub mod LastStates
 pub mod Lifted
 pub mod New
 pub mod Numbered

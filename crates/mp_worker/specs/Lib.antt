@@ -2,6 +2,7 @@
 pub mod Done
 pub mod Exchanging
 pub mod Keeping
+pub mod Last
 pub mod Stepping
 pub mod Stops
 pub mod Turns

@@ -19,6 +19,7 @@ mod worker;
 mod workers;
 
 pub use kinds::{count_of_kinds, kind_at};
+pub use last::last_states;
 pub use plan::RunPlan;
 pub use turn::{Stop, Turn};
 pub use worker::Worker;

@@ -25,6 +25,7 @@ use Rattle.mp_output.specs.Holding.{HoldsUnwritten}
 use Rattle.mp_host_laws.specs.declared.held.Held.{Held}
 use Rattle.mp_host_laws.specs.Hosted.{Hosted}
 use Rattle.mp_host_laws.specs.HostOf.{CameInto, IsHostOf, IsInHandSince, IsStateOf, MovesInOrder, is_taken_in}
+use Rattle.mp_host_laws.proofs.Holding.{wake_same}
 use Rattle.mp_host_laws.proofs.Lists.{filter_within}
 use Rattle.mp_host_laws.proofs.Logs.{has_push, same_test}
 use Rattle.mp_worker_invariant.specs.Parts.{HoldsRowsBut}
@@ -205,8 +206,8 @@ module _ {Cell : Type 0} (q : QueryFacts Cell) (job : JobFacts) where
     state_stays : (s : Held Cell) → IsStateOf q job old j s → IsStateOf q job new j s
     state_stays s state = record {
       wakes = λ u k own. (
-        (λ i. let a = (state.wakes u k own).0 i in (sym (same.groups u k) ∙ a.0, a.1, a.2, came_too j old new same s.since k a.1 u a.3)),
-        (λ a. (state.wakes u k own).1 (same.groups u k ∙ a.0, a.1, a.2, came_too j new old (alike_turn j old new same) s.since k a.1 u a.3)),
+        (λ i. let a = (state.wakes u k own).0 i in (sym (same.groups u k) ∙ a.0, wake_same q job old new j s.since k u (λ v. came_too j old new same s.since k v u) a.1)),
+        (λ a. (state.wakes u k own).1 (same.groups u k ∙ a.0, wake_same q job new old j s.since k u (λ v. came_too j new old (alike_turn j old new same) s.since k v u) a.1)),
       );
       cells = λ k own.
           state.cells k own

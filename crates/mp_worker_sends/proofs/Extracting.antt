@@ -18,7 +18,6 @@ use Rattle.mp_stamps.specs.Seen.{seen_at}
 use Rattle.mp_bins.specs.Notes.{Notes}
 use Rattle.mp_model.specs.Facts.{JobFacts, QueryFacts}
 use Rattle.mp_outline.specs.JobOutline.{outline_of}
-use Rattle.mp_outline.proofs.Whole.{NothingOpens}
 use Rattle.mp_rows_laws.specs.Changes.{packet_sent_at}
 use Rattle.mp_msg.specs.States.{IsStateBefore}
 use Rattle.mp_host.specs.Moves.{GivesUp, NothingLeaves}
@@ -128,12 +127,12 @@ module _ {Cell : Type 0} {q : QueryFacts Cell} {job : JobFacts} {p : Parts Cell}
         }
 
     -- the groups that wait no longer are counted
-    pub changes_of_packet : NothingOpens q job → StandsInOrder q job h → (changes : List Change)
+    pub changes_of_packet : StandsInOrder q job h → (changes : List Change)
         → ((one : Held Cell) (out : Hosted Cell) → IsTakenOut mv.bin mv.time one h out → (ns : List (ℕ × ℕ)) × AreNumbersOf (not_waiting out one.state) ns × (changes ≡ packet_sent_at j mv.time ns))
         → AreChangesOfLeaving q job p.number p.log j mv h changes
-    changes_of_packet opens denotes changes listed one out taken state =
+    changes_of_packet denotes changes listed one out taken state =
         let numbers = listed one out taken in
-        rw numbers.2 (packet_changes q job p.number p.log j h host mv.bin mv.time now sound opens are.legal below one out numbers.0 denotes taken (subst (λ (i : ℕ). IsStateBefore q job i mv.bin mv.time one.state) (sym host.0) state) numbers.1)
+        rw numbers.2 (packet_changes q job p.number p.log j h host mv.bin mv.time now sound are.legal below one out numbers.0 denotes taken (subst (λ (i : ℕ). IsStateBefore q job i mv.bin mv.time one.state) (sym host.0) state) numbers.1)
 
 -- movers in which room is made
 pub with_room : {Cell : Type 0} (q : QueryFacts Cell) (job : JobFacts) (w : ℕ) (log : Log) (j : ℕ) (m roomy : MoversState)

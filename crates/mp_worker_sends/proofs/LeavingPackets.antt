@@ -6,7 +6,6 @@ use Rattle.mp_names.specs.Logs.{Log, LogIsLegal, with_sent}
 use Rattle.mp_names.specs.Outlines.{IsOwedBy, OutlineIsSound}
 use Rattle.mp_model.specs.Facts.{JobFacts, QueryFacts}
 use Rattle.mp_outline.specs.JobOutline.{outline_of}
-use Rattle.mp_outline.proofs.Whole.{NothingOpens}
 use Rattle.mp_rows.specs.Entries.{AreChanges}
 use Rattle.mp_rows_laws.specs.Changes.{AreMore, packet_sent_at, waiting_at}
 use Rattle.mp_rows_laws.proofs.Moved.{groups_leave}
@@ -29,13 +28,13 @@ pub taken_of_bin : {Cell : Type 0} (b t : ℕ) (one : Held Cell) (old new : Host
 taken_of_bin b t one old new taken = eqb-true one.bin b (and_parts (one.bin == b) (began_before t one.since) taken.found).0
 
 -- the groups that wait no longer are counted
-module _ {Cell : Type 0} (q : QueryFacts Cell) (job : JobFacts) (sound : OutlineIsSound (outline_of q job)) (opens : NothingOpens q job) (log : Log) (b t : ℕ) (one : Held Cell) (h new : Hosted Cell) (ns : List (ℕ × ℕ))
+module _ {Cell : Type 0} (q : QueryFacts Cell) (job : JobFacts) (sound : OutlineIsSound (outline_of q job)) (log : Log) (b t : ℕ) (one : Held Cell) (h new : Hosted Cell) (ns : List (ℕ × ℕ))
     (denotes : StandsInOrder q job h) (host : IsHostOf q job log h) (legal : LogIsLegal (outline_of q job) h.worker log) (below : h.stage < job.shape.stages)
     (may : MayLeaveNow q job log h b t) (taken : IsTakenOut b t one h new) (state : IsStateBefore q job h.stage b t one.state) (told : AreNumbersOf (not_waiting new one.state) ns) where
   more : AreMore (outline_of q job) h.worker h.stage (with_sent log (Packet h.stage b t)) log ns
   more = record {
     numbers = λ u.
-        groups_leave (outline_of q job) h.worker log sound legal h.stage b t (not_waiting new one.state) (wakes_once new one.state state.order.wakes) (λ v k. leaving_are_told q job sound opens log b t one h new v k denotes host legal below may taken) u
+        groups_leave (outline_of q job) h.worker log sound legal h.stage b t (not_waiting new one.state) (wakes_once new one.state state.order.wakes) (λ v k. leaving_are_told q job sound log b t one h new v k denotes host legal below may taken) u
         ∙ ap (λ (n : ℕ). waiting_at (outline_of q job) h.worker (with_sent log (Packet h.stage b t)) h.stage u + n) (sym (told.numbers u));
     once = told.once;
     none_is_zero = told.none_is_zero;
@@ -57,13 +56,13 @@ module _ {Cell : Type 0} (q : QueryFacts Cell) (job : JobFacts) (w : ℕ) (log :
       let content : IsPacketOf q job j b t one.state = (owed_here.0, subst (λ (i : ℕ). IsStateBefore q job i b t one.state) at.0 state) in
       subst (λ (c : ℕ). IsPacketOf q job j c t one.state) (sym here) content
 
-  module _ (sound : OutlineIsSound (outline_of q job)) (opens : NothingOpens q job) (legal : LogIsLegal (outline_of q job) w log) (below : j < job.shape.stages) where
+  module _ (sound : OutlineIsSound (outline_of q job)) (legal : LogIsLegal (outline_of q job) w log) (below : j < job.shape.stages) where
     pub packet_changes : (one : Held Cell) (new : Hosted Cell) (ns : List (ℕ × ℕ)) → StandsInOrder q job h → IsTakenOut b t one h new → IsStateBefore q job h.stage b t one.state → AreNumbersOf (not_waiting new one.state) ns
         → AreChanges (outline_of q job) w log (with_sent log (Packet j b t)) (packet_sent_at j t ns)
     packet_changes one new ns denotes taken state told =
         let o = outline_of q job in
         let its_log = subst (λ (v : ℕ). LogIsLegal o v log) (sym at.1) legal in
-        let counted = leaving_counted q job sound opens log b t one h new ns denotes at.2 its_log (subst (λ (i : ℕ). i < job.shape.stages) (sym at.0) below) may taken state told in
+        let counted = leaving_counted q job sound log b t one h new ns denotes at.2 its_log (subst (λ (i : ℕ). i < job.shape.stages) (sym at.0) below) may taken state told in
         subst (λ (v : ℕ). AreChanges o v log (with_sent log (Packet j b t)) (packet_sent_at j t ns)) at.1 (subst (λ (i : ℕ). AreChanges o h.worker log (with_sent log (Packet i b t)) (packet_sent_at i t ns)) at.0 counted)
 
   -- the host without it

@@ -15,7 +15,6 @@ use Rattle.mp_bins.specs.Notes.{IsWithin, Notes, is_noted as has_note, with_note
 use Rattle.mp_model.specs.Facts.{JobFacts, QueryFacts}
 use Rattle.mp_model.specs.declared.value.Value.{Value}
 use Rattle.mp_outline.specs.JobOutline.{outline_of}
-use Rattle.mp_outline.proofs.Whole.{nothing_opens}
 use Rattle.mp_rows.specs.Entries.{AreChanges}
 use Rattle.mp_rows_laws.specs.Changes.{control_taken_at, one_less, one_more, packet_taken_at, some_more}
 use Rattle.mp_msg.specs.Contents.{IsControlOf, IsPacketOf}
@@ -119,8 +118,8 @@ module _ {Cell : Type 0} {q : QueryFacts Cell} {job its : JobFacts} {p : Parts C
         record {
           state = subst (λ i. IsPacketOf q job i b t s) (sym at.0) packet;
           room = subst (λ (x : Hosted Cell). 1 ≤ x.room_for_bins) (sym found) (room.hosts j h inside).1;
-          few = few_numbers q kept.hands_on.nothing job j b t s packet.1 h;
-          counted = λ ns denotes told. packet_changes q job kept.sound (nothing_opens q job kept.legal) p.number p.log j h at b t s ns denotes kept.parts.legal owed fresh packet.1 told;
+          few = few_numbers q kept.hands_on.nothing job kept.legal j b t s packet.1 h;
+          counted = λ ns denotes told. packet_changes q job kept.sound p.number p.log j h at b t s ns denotes kept.parts.legal owed fresh packet.1 told;
           taken = λ after put takes.
               let there = packet_held q job p.number p.log j h at b t s after kept.parts.legal owed fresh put takes in
               kept_as kept ((steps kept.sound kept.parts).receive_packet j b t after owed fresh there);

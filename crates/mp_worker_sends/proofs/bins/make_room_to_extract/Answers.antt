@@ -7,7 +7,6 @@ use Rattle.mp_worker_invariant.specs.Parts.{AreMoversAt}
 use Rattle.mp_worker_invariant.proofs.Items.{again_there, put_at}
 use Rattle.mp_worker_invariant.proofs.Others.{other_movers}
 use Rattle.mp_worker_invariant.proofs.Standing.{host_at, movers_at}
-use Rattle.mp_outline.proofs.Whole.{nothing_opens}
 use Rattle.mp_worker_sends.specs.Leaving.{AreChangesOfLeaving}
 use Rattle.mp_worker_steps.proofs.Applied.{same_host_there}
 use Rattle.mp_worker_sends.proofs.Extracting.{changes_of_packet, with_room}
@@ -51,7 +50,7 @@ returns-clause-changes g c =
     let changes = c.in_ok-changes.changes.items in
     let same : changes ≡ packet_sent_at j c.args.moved.time ns.numbers.items = c.in_ok-changes.ensures ∙ ap (packet_sent_at j c.args.moved.time) c.as_slice.ensures.value in
     let told = changes_of_packet kept.sound kept.parts j c.requires.stage c.args.moved (rw (← c.parts.view_is) at c.requires.due) h (host_at kept.parts j c.requires.stage h c.index-host.ensures)
-    (nothing_opens (table_of g.Q.Query.facts job) job kept.legal) ns.ensures.denotes changes (λ one out taken. (ns.numbers.items, ns.ensures.told one out taken, same)) in
+    ns.ensures.denotes changes (λ one out taken. (ns.numbers.items, ns.ensures.told one out taken, same)) in
     rw c.in_ok-make_room.ensures.made
     (λ x there. subst (λ (y : Hosted g.row.Q-Cell.Denot). AreChangesOfLeaving (table_of g.Q.Query.facts job) job i.log.worker i.log.log j c.args.moved y changes) (sym (same_host_there i.hosts.items j h x below c.index-host.ensures there)) told)
 

@@ -14,7 +14,7 @@ coming-requires-clause-empty g c κs within = (rw (← c.self.view_is) at c.requ
 
 pub coming-requires-clause-room : goal.coming-requires-clause-room
 coming-requires-clause-room g c κs within =
-    let few = few_times (table_of g.Q.Query.facts g.J.Naming.job) c.self.invariant.hands_on.nothing g.J.Naming.job c.args.stage c.args.bin c.args.time c.args.state c.requires.state.1 in
+    let few = few_times (table_of g.Q.Query.facts g.J.Naming.job) c.self.invariant.hands_on.nothing g.J.Naming.job c.self.invariant.legal c.args.stage c.args.bin c.args.time c.args.state c.requires.state.1 in
     omega (arith, few, (rw (← c.self.view_is) at c.requires.room).lists.0)
 
 pub list_coming-requires : goal.list_coming-requires

@@ -5,8 +5,8 @@ use Rattle.mp_model.specs.Tables.{table_of}
 use Rattle.mp_msg.specs.States.{BinContent}
 use Rattle.mp_outline.specs.JobOutline.{outline_of}
 use Rattle.mp_worker_refinement.specs.SystemState.{KnowsTheEnd}
-use Rattle.mp_drive.specs.Last.{AreTheirStates}
-use Rattle.mp_drive.proofs.last.states_of.Given as goal
+use Rattle.mp_worker.specs.Last.{AreTheirStates}
+use Rattle.mp_worker.proofs.last.last_states.Given as goal
 
 abbrev pub invariant-loop-worker : goal.invariant-loop-worker
 invariant-loop-worker g l =

@@ -7,9 +7,9 @@ use Rattle.mp_outline.specs.JobOutline.{outline_of}
 use Rattle.mp_msg.specs.States.{BinContent}
 use Rattle.mp_worker_refinement.specs.State.{WorkerState}
 use Rattle.mp_worker_refinement.specs.SystemState.{KnowsTheEnd}
-use Rattle.mp_drive.specs.Last.{AreTheirStates}
-use Rattle.mp_drive.proofs.LastStates.{none_theirs, one_theirs}
-use Rattle.mp_drive.proofs.last.states_of.Goals as goal
+use Rattle.mp_worker.specs.Last.{AreTheirStates}
+use Rattle.mp_worker.proofs.LastStates.{none_theirs, one_theirs}
+use Rattle.mp_worker.proofs.last.last_states.Goals as goal
 
 pub loop-worker-preserved : goal.loop-worker-preserved
 loop-worker-preserved g c =

@@ -1,4 +1,4 @@
--- What workers on one thread have at the end.
+-- What workers have at the end.
 use Rattle.std.specs.Prelude.{◌≡◌, ℕ, Some, List, length, slice_get}
 use Rattle.mp_model.specs.Facts.{JobFacts, QueryFacts}
 use Rattle.mp_msg.specs.LastStates.{AreStatesOf}

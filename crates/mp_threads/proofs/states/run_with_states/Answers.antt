@@ -1,0 +1,18 @@
+use Rattle.std.proofs.Common.{map, refl}
+use Rattle.mp_model.specs.Tables.{table_of}
+use Rattle.mp_answer_laws.proofs.Runs.{nothing_begun, untold}
+use Rattle.mp_worker.proofs.LastStates.{states_of_job}
+use Rattle.mp_worker.proofs.Paced.{tally_of_job}
+use Rattle.mp_threads.proofs.states.run_with_states.Goals as goal
+
+pub returns-in_default-clause-leaves : goal.returns-in_default-clause-leaves
+returns-in_default-clause-leaves g c = nothing_begun (table_of g.Q.Query.facts g.J.Naming.job) g.J.Naming.job g.S.Sink.written g.S.Sink.faults g.S.Sink.frame _ _ refl
+
+pub returns-in-Err-clause-leaves : goal.returns-in-Err-clause-leaves
+returns-in-Err-clause-leaves g c = untold (table_of g.Q.Query.facts g.J.Naming.job) g.J.Naming.job g.S.Sink.written g.S.Sink.faults g.S.Sink.frame _ _ _ c.in_ok-workers.ensures.leaves
+
+pub returns-in-Ok-states_told_by-clause-tallies : goal.returns-in-Ok-states_told_by-clause-tallies
+returns-in-Ok-states_told_by-clause-tallies g c = λ w t at. tally_of_job g.Q.Query.facts c.args.job.now g.J.Naming.job c.requires.job w t (c.in-Ok-states_told_by.ensures.tallies w t at)
+
+pub returns-in-Ok-states_told_by-clause-states : goal.returns-in-Ok-states_told_by-clause-states
+returns-in-Ok-states_told_by-clause-states g c = states_of_job g.Q.Query.facts c.args.job.now g.J.Naming.job c.requires.job _ c.in-Ok-states_told_by.ensures.states

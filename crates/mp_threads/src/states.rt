@@ -1,0 +1,91 @@
+//! A whole run by threads, with what the bins have at its end.
+ghost use Rattle.std.specs.Prelude.{◌≡◌, ◌<◌, ℕ, IfOk, Some, length, map, slice_get};
+ghost use Rattle.mp_job.specs.Runs.{IsRunOf};
+ghost use Rattle.mp_model.specs.Tables.{table_of};
+ghost use Rattle.mp_msg.specs.LastStates.{AreAllStates};
+ghost use Rattle.mp_outline.specs.JobOutline.{outline_of};
+ghost use Rattle.mp_output.specs.Rows.{GivesRows};
+ghost use Rattle.mp_tally.specs.declared.tally.Tally.{Tally as Told};
+ghost use Rattle.mp_tally.specs.Tallies.{IsTallyOf};
+ghost use Rattle.mp_threads.specs.Crews.{AreFinished};
+ghost use Rattle.mp_answer_laws.specs.Runs.{RunLeaves};
+
+use crate::tallies::tallies_of;
+use crate::{Crew, run_workers};
+use mp_board::Cause;
+use mp_gate::Gate;
+use mp_job::Job;
+use mp_model::{Naming, Query};
+use mp_msg::BinState;
+use mp_outside::Sink;
+use mp_tally::Tally;
+use mp_worker::{RunPlan, Worker, last_states};
+use std::alloc::{AllocError, Global};
+use std::sync::Wait;
+use std::thread::Threads;
+
+/// What a run by threads came to, by the workers' numbers, with what the bins have at its end.
+#[derive(Drop)]
+pub struct EndedStates<C: Drop> {
+    /// What each worker has done.
+    pub tallies: Vec<Tally>,
+    /// The states of the bins that each worker owns at the end, each with its stage.
+    pub states: Vec<Vec<(u32, BinState<C>)>>,
+}
+
+/// Runs a whole job by threads and by a plan, as [`run_workers`] does, and gives what each worker has done and what the
+/// bins have at the job's end, just before its stop time or after all where it has none; of a paced run too. The query's
+/// last stage gives rows alone. No steps are given. The refusals are those of `run_workers`; where there is no memory for
+/// what is given, the whole answer is written.
+pub fn run_with_states<
+    Q: Query + Send,
+    J: Naming + Send + Sync,
+    T: Threads + Wait + Sync,
+    G: Gate + Sync,
+    S: Sink,
+>(
+    rt: &T,
+    alloc: Global,
+    job: &Job<Q>,
+    plan: RunPlan,
+    gate: &G,
+    sink: &mut S,
+) -> Result<EndedStates<Q::Cell>, Cause>
+    requires job { IsRunOf job.now J.job }
+    requires pace { J.job.paced ≡ plan.paced }
+    requires rows { GivesRows (table_of Q.facts J.job) }
+    requires depth { 0 < plan.depth }
+    ensures all { IfOk result (λ run. length run.tallies.items ≡ job.now.shape.workers) }
+    ensures tallies { IfOk result (λ run. (w : ℕ) (t : Told) → slice_get run.tallies.items w ≡ Some t
+        → IsTallyOf (table_of Q.facts job.now) job.now w t) }
+    ensures states { IfOk result (λ run. AreAllStates (table_of Q.facts job.now) job.now (map (λ own. own.items) run.states.items)) }
+    ensures leaves { let q = table_of Q.facts J.job in
+        RunLeaves q J.job S.written S.faults S.frame result sink.old sink.new }
+{
+    let Ok(crew) = Crew::<Q, J, &T>::open_by(rt, alloc, job, plan) else {
+        return Err(Cause::Memory);
+    };
+    let workers = run_workers(rt, alloc, crew, gate, sink)?;
+    match states_told_by(alloc, job, workers) {
+        Ok(ended) => Ok(ended),
+        Err(AllocError) => Err(Cause::Memory),
+    }
+}
+
+// What finished workers tell, and what their bins have at the end.
+fn states_told_by<Q: Query, J: Naming>(
+    alloc: Global,
+    job: &Job<Q>,
+    workers: Vec<Worker<Q, J>>,
+) -> Result<EndedStates<Q::Cell>, AllocError>
+    requires job { IsRunOf job.now J.job }
+    requires finished { AreFinished (outline_of (table_of Q.facts J.job) J.job) workers.items }
+    ensures all { IfOk result (λ run. length run.tallies.items ≡ J.job.shape.workers) }
+    ensures tallies { IfOk result (λ run. (w : ℕ) (t : Told) → slice_get run.tallies.items w ≡ Some t
+        → IsTallyOf (table_of Q.facts J.job) J.job w t) }
+    ensures states { IfOk result (λ run. AreAllStates (table_of Q.facts J.job) J.job (map (λ own. own.items) run.states.items)) }
+{
+    let tallies = tallies_of(alloc, job, workers.as_slice())?;
+    let states = last_states(alloc, workers)?;
+    Ok(EndedStates { tallies, states })
+}
