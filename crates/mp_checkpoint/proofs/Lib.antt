@@ -5,5 +5,6 @@ pub mod Firsts
 pub mod Fronts
 pub mod LineSteps
 pub mod Numbers
+pub mod Opening
 pub mod Pieces
 pub mod Readables

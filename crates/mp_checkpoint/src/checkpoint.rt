@@ -1,6 +1,7 @@
 //! A checkpoint, read from its file.
 ghost use Rattle.std.specs.Prelude.{◌≡◌, ◌<◌, ◌≤◌, ◌^◌, IfOk, IsErrOf, MatchOption, length};
 ghost use Rattle.mp_names.specs.Limits.{most_bytes};
+ghost use Rattle.mp_opening.specs.Openings.{MayOpen};
 ghost use Rattle.mp_saved.specs.Checkpoints.{CheckpointOf};
 ghost use Rattle.mp_checkpoint_laws.specs.Files.{IsFileOf, format_of};
 ghost use Rattle.mp_checkpoint.specs.declared.refused.CheckpointRefused.TheVariants.{BadCheckpoint};
@@ -14,8 +15,8 @@ use crate::reading::read_items;
 use mp_saved::{Checkpoint, Saved};
 use std::alloc::{AllocError, Global};
 
-/// The checkpoint that has this file, of at most 2^28 bytes, with this query and the values of its rules. `BadCheckpoint`
-/// comes only where none has it, `NoMemory` where an allocation fails.
+/// The checkpoint that has this file, of at most 2^28 bytes, with this query and the values of its rules; a job may go on
+/// from it. `BadCheckpoint` comes only where none has it, `NoMemory` where an allocation fails.
 pub fn read_checkpoint<Q: Saved>(
     alloc: Global,
     bytes: &[u8],
@@ -23,6 +24,7 @@ pub fn read_checkpoint<Q: Saved>(
 ) -> Result<Checkpoint<Q>, CheckpointRefused>
     requires { length bytes.now ≤ most_bytes }
     ensures file { IfOk result (λ c. IsFileOf (format_of Q.NUMBER (Q.values query.now) (Q.facts (Q.values query.now)) Q.text_of) c bytes.now) }
+    ensures may { IfOk result (λ c. MayOpen (Q.facts (Q.values query.now)) c) }
     ensures none { IsErrOf result BadCheckpoint → (c : CheckpointOf Q.Cell) → IsFileOf (format_of Q.NUMBER (Q.values query.now) (Q.facts (Q.values query.now)) Q.text_of) c bytes.now → ⊥ }
 {
     let Some(checkpoint) = read_loosely(alloc, query, bytes)? else {

@@ -1,5 +1,5 @@
 -- A checkpoint of the states of all workers holds what is left, in order.
-use Rattle.std.proofs.Common.{◌≡◌, ◌≢◌, ◌↔◌, ℕ, suc, ◌<◌, Option, Some, List, All, AllPairs, Contains, IsPermutation, map, refl, sym, ap, ◌∙◌, subst, ⊎_elim}
+use Rattle.std.proofs.Common.{◌≡◌, ◌≢◌, ◌↔◌, ℕ, suc, ◌<◌, Option, Some, List, [], All, AllPairs, Contains, IsPermutation, map, refl, sym, ap, ◌∙◌, subst, ⊎_elim}
 use Rattle.std.specs.List.{flat_map}
 use Rattle.std.specs.List.Sorted.{IsSortedByKey}
 use Rattle.std.specs.Option.{option_map_or}
@@ -33,7 +33,7 @@ each : {X : Type 0} (P : X → Type 0) (xs : List X) → ((x : X) → Contains x
 each P xs h = All-weaker (Contains xs) P h xs (All-contains_itself xs)
 
 module _ {Cell : Type 0} (q : QueryFacts Cell) (job : JobFacts) (stages : job.shape.stages ≡ q.stages) (nothing : LaterStagesPostNothing q)
-    (fits : (k : ℕ) → bin_of_key k job.shape.bins < job.shape.bins) (states : List (ℕ × BinContent Cell)) (are : AreOfBins q job states) where
+    (quiet : (j : ℕ) → q.waking j ≡ []) (fits : (k : ℕ) → bin_of_key k job.shape.bins < job.shape.bins) (states : List (ℕ × BinContent Cell)) (are : AreOfBins q job states) where
   abbrev t : ℕ
   t = end_time job
 
@@ -132,12 +132,12 @@ module _ {Cell : Type 0} (q : QueryFacts Cell) (job : JobFacts) (stages : job.sh
             let a = wake_from (record { stage = j; key = k; time = u }) i in
             let b = bin_of a.0 a.1 in
             let state = subst (λ (n : ℕ). IsStateBefore q job n b.0 t a.0.1) a.2 b.2 in
-            (left_is q job nothing j k t u (in_shape j l)).0 ((state.wakes u k (state.own.wakes u k a.3)).0 a.3)
+            (left_is q job nothing j k t u (in_shape j l) (quiet j)).0 ((state.wakes u k (state.own.wakes u k a.3)).0 a.3)
 
         from : IsLeft q t j (stage_records q job.events j) k u → Contains wakes (record { stage = j; key = k; time = u })
         from h =
             let s = state_of j (bin_of_key k job.shape.bins) l (fits k) in
-            let there = (s.3.wakes u k refl).1 ((left_is q job nothing j k t u (in_shape j l)).1 h) in
+            let there = (s.3.wakes u k refl).1 ((left_is q job nothing j k t u (in_shape j l) (quiet j)).1 h) in
             subst (λ (n : ℕ). Contains wakes (record { stage = n; key = k; time = u })) s.2 (wake_to s.0 k u s.1 there)
 
     wakes_stand : All (λ w. w.stage < q.stages) wakes
@@ -164,13 +164,13 @@ pub ends_at : (job : JobFacts) (time : ℕ) → job.until ≡ Some time → time
 ends_at job time stops = sym (ap (λ (until : Option ℕ). option_map_or (λ t. t) until (suc last_time)) stops)
 
 -- the cells and wakes of all states, in order, are such a checkpoint
-pub collected : {Cell Own : Type 0} (q : QueryFacts Cell) (job : JobFacts) → job.shape.stages ≡ q.stages → LaterStagesPostNothing q → OutlineIsSound (outline_of q job)
+pub collected : {Cell Own : Type 0} (q : QueryFacts Cell) (job : JobFacts) → job.shape.stages ≡ q.stages → LaterStagesPostNothing q → ((j : ℕ) → q.waking j ≡ []) → OutlineIsSound (outline_of q job)
     → (time : ℕ) → job.until ≡ Some time → (items : Own → List (ℕ × BinContent Cell)) (owns : List Own) → AreAllStates q job (map items owns)
     → (some_cells cells : List (KeyCell Cell)) → IsPermutation (cells_of (flat_map items owns)) some_cells → IsPermutation some_cells cells → IsSortedByKey place_of_cell pair_cmp cells
     → (some_wakes wakes : List SavedWake) → IsPermutation (wakes_of (flat_map items owns)) some_wakes → IsPermutation some_wakes wakes → IsSortedByKey place_of_wake triple_cmp wakes
     → let c : CheckpointOf Cell = record { time = time; cells = cells; wakes = wakes } in
     HoldsWhatIsLeft q job.events c × StandsInOrder q c
-collected {Cell} q job stages nothing sound time stops items owns are some_cells cells cells_are cells_moved cells_up some_wakes wakes wakes_are wakes_moved wakes_up =
+collected {Cell} q job stages nothing quiet sound time stops items owns are some_cells cells cells_are cells_moved cells_up some_wakes wakes wakes_are wakes_moved wakes_up =
     let c : CheckpointOf Cell = record { time = time; cells = cells; wakes = wakes } in
     let states = flat_map items owns in
     let same : flat_map (λ ss. ss) (map items owns) ≡ states = flat_map-map (λ ss. ss) items owns in
@@ -178,6 +178,6 @@ collected {Cell} q job stages nothing sound time stops items owns are some_cells
     let ends = ends_at job time stops in
     let all_cells = IsPermutation-trans (cells_of states) some_cells cells cells_are cells_moved in
     let all_wakes = IsPermutation-trans (wakes_of states) some_wakes wakes wakes_are wakes_moved in (
-      holds q job stages nothing sound.bins_fit states of_bins c ends all_cells cells_up all_wakes wakes_up,
-      in_order q job stages nothing sound.bins_fit states of_bins c ends all_cells cells_up all_wakes wakes_up,
+      holds q job stages nothing quiet sound.bins_fit states of_bins c ends all_cells cells_up all_wakes wakes_up,
+      in_order q job stages nothing quiet sound.bins_fit states of_bins c ends all_cells cells_up all_wakes wakes_up,
     )

@@ -1,5 +1,5 @@
 -- The wakes that a bin has just before a time are those that are left.
-use Rattle.std.proofs.Common.{◌≡◌, ◌↔◌, ◌==◌, ℕ, ◌<◌, ◌≤◌, nat_lt, true, List, Contains, map, refl, sym, ap, ◌∙◌, subst}
+use Rattle.std.proofs.Common.{◌≡◌, ◌↔◌, ◌⊎◌, ◌==◌, ℕ, ◌<◌, ◌≤◌, nat_lt, true, List, [], Contains, map, refl, sym, ap, ◌∙◌, subst, inr, ⊎_elim}
 use Rattle.std.specs.List.{list_any}
 use Rattle.std.proofs.lemmas.Bool.{eq-eqb, lt-ltb}
 use Rattle.mp_names.specs.declared.names.Name.{Name}
@@ -11,13 +11,14 @@ use Rattle.mp_model.specs.declared.record.Rec.{Rec}
 use Rattle.mp_model.specs.Facts.{JobFacts, QueryFacts}
 use Rattle.mp_model.specs.QueryLaws.{LaterStagesPostNothing}
 use Rattle.mp_model.specs.Stages.{stage_records}
+use Rattle.mp_job.proofs.Members.{nothing_in_nil}
 use Rattle.mp_outline.specs.JobOutline.{name_of_record, outline_of, record_names}
 use Rattle.mp_outline.proofs.Named.{In_if, In_named, if_In, named_In}
 use Rattle.mp_outline.proofs.Posts.{posts_are}
 use Rattle.mp_restart_laws.specs.Saves.{IsLeft}
 use Rattle.mp_restart_laws.proofs.Lists.{passes}
 use Rattle.mp_restart_laws.proofs.Timelines.{posts_told}
-use Rattle.mp_msg.specs.States.{IsPostedAt}
+use Rattle.mp_msg.specs.States.{IsOpening, IsPostedAt}
 
 module _ {Cell : Type 0} (q : QueryFacts Cell) (job : JobFacts) (nothing : LaterStagesPostNothing q) (j k : ℕ) where
   abbrev rs : List Rec
@@ -51,8 +52,12 @@ module _ {Cell : Type 0} (q : QueryFacts Cell) (job : JobFacts) (nothing : Later
         subst (λ (x : Name). is_posted (outline_of q job) x u ≡ true) same (told r u i ∙ passes (λ v. v == u) (q.posts j r) u m (eq-eqb u u refl)),
       )
 
-  pub left_is : (t u : ℕ) → j < job.shape.stages → (((t ≤ u) × (v : ℕ) × (v < t) × IsPostedAt q job j k v u) ↔ IsLeft q t j rs k u)
-  left_is t u l = (
-    (λ h. let a = by_record h.1 u h.3 in (h.0, a.0, a.1, a.2, subst (λ (v : ℕ). v < t) (sym a.3) h.2, a.4)),
-    (λ h. (h.0, (h.1).time, h.4, by_name l h.1 u h.2 h.3 h.5)),
+  -- where the job begins with no wakes, those that were posted before a time are those that are left
+  pub left_is : (t u : ℕ) → j < job.shape.stages → q.waking j ≡ [] → (((t ≤ u) × (IsOpening q j k u ⊎ ((v : ℕ) × (v < t) × IsPostedAt q job j k v u))) ↔ IsLeft q t j rs k u)
+  left_is t u l none = (
+    (λ h. ⊎_elim
+        (λ (o : IsOpening q j k u). absurd (nothing_in_nil (u, k) (subst (λ (ws : List (ℕ × ℕ)). Contains ws (u, k)) none o)))
+        (λ (p : (v : ℕ) × (v < t) × IsPostedAt q job j k v u). let a = by_record p.0 u p.2 in (h.0, a.0, a.1, a.2, subst (λ (v : ℕ). v < t) (sym a.3) p.1, a.4))
+        h.1),
+    (λ h. (h.0, inr ((h.1).time, h.4, by_name l h.1 u h.2 h.3 h.5))),
   )

@@ -1,5 +1,5 @@
 //! The audit of a job.
-ghost use Rattle.std.specs.Prelude.{◌≡◌, ◌≢◌, ◌⊎◌, ◌<◌, ◌^◌, Err, IfOk, None, OnOk, length, map};
+ghost use Rattle.std.specs.Prelude.{◌≡◌, ◌≢◌, ◌⊎◌, ◌<◌, ◌^◌, Err, IfOk, OnOk, length, map};
 ghost use Rattle.mp_audit.specs.Going.{HasLegalMerge, HasNone};
 ghost use Rattle.mp_audit.specs.Lists.{list_of};
 ghost use Rattle.mp_audit.specs.declared.searching.AuditStop.TheVariants.{NoRun};
@@ -7,6 +7,7 @@ ghost use Rattle.mp_model.specs.Answers.{one_thread_answer};
 ghost use Rattle.mp_model.specs.Tables.{table_of};
 ghost use Rattle.mp_job.specs.Runs.{IsRunOf};
 ghost use Rattle.mp_outline.specs.JobOutline.{outline_of};
+ghost use Rattle.mp_job_lists.specs.Listed.{IsWhole};
 
 use mp_audit_player::{AuditStop, Kept, audit};
 use mp_charted::Charted;
@@ -25,7 +26,7 @@ pub struct AuditPlan {
     pub paced: bool,
 }
 
-/// How many steps the journal of a job that has no stop time has, by worker, where some order of them is a run of the job J, which
+/// How many steps the journal of a job that has no stop time and goes on from no checkpoint has, by worker, where some order of them is a run of the job J, which
 /// is paced or not as the plan says, and the answer is the job's. `NoRun`: there is no such run, or the answer is another.
 /// `NoMemory`: no memory, or more steps than a u64 counts.
 pub fn audit_job<Q: Query, J: Naming>(
@@ -36,7 +37,7 @@ pub fn audit_job<Q: Query, J: Naming>(
     answer: &[u8],
 ) -> Result<u64, AuditStop>
     requires job { IsRunOf job.now J.job }
-    requires whole { job.now.until ≡ None }
+    requires whole { IsWhole job.now }
     requires pace { J.job.paced ≡ plan.paced }
     requires few { length journal.now < 2 ^ 32 }
     ensures found { let o = outline_of (table_of Q.facts J.job) J.job in let lists = map (λ v. v.items) journal.now in

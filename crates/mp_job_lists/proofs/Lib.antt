@@ -4,3 +4,4 @@ mod Lines
 mod Making
 mod Packets
 mod Stages
+mod Unwoken

@@ -1,5 +1,5 @@
 -- What is made of a job is listed for its run.
-use Rattle.std.proofs.Common.{◌≡◌, ◌∙◌, ℕ, List, Bool, None, map, sym, ap, subst, subst₂, arith}
+use Rattle.std.proofs.Common.{◌≡◌, ◌∙◌, ℕ, List, Bool, map, sym, ap, subst, subst₂, arith}
 use Rattle.std.specs.List.{flat_map}
 use Rattle.mp_names.specs.declared.controls.Control.{Control}
 use Rattle.mp_names.specs.declared.controls.Shape.{Shape}
@@ -20,14 +20,14 @@ use Rattle.mp_job_owners.specs.Told.{TellOwners}
 use Rattle.mp_outline.specs.JobOutline.{layout_of, name_of_row, outline_of}
 use Rattle.mp_job_lists.specs.declared.fold.Folded.{Folded}
 use Rattle.mp_job_lists.specs.Folded.{IsFolded, names_below}
-use Rattle.mp_job_lists.specs.Listed.{IsListed}
+use Rattle.mp_job_lists.specs.Listed.{IsListed, IsWhole}
 use Rattle.mp_job_lists.specs.Packets.{name_of_move}
 use Rattle.mp_job_lists.proofs.Packets.{packets_are}
 
-module _ {Cell : Type 0} (facts : List ℕ → QueryFacts Cell) (whole : WholeJobsHaveTheQuery facts) (its job : JobFacts) (run : IsRunOf its job) (legal : JobIsLegal (table_of facts its) its) (stops : its.until ≡ None) (fresh : BeginsFresh (facts its.values)) where
+module _ {Cell : Type 0} (facts : List ℕ → QueryFacts Cell) (whole : WholeJobsHaveTheQuery facts) (its job : JobFacts) (run : IsRunOf its job) (legal : JobIsLegal (table_of facts its) its) (all : IsWhole its) (fresh : BeginsFresh (facts its.values)) where
   -- the table of the run is the query's own
   own_table : facts its.values ≡ table_of facts job
-  own_table = sym (whole its stops legal.from fresh) ∙ run_table its job run facts
+  own_table = sym (whole its all.until all.from fresh) ∙ run_table its job run facts
 
   run_events : its.events ≡ job.events
   run_events = ap (λ (f : JobFacts). f.events) run
@@ -68,7 +68,7 @@ module _ {Cell : Type 0} (facts : List ℕ → QueryFacts Cell) (whole : WholeJo
       record {
         legal = of_job;
         sound = sound;
-        until = ap (λ (f : JobFacts). f.until) (sym run) ∙ stops;
+        whole = record { until = ap (λ (f : JobFacts). f.until) (sym run) ∙ all.until; from = ap (λ (f : JobFacts). f.from) (sym run) ∙ all.from };
         few_stages = omega (arith, of_job.stages, stages.1);
         shape_is = is ∙ run_shape its job run;
         controls_are = are ∙ run_controls its job run;

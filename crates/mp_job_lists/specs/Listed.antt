@@ -13,11 +13,16 @@ use Rattle.mp_job_owners.specs.Told.{TellOwners}
 use Rattle.mp_outline.specs.JobOutline.{layout_of, outline_of, row_names}
 use Rattle.mp_job_lists.specs.Folded.{names_below}
 
--- the shape, the control records, the names of the records by stage, what each record of the first stage posts, the rows, the packets and the owners of a legal job that has no stop time
+-- the job has no stop time and goes on from no checkpoint
+pub record IsWhole (job : JobFacts) : Type 0 where
+  pub until : job.until ≡ None
+  pub from : job.from ≡ None
+
+-- the shape, the control records, the names of the records by stage, what each record of the first stage posts, the rows, the packets and the owners of a legal job that is whole
 pub record IsListed {Cell : Type 0} (q : QueryFacts Cell) (job : JobFacts) (shape : Shape) (controls : List Control) (paced : Bool) (records : List (List Name)) (posts : List (List ℕ)) (rows packets : List Name) (owners : Notes) : Type 0 where
   pub legal : JobIsLegal q job
   pub sound : OutlineIsSound (outline_of q job)
-  pub until : job.until ≡ None
+  pub whole : IsWhole job
   pub few_stages : job.shape.stages ≤ most_stages
   pub shape_is : shape ≡ job.shape
   pub controls_are : controls ≡ job.controls

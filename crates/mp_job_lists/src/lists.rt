@@ -1,9 +1,10 @@
 //! The fields of a job's outline as lists.
-ghost use Rattle.std.specs.Prelude.{◌≡◌, ◌↔◌, IfOk, IsSome, None};
+ghost use Rattle.std.specs.Prelude.{◌≡◌, ◌↔◌, IfOk, IsSome};
 ghost use Rattle.mp_model.specs.Answers.{one_thread_answer};
 ghost use Rattle.mp_model.specs.Tables.{table_of};
 ghost use Rattle.mp_job.specs.Runs.{IsRunOf};
 ghost use Rattle.mp_outline.specs.JobOutline.{outline_of};
+ghost use Rattle.mp_job_lists.specs.Listed.{IsWhole};
 
 use crate::answer::is_answer;
 use crate::fold::fold;
@@ -51,7 +52,7 @@ impl<'a, Q: Query, J: Naming> Model for JobLists<'a, Q, J> {
 }
 
 impl<'a, Q: Query, J: Naming> JobLists<'a, Q, J> {
-    /// The lists of a job that has no stop time, paced or not, if its answer on one thread is this; `None` where it isn't.
+    /// The lists of a job that has no stop time and goes on from no checkpoint, paced or not, if its answer on one thread is this; `None` where it isn't.
     /// `AllocError`: no memory.
     pub fn of(
         alloc: Global,
@@ -60,7 +61,7 @@ impl<'a, Q: Query, J: Naming> JobLists<'a, Q, J> {
         answer: &[u8],
     ) -> Result<Option<JobLists<'a, Q, J>>, AllocError>
         requires job { IsRunOf job.now J.job }
-        requires whole { job.now.until ≡ None }
+        requires whole { IsWhole job.now }
         requires pace { J.job.paced ≡ paced }
         ensures { IfOk result (λ lists. IsSome lists ↔ (answer.now ≡ one_thread_answer (table_of Q.facts J.job) J.job.events)) }
     {

@@ -6,10 +6,16 @@ use Rattle.mp_names.specs.Limits.{most_bytes}
 use Rattle.mp_saved.specs.Checkpoints.{CheckpointOf}
 use Rattle.mp_checkpoint_laws.specs.Files.{CheckpointFits, IsFileOf, format_of}
 use Rattle.mp_checkpoint_laws.proofs.Prefixes.{fits}
+use Rattle.mp_checkpoint.proofs.Opening.{may_open}
 use Rattle.mp_checkpoint.proofs.checkpoint.read_checkpoint.Goals as goal
 
 pub returns-clause-file : goal.returns-clause-file
 returns-clause-file g c = record { fits = c.fits.ensures.0 c.if-not-fits.false; text = c.in_ok-same.ensures.0 c.if-not-same.false }
+
+pub returns-clause-may : goal.returns-clause-may
+returns-clause-may g c =
+    let vs = g.Q.Query.values c.args.query.now in
+    may_open g.Q.Saved.NUMBER vs (g.Q.Query.facts vs) g.Q.Query.text_of c.in-Some.checkpoint (c.fits.ensures.0 c.if-not-fits.false)
 
 pub returns-in_default-clause-none : goal.returns-in_default-clause-none
 returns-in_default-clause-none g c = λ why d is.
