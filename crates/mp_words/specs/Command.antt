@@ -36,9 +36,13 @@ depth_rules = defaulted (codes "depth") (codes "64") ∷ []
 abbrev pub machine_rules : List Rule
 machine_rules = flag (codes "paced") ∷ (size_rules ++ depth_rules)
 
+-- those of the part of the events that is taken
+abbrev pub span_rules : List Rule
+span_rules = valued (codes "until") ∷ valued (codes "save") ∷ valued (codes "from") ∷ []
+
 -- the options that both commands have which write an answer
 abbrev pub shared_rules : List Rule
-shared_rules = input_rules ++ needed (codes "out") ∷ valued (codes "report") ∷ valued (codes "journal") ∷ machine_rules
+shared_rules = input_rules ++ needed (codes "out") ∷ valued (codes "report") ∷ valued (codes "journal") ∷ (span_rules ++ machine_rules)
 
 -- a command with these options
 abbrev pub shared_shape : List ℕ → Shape

@@ -1,5 +1,5 @@
 -- What values of options ask for.
-use Rattle.std.specs.Prelude.{ℕ, List, [], ◌∷◌, Bool, true, false, Option, Some, None, ◌&&◌, ◌++◌, ◌==◌, codes, if◌then◌else◌, not, option_and_then, option_map}
+use Rattle.std.specs.Prelude.{ℕ, List, [], ◌∷◌, Bool, true, false, Option, Some, None, ◌&&◌, ◌||◌, ◌++◌, ◌==◌, codes, if◌then◌else◌, is_none, not, option_and_then, option_map}
 use Rattle.std.specs.Int.{is_power_of_two}
 use Rattle.std.specs.List.{list_any}
 use Rattle.std.specs.Option.{option_map_or, option_to_list}
@@ -7,7 +7,7 @@ use Rattle.std.specs.Result.{result_ok}
 use Rattle.std.specs.Str.{bytes_eq}
 use Rattle.mp_text.specs.Numbers.{number_of}
 use Rattle.clap.specs.Words.{Row, first_of}
-use Rattle.mp_names.specs.Limits.{deepest_mailbox, greatest_seed, most_bins, most_events, most_workers}
+use Rattle.mp_names.specs.Limits.{deepest_mailbox, greatest_seed, greatest_time, most_bins, most_events, most_workers}
 use Rattle.mp_words.specs.declared.options.AuditOptions.{AuditOptions}
 use Rattle.mp_words.specs.declared.options.CheckOptions.{CheckOptions}
 use Rattle.mp_words.specs.declared.options.DemoOptions.{DemoOptions}
@@ -19,11 +19,20 @@ use Rattle.mp_words.specs.declared.options.QueryOption.TheVariants as option
 use Rattle.mp_words.specs.declared.options.RunOptions.{RunOptions}
 use Rattle.mp_words.specs.declared.options.Schedule.{Schedule}
 use Rattle.mp_words.specs.declared.options.Schedule.TheVariants.{Seeded, Threads}
+use Rattle.mp_words.specs.declared.options.Span.{Span}
+use Rattle.mp_words.specs.declared.options.Span.TheVariants as part
 
 -- the query of a dataflow that runs on files: that of a name, or the pipeline that the file of this name says
 pub data QueryAsked : Type 0 where
   Named : (name : QueryName) → QueryAsked
   Piped : (file : List ℕ) → QueryAsked
+
+-- which part of the events a run takes: all of them, those before a time, where what they leave is saved to a name, or those from the time of
+-- the checkpoint of a name on
+pub data SpanAsked : Type 0 where
+  Whole : SpanAsked
+  Until : (time : ℕ) (save : List ℕ) → SpanAsked
+  From : (name : List ℕ) → SpanAsked
 
 -- what `run` and `replay` ask for
 pub record Options : Type 0 where
@@ -38,6 +47,19 @@ pub record Options : Type 0 where
   pub depth : ℕ
   pub schedule : Schedule
   pub paced : Bool
+  pub span : SpanAsked
+
+-- what a run reads, but for a checkpoint
+pub record InputsAsked : Type 0 where
+  pub query : QueryAsked
+  pub events : List ℕ
+  pub config : List ℕ
+
+-- how great it is
+pub record SizeAsked : Type 0 where
+  pub workers : ℕ
+  pub bins : ℕ
+  pub depth : ℕ
 
 -- what `check` asks for
 pub record CheckAsked : Type 0 where
@@ -70,6 +92,12 @@ abbrev pub query_in : QueryOption → QueryAsked
 query_in (option.Named name) = Named name
 query_in (option.Piped name) = Piped name.now
 
+-- the part of the events that was read
+abbrev pub span_in : Span → SpanAsked
+span_in part.Whole = Whole
+span_in (part.Until time save) = Until time save.now
+span_in (part.From name) = From name.now
+
 -- what the options that were read ask for
 abbrev pub options_in : RunOptions → Options
 options_in o = record {
@@ -84,6 +112,7 @@ options_in o = record {
   depth = o.depth;
   schedule = o.schedule;
   paced = o.paced;
+  span = span_in o.span;
 }
 
 -- what those of `check` ask for
@@ -156,6 +185,13 @@ abbrev pub seed_of : Option (List ℕ) → Option ℕ
 seed_of (Some text) = number_up_to greatest_seed text
 seed_of None = Some 0
 
+-- the part of the events that the texts of `--until`, `--save` and `--from` ask for: the first two go together, and the last goes alone
+abbrev pub span_asked : Option (List ℕ) → Option (List ℕ) → Option (List ℕ) → Option SpanAsked
+span_asked None None None = Some Whole
+span_asked (Some until) (Some save) None = option_map (λ time. Until time save) (positive_up_to greatest_time until)
+span_asked None None (Some name) = Some (From name)
+span_asked _ _ _ = None
+
 -- whether a flag is there: its value is the text `true`, and else `false`
 abbrev pub is_set : List ℕ → List Row → Bool
 is_set name rows = option_map_or (λ text. bytes_eq text (codes "true")) (first_of name rows) false
@@ -165,13 +201,25 @@ abbrev pub pipe_names : QueryAsked → List (List ℕ)
 pipe_names (Named name) = []
 pipe_names (Piped file) = file ∷ []
 
+-- the name of the checkpoint that a run goes on from, where there is one
+abbrev pub checkpoint_names : SpanAsked → List (List ℕ)
+checkpoint_names Whole = []
+checkpoint_names (Until time save) = []
+checkpoint_names (From name) = name ∷ []
+
+-- the name that what a run leaves is saved to, where there is one
+abbrev pub save_names : SpanAsked → List (List ℕ)
+save_names Whole = []
+save_names (Until time save) = save ∷ []
+save_names (From name) = []
+
 -- the names that a run reads
 abbrev pub read_names : Options → List (List ℕ)
-read_names o = o.events ∷ o.config ∷ pipe_names o.query
+read_names o = o.events ∷ o.config ∷ (pipe_names o.query ++ checkpoint_names o.span)
 
 -- the names that it writes
 abbrev pub written_names : Options → List (List ℕ)
-written_names o = o.out ∷ (option_to_list o.report ++ option_to_list o.journal)
+written_names o = o.out ∷ (option_to_list o.report ++ (save_names o.span ++ option_to_list o.journal))
 
 -- a name is one of these
 abbrev pub is_among : List ℕ → List (List ℕ) → Bool
@@ -186,28 +234,74 @@ are_apart (name ∷ more) read = not (is_among name (more ++ read)) && are_apart
 abbrev pub names_are_apart : Options → Bool
 names_are_apart o = are_apart (written_names o) (read_names o)
 
--- what is asked for, where its names are apart
-abbrev pub only_apart : Options → Option Options
-only_apart o = if names_are_apart o then Some o else None
+-- all events are taken
+abbrev pub is_whole : SpanAsked → Bool
+is_whole Whole = true
+is_whole (Until time save) = false
+is_whole (From name) = false
 
--- all of them, where the names are apart
-abbrev pub together : Schedule → Bool → Option QueryAsked → Option (List ℕ) → Option (List ℕ) → Option (List ℕ) → Option (List ℕ) → Option (List ℕ) → Option ℕ → Option ℕ → Option ℕ → Option Options
-together schedule paced (Some query) (Some events) (Some config) (Some out) report journal (Some workers) (Some bins) (Some depth) =
-    only_apart (record { query = query; events = events; config = config; out = out; report = report; journal = journal; workers = workers; bins = bins; depth = depth; schedule = schedule; paced = paced })
-together _ _ _ _ _ _ _ _ _ _ _ = None
+-- the query is that of a name
+abbrev pub is_named : QueryAsked → Bool
+is_named (Named name) = true
+is_named (Piped file) = false
 
--- what the values that clap found for the options of `run` or `replay` ask for, if each is allowed, with this schedule
-abbrev pub options_of : Schedule → List Row → Option Options
-options_of schedule rows = together schedule (is_set (codes "paced") rows)
+-- a run of a part of the events is that of a named query, and keeps no journal
+abbrev pub span_is_allowed : Options → Bool
+span_is_allowed o = is_whole o.span || (is_named o.query && is_none o.journal)
+
+-- what is asked for, where its names are apart and its part of the events is allowed
+abbrev pub only_allowed : Options → Option Options
+only_allowed o = if names_are_apart o && span_is_allowed o then Some o else None
+
+-- what a run reads, where each of it is there
+abbrev pub together_to_read : Option QueryAsked → Option (List ℕ) → Option (List ℕ) → Option InputsAsked
+together_to_read (Some query) (Some events) (Some config) = Some (record { query = query; events = events; config = config })
+together_to_read _ _ _ = None
+
+-- what the values for the options of a run ask for it to read
+abbrev pub inputs_of : List Row → Option InputsAsked
+inputs_of rows = together_to_read
     (query_asked (first_of (codes "query") rows) (first_of (codes "pipe") rows))
     (first_of (codes "events") rows)
     (first_of (codes "config") rows)
-    (first_of (codes "out") rows)
-    (first_of (codes "report") rows)
-    (first_of (codes "journal") rows)
+
+-- a run's size, where each of it is there
+abbrev pub together_in_size : Option ℕ → Option ℕ → Option ℕ → Option SizeAsked
+together_in_size (Some workers) (Some bins) (Some depth) = Some (record { workers = workers; bins = bins; depth = depth })
+together_in_size _ _ _ = None
+
+-- what they ask for as its size
+abbrev pub size_of : List Row → Option SizeAsked
+size_of rows = together_in_size
     (option_and_then (positive_up_to most_workers) (first_of (codes "workers") rows))
     (option_and_then (power_up_to most_bins) (first_of (codes "bins") rows))
     (option_and_then (positive_up_to deepest_mailbox) (first_of (codes "depth") rows))
+
+-- all that a run asks for, if it is allowed: the rest of it may be there or not
+abbrev pub together : Schedule → List Row → Option InputsAsked → Option (List ℕ) → Option SizeAsked → Option SpanAsked → Option Options
+together schedule rows (Some inputs) (Some out) (Some size) (Some span) = only_allowed (record {
+  query = inputs.query;
+  events = inputs.events;
+  config = inputs.config;
+  out = out;
+  report = first_of (codes "report") rows;
+  journal = first_of (codes "journal") rows;
+  workers = size.workers;
+  bins = size.bins;
+  depth = size.depth;
+  schedule = schedule;
+  paced = is_set (codes "paced") rows;
+  span = span;
+})
+together _ _ _ _ _ _ = None
+
+-- what the values that clap found for the options of `run` or `replay` ask for, if each is allowed, with this schedule
+abbrev pub options_of : Schedule → List Row → Option Options
+options_of schedule rows = together schedule rows
+    (inputs_of rows)
+    (first_of (codes "out") rows)
+    (size_of rows)
+    (span_asked (first_of (codes "until") rows) (first_of (codes "save") rows) (first_of (codes "from") rows))
 
 -- what those of `replay` ask for: the schedule is that of its seed
 abbrev pub replay_of : List Row → Option Options

@@ -4,7 +4,7 @@ ghost use Rattle.clap.specs.Words.{app_of, rule_of};
 ghost use Rattle.mp_words.specs.Adding.{AddsRules, Denotes};
 ghost use Rattle.mp_words.specs.Command.{audit_shape, check_shape, command_app, demo_shape, make_shape, replay_shape, shared_shape};
 ghost use Rattle.mp_words.specs.Command.{with_audit, with_others, with_runs};
-ghost use Rattle.mp_words.specs.Command.{defaulted, depth_rules, flag, input_rules, machine_rules, needed, size_rules, valued};
+ghost use Rattle.mp_words.specs.Command.{defaulted, depth_rules, flag, input_rules, machine_rules, needed, size_rules, span_rules, valued};
 
 use clap::{Arg, ArgAction, Command};
 use std::alloc::{AllocError, Global};
@@ -55,7 +55,7 @@ fn shared_command<'a>(alloc: Global, name: &'a str) -> Result<Command<'a>, Alloc
         .arg(needed(alloc, "out"))?
         .arg(valued(alloc, "report"))?
         .arg(valued(alloc, "journal"))?;
-    with_machine(alloc, command)
+    with_machine(alloc, with_span(alloc, command)?)
 }
 
 /// `replay`, which may have a seed beside them.
@@ -112,6 +112,16 @@ fn with_inputs<'a>(alloc: Global, command: Command<'a>) -> Result<Command<'a>, A
         .arg(valued(alloc, "pipe"))?
         .arg(needed(alloc, "events"))?
         .arg(needed(alloc, "config"))
+}
+
+/// The command with the options of the part of the events that is taken.
+fn with_span<'a>(alloc: Global, command: Command<'a>) -> Result<Command<'a>, AllocError>
+    ensures { IfOk result (AddsRules command.entry span_rules) }
+{
+    command
+        .arg(valued(alloc, "until"))?
+        .arg(valued(alloc, "save"))?
+        .arg(valued(alloc, "from"))
 }
 
 /// The command with the options of a job's size: its workers and its bins.

@@ -15,7 +15,7 @@ mod words;
 
 pub use options::{
     AuditOptions, CheckOptions, Command, DemoOptions, MakeOptions, QueryName, QueryOption,
-    RunOptions, Schedule,
+    RunOptions, Schedule, Span,
 };
 pub use refused::WordsRefused;
 pub use words::parse;

@@ -54,6 +54,22 @@ pub enum Schedule {
     Seeded(u64),
 }
 
+/// Which part of the events a run takes.
+#[derive(Clone, Copy, PartialEq, Eq, Debug)]
+pub enum Span<'a> {
+    /// All events.
+    Whole,
+    /// The events before a time, and what they leave is saved.
+    Until {
+        /// The time, from 1 to [`MAX_TIME`](mp_names::limits::MAX_TIME).
+        time: u64,
+        /// The name that it is saved to, which is none of the others.
+        save: &'a str,
+    },
+    /// The events from the time of the checkpoint of this name on.
+    From(&'a str),
+}
+
 /// What `run` and `replay` are to do. Names are as the words say them, the empty name among them.
 #[derive(Clone, Copy, PartialEq, Eq, Debug)]
 pub struct RunOptions<'a> {
@@ -79,6 +95,8 @@ pub struct RunOptions<'a> {
     pub schedule: Schedule,
     /// Whether control records of a time wait until the moves of the time before are passed.
     pub paced: bool,
+    /// Which part of the events is taken: all of them where a journal is asked for, or where the query is a pipeline.
+    pub span: Span<'a>,
 }
 
 /// What `check` is to read.

@@ -1,20 +1,20 @@
 //! The values of the options, checked one by one.
-ghost use Rattle.std.specs.Prelude.{◌≡◌, ◌≤◌, ◌&&◌, IfSome, codes, not, option_map, option_and_then};
-ghost use Rattle.std.specs.Str.{bytes_eq};
+ghost use Rattle.std.specs.Prelude.{◌≡◌, ◌≤◌, ◌++◌, IfSome, codes, option_map, option_and_then};
+ghost use Rattle.std.specs.Option.{option_to_list};
 ghost use Rattle.clap.specs.Words.{first_of, found_of, rows_of};
 ghost use Rattle.mp_words.specs.Limits.{AreWithinLimits, AuditIsWithinLimits, CheckIsWithinLimits, DemoIsWithinLimits};
-ghost use Rattle.mp_words.specs.Limits.{IsBinCount, IsPositiveUpTo, MakeIsWithinLimits, SeedIsWithinLimit};
-ghost use Rattle.mp_names.specs.Limits.{greatest_seed, most_bins, most_events};
+ghost use Rattle.mp_words.specs.Limits.{IsBinCount, IsPositiveUpTo, MakeIsWithinLimits, SeedIsWithinLimit, SpanIsWithinLimit};
+ghost use Rattle.mp_names.specs.Limits.{greatest_seed, greatest_time, most_bins, most_events};
 ghost use Rattle.mp_words.specs.Values.{audit_in, audit_of, check_in, check_of, count_of, demo_of, make_in, make_of, number_up_to, options_in};
-ghost use Rattle.mp_words.specs.Values.{is_among, is_set, names_are_apart, options_of, positive_up_to, power_up_to};
-ghost use Rattle.mp_words.specs.Values.{query_asked, query_in, query_of, read_names, replay_of, seed_of};
+ghost use Rattle.mp_words.specs.Values.{are_apart, checkpoint_names, is_among, is_set, names_are_apart, options_of, pipe_names, positive_up_to, power_up_to};
+ghost use Rattle.mp_words.specs.Values.{query_asked, query_in, query_of, read_names, replay_of, save_names, seed_of, span_asked, span_in, span_is_allowed};
 
 use crate::options::{
     AuditOptions, CheckOptions, DemoOptions, MakeOptions, QueryName, QueryOption, RunOptions,
-    Schedule,
+    Schedule, Span,
 };
 use clap::ArgMatches;
-use mp_names::limits::{MAX_BINS, MAX_DEPTH, MAX_EVENTS, MAX_SEED, MAX_WORKERS};
+use mp_names::limits::{MAX_BINS, MAX_DEPTH, MAX_EVENTS, MAX_SEED, MAX_TIME, MAX_WORKERS};
 use mp_text::number;
 
 /// What the options of `run` or `replay` ask for, with this schedule, or `None` where a value isn't allowed.
@@ -35,8 +35,9 @@ pub fn run_options<'a>(matches: &ArgMatches<'a>, schedule: Schedule) -> Option<R
         depth: positive_in(matches, "depth", MAX_DEPTH)?,
         schedule,
         paced: flag_in(matches, "paced"),
+        span: span_option(matches)?,
     };
-    if names_are_apart(&options) {
+    if names_are_apart(&options) && span_is_allowed(&options) {
         Some(options)
     } else {
         None
@@ -47,32 +48,110 @@ pub fn run_options<'a>(matches: &ArgMatches<'a>, schedule: Schedule) -> Option<R
 fn names_are_apart(options: &RunOptions) -> bool
     ensures { result ≡ names_are_apart (options_in options.now) }
 {
-    let rest = match (options.report, options.journal) {
-        (Some(report), Some(journal)) => {
-            report != journal && is_free(options, report) && is_free(options, journal)
-        }
-        (Some(name), None) | (None, Some(name)) => is_free(options, name),
-        (None, None) => true,
-    };
-    rest && !is_read(options, options.out)
+    !is_report_or_later(options, options.out) && report_is_apart(options)
 }
 
-/// Whether the name is neither that of the answer nor one that is read.
-fn is_free(options: &RunOptions, name: &str) -> bool
-    ensures { result ≡ (not (bytes_eq options.now.out.now name.now) && not (is_among name.now (read_names (options_in options.now)))) }
+/// Whether the names of the report, of what is saved and of the journal are apart from each other and from those that are read.
+fn report_is_apart(options: &RunOptions) -> bool
+    ensures { let o = options_in options.now in
+        result ≡ are_apart (option_to_list o.report ++ (save_names o.span ++ option_to_list o.journal)) (read_names o) }
 {
-    options.out != name && !is_read(options, name)
+    match options.report {
+        Some(report) => !is_save_or_later(options, report) && save_is_apart(options),
+        None => save_is_apart(options),
+    }
+}
+
+/// Whether those of what is saved and of the journal are.
+fn save_is_apart(options: &RunOptions) -> bool
+    ensures { let o = options_in options.now in result ≡ are_apart (save_names o.span ++ option_to_list o.journal) (read_names o) }
+{
+    match options.span {
+        Span::Until { save, .. } => !is_journal_or_read(options, save) && journal_is_apart(options),
+        Span::Whole | Span::From(_) => journal_is_apart(options),
+    }
+}
+
+/// Whether that of the journal is apart from those that are read.
+fn journal_is_apart(options: &RunOptions) -> bool
+    ensures { let o = options_in options.now in result ≡ are_apart (option_to_list o.journal) (read_names o) }
+{
+    match options.journal {
+        Some(journal) => !is_read(options, journal),
+        None => true,
+    }
+}
+
+/// Whether the name is that of the report, of what is saved, of the journal or of a file that is read.
+fn is_report_or_later(options: &RunOptions, name: &str) -> bool
+    ensures { let o = options_in options.now in
+        result ≡ is_among name.now ((option_to_list o.report ++ (save_names o.span ++ option_to_list o.journal)) ++ read_names o) }
+{
+    match options.report {
+        Some(report) => name == report || is_save_or_later(options, name),
+        None => is_save_or_later(options, name),
+    }
+}
+
+/// Whether the name is that of what is saved, of the journal or of a file that is read.
+fn is_save_or_later(options: &RunOptions, name: &str) -> bool
+    ensures { let o = options_in options.now in
+        result ≡ is_among name.now ((save_names o.span ++ option_to_list o.journal) ++ read_names o) }
+{
+    match options.span {
+        Span::Until { save, .. } => name == save || is_journal_or_read(options, name),
+        Span::Whole | Span::From(_) => is_journal_or_read(options, name),
+    }
+}
+
+/// Whether the name is that of the journal or of a file that is read.
+fn is_journal_or_read(options: &RunOptions, name: &str) -> bool
+    ensures { let o = options_in options.now in result ≡ is_among name.now (option_to_list o.journal ++ read_names o) }
+{
+    match options.journal {
+        Some(journal) => name == journal || is_read(options, name),
+        None => is_read(options, name),
+    }
 }
 
 /// Whether a file of this name is read.
 fn is_read(options: &RunOptions, name: &str) -> bool
     ensures { result ≡ is_among name.now (read_names (options_in options.now)) }
 {
-    match options.query {
-        QueryOption::Named(_) => name == options.events || name == options.config,
-        QueryOption::Piped(pipe) => {
-            name == options.events || name == options.config || name == pipe
-        }
+    name == options.events
+        || name == options.config
+        || is_pipe(options.query, name)
+        || is_checkpoint(options.span, name)
+}
+
+/// Whether it is that of a pipeline.
+fn is_pipe(query: QueryOption, name: &str) -> bool
+    ensures { result ≡ is_among name.now (pipe_names (query_in query.entry)) }
+{
+    match query {
+        QueryOption::Named(_) => false,
+        QueryOption::Piped(pipe) => name == pipe,
+    }
+}
+
+/// Whether it is that of a checkpoint.
+fn is_checkpoint(span: Span, name: &str) -> bool
+    ensures { result ≡ is_among name.now (checkpoint_names (span_in span.entry)) }
+{
+    match span {
+        Span::From(checkpoint) => name == checkpoint,
+        Span::Whole | Span::Until { .. } => false,
+    }
+}
+
+/// Whether all events are taken, or a part of them for a named query and without a journal.
+fn span_is_allowed(options: &RunOptions) -> bool
+    ensures { result ≡ span_is_allowed (options_in options.now) }
+{
+    match (options.span, options.query) {
+        (Span::Whole, _) => true,
+        (_, QueryOption::Named(_)) => options.journal.is_none(),
+        (_, QueryOption::Piped(_)) => false,
     }
 }
 
@@ -182,6 +261,16 @@ fn query_option<'a>(matches: &ArgMatches<'a>) -> Option<QueryOption<'a>>
     }
 }
 
+/// The values of `--until` and `--save`, or that of `--from`, or none of them.
+fn span_option<'a>(matches: &ArgMatches<'a>) -> Option<Span<'a>>
+    ensures value { let rows = rows_of (found_of matches.now) in
+        option_map span_in result ≡ span_asked (first_of (codes "until") rows) (first_of (codes "save") rows) (first_of (codes "from") rows) }
+    ensures within { IfSome result SpanIsWithinLimit }
+{
+    let save = text(matches, "save");
+    span_named(text(matches, "until"), save, text(matches, "from"))
+}
+
 /// The value of an option that is a number from 1 to `most`.
 fn positive_in(matches: &ArgMatches, name: &str, most: u32) -> Option<u32>
     ensures value { result ≡ option_and_then (positive_up_to most) (first_of name.now (rows_of (found_of matches.now))) }
@@ -231,6 +320,26 @@ fn query_named(name: &str) -> Option<QueryName>
     }
 }
 
+/// The part of the events that these texts say: a time goes with a name that is saved to, and the name of a checkpoint alone.
+fn span_named<'a>(
+    until: Option<&str>,
+    save: Option<&'a str>,
+    from: Option<&'a str>,
+) -> Option<Span<'a>>
+    ensures value { option_map span_in result ≡ span_asked (option_map (λ s. s.now) until.entry) (option_map (λ s. s.now) save.entry) (option_map (λ s. s.now) from.entry) }
+    ensures within { IfSome result SpanIsWithinLimit }
+{
+    match (until, save, from) {
+        (None, None, None) => Some(Span::Whole),
+        (Some(until), Some(save), None) => Some(Span::Until {
+            time: time_named(until)?,
+            save,
+        }),
+        (None, None, Some(name)) => Some(Span::From(name)),
+        _ => None,
+    }
+}
+
 /// The number from 0 to `most` that a text says.
 #[tactic(auto, using(crate::proofs::Numbers::within))]
 fn number_within(text: &str, most: u64) -> Option<u64>
@@ -247,6 +356,17 @@ fn positive_number(text: &str, most: u32) -> Option<u32>
 {
     match number_within(text, u64::from(most)) {
         Some(number) if number > 0 => Some(number as u32),
+        _ => None,
+    }
+}
+
+/// The time from 1 on that a text says.
+fn time_named(text: &str) -> Option<u64>
+    ensures value { result ≡ positive_up_to greatest_time text.now }
+    ensures within { IfSome result (IsPositiveUpTo greatest_time) }
+{
+    match number_within(text, MAX_TIME) {
+        Some(time) if time > 0 => Some(time),
         _ => None,
     }
 }

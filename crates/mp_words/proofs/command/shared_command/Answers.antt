@@ -10,4 +10,5 @@ returns c =
     let out = added _ _ _ _ _ _ inputs c.in_ok-arg.ensures c.needed.ensures.rule c.needed.ensures.local in
     let report = added _ _ _ _ _ _ out c.in_ok-arg-2.ensures c.valued.ensures.rule c.valued.ensures.local in
     let journal = added _ _ _ _ _ _ report c.in_ok-command.ensures c.valued-2.ensures.rule c.valued-2.ensures.local in
-    IfOk-weaker c.with_machine.result _ _ (λ last adds. whole _ _ _ (joined _ _ _ _ last journal adds)) c.with_machine.ensures
+    let span = joined _ _ _ _ _ journal c.in_ok-with_span.ensures in
+    IfOk-weaker c.with_machine.result _ _ (λ last adds. whole _ _ _ (joined _ _ _ _ last span adds)) c.with_machine.ensures
