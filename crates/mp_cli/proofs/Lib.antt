@@ -1,2 +1,4 @@
 -- The lemmas of this crate.
+mod Ended
 mod Kept
+mod Targets

@@ -30,7 +30,11 @@ pub fn demo<'a, G: Gate + Sync, R: Threads + Wait + Sync + AllocGlobal>(
     let asked = run_in_memory(options);
     let flow = Flow::of_demo(options);
     let settings = demo_settings(alloc, &flow)?;
-    let parts = JobParts { events, settings };
+    let parts = JobParts {
+        events,
+        settings,
+        checkpoint: Vec::new(alloc),
+    };
     let mut memory = NeverFails::new(alloc);
     write_answer(rt, &mut memory, &asked, Inputs { flow, parts }, gate)?;
     match memory.get(ANSWER) {

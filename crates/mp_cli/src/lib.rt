@@ -5,8 +5,10 @@
 
 mod causes;
 mod demo;
+mod resuming;
 mod running;
 mod serve;
+mod stopping;
 mod top;
 mod writing;
 

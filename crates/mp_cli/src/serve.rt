@@ -10,7 +10,7 @@ ghost use Rattle.mp_command.specs.Refused.{outcome_in};
 use crate::demo::demo;
 use crate::writing::write_answer;
 use mp_audit_command::audit;
-use mp_command::{InputFiles, Refusal, check, make, read_inputs};
+use mp_command::{Refusal, check, make, read_run};
 use mp_gate::Gate;
 use mp_outside::Depot;
 use mp_words::{Command, RunOptions, WordsRefused, parse};
@@ -59,7 +59,7 @@ fn carry_out<'a, D: Depot, G: Gate + Sync, R: Threads + Wait + Sync + AllocGloba
     }
 }
 
-/// Carries out a run: reads its events and its configuration, and writes the answer. It says nothing.
+/// Carries out a run: reads its files, and writes the answer and what else is asked for. It says nothing.
 fn answer<'a, D: Depot, G: Gate + Sync, R: Threads + Wait + Sync + AllocGlobal>(
     rt: &R,
     depot: &mut D,
@@ -72,7 +72,7 @@ fn answer<'a, D: Depot, G: Gate + Sync, R: Threads + Wait + Sync + AllocGlobal>(
     ensures left { Leaves IsKeptBy (Run (options_in options.now)) (outcome_in result)
         (D.files depot.old) (D.files depot.new) }
 {
-    let read = read_inputs(rt.alloc(), depot, &InputFiles::of_run(options))?;
+    let read = read_run(rt.alloc(), depot, options)?;
     write_answer(rt, depot, options, read, gate)?;
     Ok(Vec::new(rt.alloc()))
 }

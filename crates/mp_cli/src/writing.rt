@@ -1,9 +1,11 @@
-//! The answer's way into its file, and the report's and the journal's after it.
-ghost use Rattle.std.specs.Prelude.{◌≡◌, ℕ, List, IfErr, IfOk};
+//! What a run writes: the answer, and then the report, what is saved and the journal.
+ghost use Rattle.std.specs.Prelude.{◌≡◌, ◌≤◌, ℕ, List, [], IfErr, IfOk, length};
 ghost use Rattle.mp_control.specs.Settings.{settings_in};
 ghost use Rattle.mp_model.specs.Legal.{EventsAreLegal};
+ghost use Rattle.mp_model.specs.Plain.{EventsArePlain};
 ghost use Rattle.mp_model.specs.Rules.{numbers_with};
 ghost use Rattle.mp_model.specs.Tables.{table_of};
+ghost use Rattle.mp_names.specs.Limits.{most_bytes};
 ghost use Rattle.mp_output.specs.Rows.{GivesRows};
 ghost use Rattle.mp_outside.specs.Fault.{Rose};
 ghost use Rattle.mp_outline.specs.JobOutline.{outline_of};
@@ -12,18 +14,25 @@ ghost use Rattle.mp_words.specs.Limits.{AreWithinLimits};
 ghost use Rattle.mp_words.specs.Values.{options_in};
 ghost use Rattle.mp_words.specs.Words.{Run};
 ghost use Rattle.mp_command.specs.declared.flow.FlowQuery.TheVariants.{Named};
+ghost use Rattle.mp_command.specs.Audits.{LacksCheckpoint};
 ghost use Rattle.mp_command.specs.Calls.{StopsAnswer};
 ghost use Rattle.mp_command.specs.Config.{SettingsFit, SettingsFitFlow, flow_for, flow_of, flow_with, job_with, run_of, shape_with};
 ghost use Rattle.mp_command.specs.InputFiles.{found_in};
-ghost use Rattle.mp_command.specs.Queries.{IsSound};
+ghost use Rattle.mp_command.specs.Queries.{IsSound, query_named};
 ghost use Rattle.mp_command.specs.Refused.{EndsAs, outcome_of};
-ghost use Rattle.mp_command.specs.Writing.{IsTextOf, IsTextOfFlow, IsTextOfJob, targets_of};
+ghost use Rattle.mp_command.specs.Spans.{IsRefutedBy};
+ghost use Rattle.mp_command.specs.Writing.{IsTextInSpan, IsTextOf, IsTextOfFlow, IsTextOfJob, save_target, targets_of};
 ghost use Rattle.mp_cli.specs.Keeping.{IsKeptBy};
 ghost use Rattle.mp_cli.specs.Running.{TellsSteps};
-ghost use Rattle.mp_cli.specs.Wrote.{Wrote};
+ghost use Rattle.mp_cli.specs.Wrote.{EndsRun, Wrote};
 
+use crate::resuming::write_rest;
 use crate::running::{Ran, answer_to};
-use mp_command::{FlowQuery, Inputs, JobParts, Refusal, job_for, journal_to, report_to};
+use crate::stopping::write_stopped;
+use mp_command::{
+    FlowQuery, Inputs, JobParts, Refusal, SavePlan, job_after, job_for, job_until, journal_to,
+    report_to,
+};
 use mp_gate::Gate;
 use mp_job::Job;
 use mp_model::Query;
@@ -32,28 +41,30 @@ use mp_q_auction::{Q4, Q6};
 use mp_q_join::{Q3, Q8};
 use mp_q_simple::{Q1, Q2};
 use mp_q_window::{Q5, Q7};
-use mp_words::{QueryName, RunOptions};
+use mp_saved::Saved;
+use mp_words::{QueryName, RunOptions, Span};
 use std::sync::Wait;
 use std::thread::Threads;
 
 /// Runs the dataflow that a command asks for on what was read, and makes its file hold the answer, and then, where they are asked for,
-/// the files of the report and of the journal hold these: what the run came to, as [`run_asked`] says. `WriteFault`: a file couldn't be begun or
-/// appended to; `NoMemory`: no memory.
+/// the files of the report, of what is saved and of the journal hold these. `WriteFault`: a file couldn't be begun or appended to;
+/// `BadCheckpoint`: what the run goes on from is no checkpoint of its query, and nothing has changed; `NoMemory`: no memory.
 pub fn write_answer<'a, D: Depot, G: Gate + Sync, R: Threads + Wait + Sync + AllocGlobal>(
     rt: &R,
     depot: &mut D,
     options: &RunOptions<'a>,
     read: Inputs,
     gate: &G,
-) -> Result<Ran, Refusal<'a>>
+) -> Result<(), Refusal<'a>>
     requires options { AreWithinLimits options.now }
     requires flow { read.flow ≡ flow_with (flow_of (options_in options.now)) (found_in read).pipe }
     requires sound { IsSound read.flow.query }
     requires events { EventsAreLegal read.parts.events.items }
+    requires plain { EventsArePlain read.parts.events.items }
+    requires few { length read.parts.checkpoint.items ≤ most_bytes }
     requires settings { SettingsFitFlow read.flow (settings_in read.parts.settings) }
-    ensures wrote { let asked = Run (options_in options.now) in
-        Wrote (IsTextOf IsKeptBy asked (found_in read)) (targets_of asked) result (D.files depot.old) (D.files depot.new) }
-    ensures refused { IfErr result (λ r. StopsAnswer (outcome_of r)) }
+    ensures ends { let asked = options_in options.now in
+        EndsRun (IsTextOf IsKeptBy (Run asked) (found_in read)) (LacksCheckpoint asked (found_in read)) asked result (D.files depot.old) (D.files depot.new) }
 
     ensures failed { IfErr result (λ r. EndsAs r 7
         → Rose (D.write_faults depot.old) (D.write_faults depot.new)) }
@@ -61,7 +72,10 @@ pub fn write_answer<'a, D: Depot, G: Gate + Sync, R: Threads + Wait + Sync + All
     let Inputs { flow, parts } = read;
     match flow.query {
         FlowQuery::Named(name) => write_named(rt, depot, name, options, parts, gate),
-        FlowQuery::Piped(pipe) => run_asked(rt, depot, pipe, options, parts, gate),
+        FlowQuery::Piped(pipe) => {
+            run_asked(rt, depot, pipe, options, parts, gate)?;
+            Ok(())
+        }
     }
 }
 
@@ -73,28 +87,83 @@ fn write_named<'a, D: Depot, G: Gate + Sync, R: Threads + Wait + Sync + AllocGlo
     options: &RunOptions<'a>,
     parts: JobParts,
     gate: &G,
-) -> Result<Ran, Refusal<'a>>
+) -> Result<(), Refusal<'a>>
     requires options { AreWithinLimits options.now }
     requires events { EventsAreLegal parts.events.items }
+    requires plain { EventsArePlain parts.events.items }
+    requires few { length parts.checkpoint.items ≤ most_bytes }
     requires settings { SettingsFitFlow (flow_for (flow_of (options_in options.now)) (Named name)) (settings_in parts.settings) }
-    ensures wrote { let asked = options_in options.now in
-        let flow = flow_for (flow_of asked) (Named name) in
-        let IsText = IsTextOfFlow IsKeptBy asked flow parts.events.items (settings_in parts.settings) in
-        Wrote IsText (targets_of (Run asked)) result (D.files depot.old) (D.files depot.new) }
-    ensures refused { IfErr result (λ r. StopsAnswer (outcome_of r)) }
+    ensures ends { let asked = options_in options.now in
+        let some = query_named name in
+        let bytes = parts.checkpoint.items in
+        let IsText = IsTextOfFlow IsKeptBy asked (flow_for (flow_of asked) (Named name)) parts.events.items (settings_in parts.settings) bytes in
+        EndsRun IsText (IsRefutedBy some.number some.text some.facts parts.settings.values asked.span bytes) asked result (D.files depot.old) (D.files depot.new) }
 
     ensures failed { IfErr result (λ r. EndsAs r 7
         → Rose (D.write_faults depot.old) (D.write_faults depot.new)) }
 {
     match name {
-        QueryName::Q1 => run_asked(rt, depot, Q1::given(), options, parts, gate),
-        QueryName::Q2 => run_asked(rt, depot, Q2::given(), options, parts, gate),
-        QueryName::Q3 => run_asked(rt, depot, Q3::given(), options, parts, gate),
-        QueryName::Q4 => run_asked(rt, depot, Q4::given(), options, parts, gate),
-        QueryName::Q5 => run_asked(rt, depot, Q5::given(), options, parts, gate),
-        QueryName::Q6 => run_asked(rt, depot, Q6::given(), options, parts, gate),
-        QueryName::Q7 => run_asked(rt, depot, Q7::given(), options, parts, gate),
-        QueryName::Q8 => run_asked(rt, depot, Q8::given(), options, parts, gate),
+        QueryName::Q1 => write_saved(rt, depot, Q1::given(), options, parts, gate),
+        QueryName::Q2 => write_saved(rt, depot, Q2::given(), options, parts, gate),
+        QueryName::Q3 => write_saved(rt, depot, Q3::given(), options, parts, gate),
+        QueryName::Q4 => write_saved(rt, depot, Q4::given(), options, parts, gate),
+        QueryName::Q5 => write_saved(rt, depot, Q5::given(), options, parts, gate),
+        QueryName::Q6 => write_saved(rt, depot, Q6::given(), options, parts, gate),
+        QueryName::Q7 => write_saved(rt, depot, Q7::given(), options, parts, gate),
+        QueryName::Q8 => write_saved(rt, depot, Q8::given(), options, parts, gate),
+    }
+}
+
+/// The same for a query whose cells can be saved: with all events, with those before a time, where what they leave is saved, or with
+/// those from the time of a checkpoint on.
+fn write_saved<
+    'a,
+    D: Depot,
+    Q: Saved + Send,
+    G: Gate + Sync,
+    R: Threads + Wait + Sync + AllocGlobal,
+>(
+    rt: &R,
+    depot: &mut D,
+    given: Q,
+    options: &RunOptions<'a>,
+    parts: JobParts,
+    gate: &G,
+) -> Result<(), Refusal<'a>>
+    requires options { AreWithinLimits options.now }
+    requires events { EventsAreLegal parts.events.items }
+    requires plain { EventsArePlain parts.events.items }
+    requires few { length parts.checkpoint.items ≤ most_bytes }
+    requires settings { let stages = (Q.facts (Q.values given)).stages in
+        SettingsFit (shape_with options.now.workers options.now.bins stages) (Q.rules given) (settings_in parts.settings) }
+    requires rows { (numbers : List ℕ) → GivesRows (Q.facts numbers) }
+    ensures ends { let asked = options_in options.now in
+        let numbers = numbers_with (Q.rules given) (Q.values given) parts.settings.values in
+        let shape = shape_with asked.workers asked.bins (Q.facts (Q.values given)).stages in
+        let job = job_with shape numbers parts.events.items (settings_in parts.settings) in
+        let bytes = parts.checkpoint.items in
+        let Keeps = IsKeptBy (outline_of (Q.facts numbers) (run_of asked.paced job)) asked.depth asked.schedule in
+        EndsRun (IsTextInSpan Q.NUMBER Q.text_of Q.facts numbers asked.span bytes job Keeps)
+        (IsRefutedBy Q.NUMBER Q.text_of Q.facts numbers asked.span bytes) asked result (D.files depot.old) (D.files depot.new) }
+
+    ensures failed { IfErr result (λ r. EndsAs r 7
+        → Rose (D.write_faults depot.old) (D.write_faults depot.new)) }
+{
+    match options.span {
+        Span::Whole => {
+            run_asked(rt, depot, given, options, parts, gate)?;
+            Ok(())
+        }
+        Span::Until { time, save } => {
+            let (workers, bins) = (options.workers, options.bins);
+            let job = job_until(rt.alloc(), given, workers, bins, parts, time)?;
+            write_stopped(rt, depot, options, &job, SavePlan { time, save }, gate)
+        }
+        Span::From(name) => {
+            let (workers, bins) = (options.workers, options.bins);
+            let job = job_after(rt.alloc(), given, workers, bins, parts, name)?;
+            write_rest(rt, depot, options, &job, name, gate)
+        }
     }
 }
 
@@ -115,6 +184,7 @@ fn run_asked<'a, D: Depot, Q: Query + Send, G: Gate + Sync, R: Threads + Wait + 
     requires settings { let stages = (Q.facts (Q.values given)).stages in
         SettingsFit (shape_with options.now.workers options.now.bins stages) (Q.rules given) (settings_in parts.settings) }
     requires rows { (numbers : List ℕ) → GivesRows (Q.facts numbers) }
+    requires no_save { save_target (options_in options.now).span ≡ [] }
     ensures made { let asked = options_in options.now in
         let numbers = numbers_with (Q.rules given) (Q.values given) parts.settings.values in
         let stages = (Q.facts (Q.values given)).stages in
@@ -156,6 +226,7 @@ fn write_all<'a, D: Depot, Q: Query + Send, G: Gate + Sync, R: Threads + Wait + 
     requires options { AreWithinLimits options.now }
     requires rows { GivesRows (table_of Q.facts job.now) }
     requires size { job.now.shape.workers ≡ options.now.workers }
+    requires no_save { save_target (options_in options.now).span ≡ [] }
     ensures made { let o = outline_of (table_of Q.facts job.now) (run_of options.now.paced job.now) in
         IfOk result (λ run. TellsSteps o options.now.depth options.now.schedule run.steps) }
     ensures tallies { IfOk result (λ run. AreTalliesOf (table_of Q.facts job.now) job.now run.tallies.items) }

@@ -18,7 +18,7 @@ use Rattle.mp_command.specs.declared.flow.Flow.{Flow}
 use Rattle.mp_command.specs.declared.flow.FlowQuery.{FlowQuery}
 use Rattle.mp_command.specs.declared.flow.FlowQuery.TheVariants.{Named, Piped}
 use Rattle.mp_command.specs.Config.{FlowAsked, SettingsFit, SettingsFitFlow, flow_for, flow_with, job_asked, job_with, shape_with}
-use Rattle.mp_command.specs.Queries.{query_named, query_of}
+use Rattle.mp_command.specs.Queries.{SomeQuery, query_named, query_of}
 
 -- a power of two that words can say is at most 4096
 pub few_bins : (bins : ℕ) → IsBinCount bins → bins ≤ 4096
@@ -60,25 +60,42 @@ piped_fits asked flow found pipe settings same is sound fit =
     subst (λ (p : PipeFacts). SettingsFit (shape_with asked.workers asked.bins (length p.lines)) [] settings) (sym (said_again pipe sound))
     (subst (λ (f : Flow). SettingsFitFlow f settings) (flow_is asked flow found (Piped pipe) same is) fit)
 
+module _ (asked : FlowAsked) (events : List Event) (settings : SettingsFacts) (P : SomeQuery → List ℕ → JobFacts → Type 0) where
+  -- what is said of a dataflow: of its query with the values of the configuration, and of its job
+  abbrev pub OfQuery : Flow → Type 0
+  OfQuery flow = P (query_of flow.query) settings.values (job_asked flow events settings)
+
+  -- what is said of a query's dataflow is said of the one that is asked for
+  pub query_of_flow : (flow : Flow) (found : PipeFacts) (query : FlowQuery) → flow ≡ flow_with asked found → flow.query ≡ query → OfQuery (flow_for asked query) → OfQuery (flow_with asked found)
+  query_of_flow flow found query same is h = subst (λ (f : Flow). OfQuery f) (sym (flow_is asked flow found query same is) ∙ same) h
+
+  -- what is said of the query of a name, given the values, is said of the dataflow of this name
+  pub query_of_name : (name given : QueryName) → name ≡ given → (own : List ℕ) → own ≡ given_values (query_named given).rules → are_within (query_named name).rules settings.values ≡ true
+      → P (query_named given) (numbers_with (query_named given).rules own settings.values) (job_with (shape_with asked.workers asked.bins ((query_named given).facts own).stages) (numbers_with (query_named given).rules own settings.values) events settings)
+      → OfQuery (flow_for asked (Named name))
+  query_of_name name given same own is within h =
+      let some = query_named given in
+      let inside : are_within some.rules settings.values ≡ true = subst (λ (q : QueryName). are_within (query_named q).rules settings.values ≡ true) same within in
+      subst (λ (q : QueryName). OfQuery (flow_for asked (Named q))) (sym same)
+      (subst (λ (ns : List ℕ). P some ns (job_with (shape_with asked.workers asked.bins (some.facts (given_values some.rules)).stages) ns events settings)) (numbers_are some.rules settings.values inside)
+      (subst (λ (vs : List ℕ). P some (numbers_with some.rules vs settings.values) (job_with (shape_with asked.workers asked.bins (some.facts vs).stages) (numbers_with some.rules vs settings.values) events settings)) is h))
+
 module _ (asked : FlowAsked) (events : List Event) (settings : SettingsFacts) (P : (Cell : Type 0) → QueryFacts Cell → JobFacts → Type 0) where
   -- what is said of a dataflow: of the table of its query, and of its job
   abbrev pub OfFlow : Flow → Type 0
   OfFlow flow = P (query_of flow.query).Cell ((query_of flow.query).facts settings.values) (job_asked flow events settings)
 
-  -- what is said of a query's dataflow is said of the one that is asked for
-  pub of_flow : (flow : Flow) (found : PipeFacts) (query : FlowQuery) → flow ≡ flow_with asked found → flow.query ≡ query → OfFlow (flow_for asked query) → OfFlow (flow_with asked found)
-  of_flow flow found query same is h = subst (λ (f : Flow). OfFlow f) (sym (flow_is asked flow found query same is) ∙ same) h
+  -- by its table with these values alone
+  abbrev pub OfTable : SomeQuery → List ℕ → JobFacts → Type 0
+  OfTable some values job = P some.Cell (some.facts values) job
 
-  -- what is said of the query of a name, given the values, is said of the dataflow of this name
+  pub of_flow : (flow : Flow) (found : PipeFacts) (query : FlowQuery) → flow ≡ flow_with asked found → flow.query ≡ query → OfFlow (flow_for asked query) → OfFlow (flow_with asked found)
+  of_flow = query_of_flow asked events settings OfTable
+
   pub of_named : (name given : QueryName) → name ≡ given → (own : List ℕ) → own ≡ given_values (query_named given).rules → are_within (query_named name).rules settings.values ≡ true
       → P (query_named given).Cell ((query_named given).facts (numbers_with (query_named given).rules own settings.values)) (job_with (shape_with asked.workers asked.bins ((query_named given).facts own).stages) (numbers_with (query_named given).rules own settings.values) events settings)
       → OfFlow (flow_for asked (Named name))
-  of_named name given same own is within h =
-      let some = query_named given in
-      let inside : are_within some.rules settings.values ≡ true = subst (λ (q : QueryName). are_within (query_named q).rules settings.values ≡ true) same within in
-      subst (λ (q : QueryName). OfFlow (flow_for asked (Named q))) (sym same)
-      (subst (λ (ns : List ℕ). P some.Cell (some.facts ns) (job_with (shape_with asked.workers asked.bins (some.facts (given_values some.rules)).stages) ns events settings)) (numbers_are some.rules settings.values inside)
-      (subst (λ (vs : List ℕ). P some.Cell (some.facts (numbers_with some.rules vs settings.values)) (job_with (shape_with asked.workers asked.bins (some.facts vs).stages) (numbers_with some.rules vs settings.values) events settings)) is h))
+  of_named = query_of_name asked events settings OfTable
 
   -- what is said by the numbers of a pipeline is said by its lines
   pub of_piped : (pipe : PipeFacts) → are_sound pipe.lines ≡ true

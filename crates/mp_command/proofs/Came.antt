@@ -8,17 +8,17 @@ use Rattle.mp_outside.specs.Files.{Files}
 use Rattle.mp_words.specs.declared.options.DemoOptions.{DemoOptions}
 use Rattle.mp_words.specs.Words.{Asked, Demo}
 use Rattle.mp_command.specs.declared.refusal.Refusal.{Refusal}
-use Rattle.mp_command.specs.Audits.{IsRefuted, MayRefute}
+use Rattle.mp_command.specs.Audits.{IsRefuted, refuted_end}
 use Rattle.mp_command.specs.Calls.{MayCome, Refutes, StopsAnswer}
 use Rattle.mp_command.specs.Ends.{CameTo, IsRefusal, LacksOne, Leaves, WritesFile}
 use Rattle.mp_command.specs.Inputs.{Found, Input, inputs_of, nothing_found}
 use Rattle.mp_command.specs.Lines.{demo_line, line_after}
-use Rattle.mp_command.specs.Outcome.{Outcome, Answered, NoMemory, NoRun, Usage, status_of}
+use Rattle.mp_command.specs.Outcome.{Outcome, Answered, NoMemory, Usage, status_of}
 use Rattle.mp_command.specs.Reading.{ReadsAll, RefusesOne}
 use Rattle.mp_command.specs.Refused.{outcome_in, outcome_of}
 use Rattle.mp_command.specs.Writing.{Keeping}
 use Rattle.mp_command.proofs.Coming.{may_answer, may_lack_memory, may_refuse, may_stop, refuses_as_refusal}
-use Rattle.mp_command.proofs.Leaving.{leaves_alone, no_both, no_refusal}
+use Rattle.mp_command.proofs.Leaving.{leaves_alone, no_both, no_refusal, refuted_late}
 
 -- what is said of the files of one list is said of those of the other, where they are the same
 
@@ -73,13 +73,13 @@ module _ {D : Type 0} (files : D → Option Files) (found : D → List ℕ → B
       neither n (inr e) at no_seven no_eight = no_eight (sym at ∙ ap status_of e)
 
   -- all was read, and what was found is refuted
-  pub came_refuted : (read : Found) → ReadsAll (files old) (inputs_of asked) nothing_found read → MayRefute asked → IsRefuted asked read
-      → CameTo files found read_faults write_faults (Some asked) NoRun old new
-  came_refuted read r may refuted = record {
-    may = inr (refl, may, told_refuted (files old) (read, r, refuted));
-    not_found = λ e. absurd (omega (arith, e));
-    read_fault = λ e. absurd (omega (arith, e));
-    write_fault = λ e. absurd (omega (arith, e));
+  pub came_refuted : (read : Found) (o : Outcome) → ReadsAll (files old) (inputs_of asked) nothing_found read → refuted_end asked ≡ Some o → IsRefuted asked read
+      → CameTo files found read_faults write_faults (Some asked) o old new
+  came_refuted read o r ends refuted = record {
+    may = inr (ends, told_refuted (files old) (read, r, refuted));
+    not_found = λ e. absurd (omega (arith, e, refuted_late asked o ends));
+    read_fault = λ e. absurd (omega (arith, e, refuted_late asked o ends));
+    write_fault = λ e. absurd (omega (arith, e, refuted_late asked o ends));
   }
     where
       told_refuted : (told : Option Files) → Refutes told asked → OnSome told (Refutes told asked)

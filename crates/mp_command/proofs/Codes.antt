@@ -1,21 +1,21 @@
 -- What the status of an end tells.
 use Rattle.std.proofs.Common.{ℕ, zero, suc, ◌≡◌, ◌≤◌, ◌<◌, ◌⊎◌, inl, inr, Bool, true, false, Option, Some, None, IsSome, Result, Ok, Err, List, [], ◌∷◌, length, cond, refl, sym, ap, subst, ◌∙◌, arith}
-use Rattle.std.specs.Prelude.{nat_le, IfSome, OnSome}
+use Rattle.std.specs.Prelude.{nat_le, IfSome, IsSomeAnd, OnSome}
 use Rattle.std.proofs.lemmas.List.{take_all}
 use Rattle.mp_names.specs.Limits.{most_bytes}
 use Rattle.mp_outside.specs.Fault.{Rose}
 use Rattle.mp_outside.specs.Files.{Files, SameFiles, file_at}
 use Rattle.mp_outside.specs.Sink.{grown}
 use Rattle.mp_words.specs.Words.{Asked, Run, Check, Make, Demo, Audit}
-use Rattle.mp_command.specs.Audits.{MayRefute}
+use Rattle.mp_command.specs.Audits.{refuted_end}
 use Rattle.mp_command.specs.Calls.{ComesOf, IsRefusalOf, MayCome, MayEnd, MayEndRefuted, MayFail, Refutes, called_for, files_call_for, unless_refused, with_text}
 use Rattle.mp_command.specs.Ends.{ComesWhere, EndsWith, IsCommandAnsweredInPart, IsCommandRefuted, IsRefusal, IsStop, SaysAnswer, SaysLine, WritesFile, status_at_fault}
-use Rattle.mp_command.specs.Inputs.{AnswerFile, ConfigFile, EventFile, Found, Input, JournalFile, PipeFile, inputs_of, nothing_found, read_as}
+use Rattle.mp_command.specs.Inputs.{AnswerFile, CheckpointFile, ConfigFile, EventFile, Found, Input, JournalFile, PipeFile, inputs_of, nothing_found, read_as}
 use Rattle.mp_command.specs.Lines.{line_after}
 use Rattle.mp_command.specs.Outcome.{Outcome, Answered, NoMemory, TooLarge, WriteFault, line_said, status_of}
 use Rattle.mp_command.specs.Writing.{Keeping}
 use Rattle.mp_command.proofs.Coming.{may_lack_memory, refusal_of_text}
-use Rattle.mp_command.proofs.Leaving.{no_both, no_stop, status_is, stopped_alone}
+use Rattle.mp_command.proofs.Leaving.{no_both, no_stop, refuted_late, status_is, stopped_alone}
 
 -- Where no file is at fault
 
@@ -29,14 +29,18 @@ done_is = ((λ e. omega (arith, e)), (λ e. omega (arith, e)), (λ e. omega (ari
 usage_is : IsNoFileStatus 2
 usage_is = ((λ e. omega (arith, e)), (λ e. omega (arith, e)), (λ e. omega (arith, e)), (λ e. omega (arith, e)), (λ e. omega (arith, e)), (λ e. omega (arith, e)), (λ e. omega (arith, e)))
 
-refuted_is : IsNoFileStatus 13
-refuted_is = ((λ e. omega (arith, e)), (λ e. omega (arith, e)), (λ e. omega (arith, e)), (λ e. omega (arith, e)), (λ e. omega (arith, e)), (λ e. omega (arith, e)), (λ e. omega (arith, e)))
+bad_is : IsNoFileStatus 11
+bad_is = ((λ e. omega (arith, e)), (λ e. omega (arith, e)), (λ e. omega (arith, e)), (λ e. omega (arith, e)), (λ e. omega (arith, e)), (λ e. omega (arith, e)), (λ e. omega (arith, e)))
+
+no_run_is : IsNoFileStatus 13
+no_run_is = ((λ e. omega (arith, e)), (λ e. omega (arith, e)), (λ e. omega (arith, e)), (λ e. omega (arith, e)), (λ e. omega (arith, e)), (λ e. omega (arith, e)), (λ e. omega (arith, e)))
 
 module _ (n : ℕ) (no_file : IsNoFileStatus n) where
   text_refused : (input : Input) (o : Outcome) → IsRefusalOf input o → status_of o ≡ n → ⊥
   text_refused EventFile o (line, why, is) at = no_file.0 (sym at ∙ ap status_of is)
   text_refused PipeFile o (line, why, is) at = no_file.5 (sym at ∙ ap status_of is)
   text_refused (ConfigFile flow) o (line, why, is) at = no_file.1 (sym at ∙ ap status_of is)
+  text_refused CheckpointFile o none at = none
   text_refused AnswerFile o none at = none
   text_refused (JournalFile flow) o (line, why, is) at = no_file.6 (sym at ∙ ap status_of is)
 
@@ -86,21 +90,21 @@ module _ (n : ℕ) (no_file : IsNoFileStatus n) where
 -- an outcome with status 0 is the line of what was found
 done_line : (asked : Asked) (told : Option Files) (o : Outcome) → MayCome (Some asked) told o → status_of o ≡ 0 → (found : Found) × (o ≡ Answered (line_after asked found))
 done_line asked told o (inl may) at = line_at_end 0 done_is (line_after asked) told (inputs_of asked) o may at (λ e. omega (arith, e)) (λ e. omega (arith, e))
-done_line asked told o (inr refuted) at = absurd (omega (arith, at, ap status_of refuted.0))
+done_line asked told o (inr refuted) at = absurd (omega (arith, at, refuted_late asked o refuted.0))
 
 -- a command ends otherwise than as usage
 not_usage : (asked : Asked) (told : Option Files) (o : Outcome) → MayCome (Some asked) told o → status_of o ≡ 2 → ⊥
 not_usage asked told o (inl may) at =
     let said = line_at_end 2 usage_is (line_after asked) told (inputs_of asked) o may at (λ e. omega (arith, e)) (λ e. omega (arith, e)) in
     omega (arith, at, ap status_of said.1)
-not_usage asked told o (inr refuted) at = omega (arith, at, ap status_of refuted.0)
+not_usage asked told o (inr refuted) at = omega (arith, at, refuted_late asked o refuted.0)
 
--- an outcome with status 13 is that of an audit, whose files refute the journal
-only_refuted : (asked : Asked) (told : Option Files) (o : Outcome) → MayCome (Some asked) told o → status_of o ≡ 13 → OnSome told (Refutes told asked)
-only_refuted asked told o (inl may) at =
-    let said = line_at_end 13 refuted_is (line_after asked) told (inputs_of asked) o may at (λ e. omega (arith, e)) (λ e. omega (arith, e)) in
-    absurd (omega (arith, at, ap status_of said.1))
-only_refuted asked told o (inr refuted) at = refuted.2
+-- an outcome with such a status is that of a command that refutes what it found
+only_refuted : (n : ℕ) → IsNoFileStatus n → 10 < n → (asked : Asked) (told : Option Files) (o : Outcome) → MayCome (Some asked) told o → status_of o ≡ n → OnSome told (Refutes told asked)
+only_refuted n no_file late asked told o (inl may) at =
+    let said = line_at_end n no_file (line_after asked) told (inputs_of asked) o may at (λ e. omega (arith, e, late)) (λ e. omega (arith, e, late)) in
+    absurd (omega (arith, at, late, ap status_of said.1))
+only_refuted n no_file late asked told o (inr refuted) at = refuted.1
 
 -- a command writes a file or says its answer, and not both
 one_of_both : (command : Option Asked) → WritesFile command → SaysAnswer command → ⊥
@@ -203,7 +207,7 @@ module _ (command : Option Asked) (told : Option Files) (o : Outcome) (code : �
       go : (command : Option Asked) (told : Option Files) → MayCome command told o → MayCome command told WriteFault
       go None told (inl e) = absurd (omega (arith, done, ap status_of e))
       go None told (inr e) = absurd (omega (arith, done, ap status_of e))
-      go (Some asked) told (inr refuted) = absurd (omega (arith, done, ap status_of refuted.0))
+      go (Some asked) told (inr refuted) = absurd (omega (arith, done, refuted_late asked o refuted.0))
       go (Some asked) None (inl may) = inl (inr (inr (inl refl)))
       go (Some asked) (Some files) (inl (inl called)) = inl (inr (inr (inl (refl, sym (ap status_of called) ∙ done))))
       go (Some asked) (Some files) (inl (inr (inl (e, some)))) = absurd (omega (arith, done, ap status_of e))
@@ -240,7 +244,7 @@ module _ (command : Option Asked) (told : Option Files) (o : Outcome) (code : �
   -- well-formed input is answered, but for faults
   pub complete_at : (reads writes : Type 0) → (status_of o ≡ 6 → reads) → (status_of o ≡ 7 → WritesFile command × writes)
       → (asked : Asked) → command ≡ Some asked → IsSome told → status_of (called_for told asked) ≡ 0
-      → (reads → ⊥) → (writes → ⊥) → (SaysAnswer (Some asked) × rose → ⊥) → (code ≡ 0) ⊎ ((code ≡ 8) ⊎ ((code ≡ 13) × MayRefute asked))
+      → (reads → ⊥) → (writes → ⊥) → (SaysAnswer (Some asked) × rose → ⊥) → (code ≡ 0) ⊎ ((code ≡ 8) ⊎ IsSomeAnd (refuted_end asked) (λ outcome. code ≡ status_of outcome))
   complete_at reads writes read write asked is some answered no_reads no_writes no_rose = go tells
     where
       called_at : (command : Option Asked) (told : Option Files) → MayCome command told o → command ≡ Some asked → IsSome told
@@ -256,27 +260,33 @@ module _ (command : Option Asked) (told : Option Files) (o : Outcome) (code : �
           in_turn (inl (inr fails)) = inr (inl fails)
           in_turn (inr refuted) = inr (inr refuted)
 
-      own : code ≡ status_of o → (o ≡ called_for told asked) ⊎ (MayFail (inputs_of asked) (called_for told asked) o ⊎ MayEndRefuted told asked o) → (code ≡ 0) ⊎ ((code ≡ 8) ⊎ ((code ≡ 13) × MayRefute asked))
+      own : code ≡ status_of o → (o ≡ called_for told asked) ⊎ (MayFail (inputs_of asked) (called_for told asked) o ⊎ MayEndRefuted told asked o) → (code ≡ 0) ⊎ ((code ≡ 8) ⊎ IsSomeAnd (refuted_end asked) (λ outcome. code ≡ status_of outcome))
       own e (inl called) = inl (e ∙ ap status_of called ∙ answered)
       own e (inr (inl (inl (fault, some)))) = absurd (no_reads (read (ap status_of fault)))
       own e (inr (inl (inr (inl (fault, done))))) = absurd (no_writes (write (ap status_of fault)).1)
       own e (inr (inl (inr (inr memory)))) = inr (inl (e ∙ ap status_of memory))
-      own e (inr (inr refuted)) = inr (inr (e ∙ ap status_of refuted.0, refuted.1))
+      own e (inr (inr refuted)) = inr (inr (rw refuted.0 e))
 
-      go : TellsCode o code rose → (code ≡ 0) ⊎ ((code ≡ 8) ⊎ ((code ≡ 13) × MayRefute asked))
+      go : TellsCode o code rose → (code ≡ 0) ⊎ ((code ≡ 8) ⊎ IsSomeAnd (refuted_end asked) (λ outcome. code ≡ status_of outcome))
       go (inl e) = own e (called_at command told may is some)
       go (inr (inl (done, e, speaking, r))) = absurd (no_rose (subst (λ (c : Option Asked). SaysAnswer c) is (speaks done speaking), r))
       go (inr (inr (e, speaking))) = inr (inl e)
 
-  -- a journal is refuted only by what the files say
-  pub refuted_at : code ≡ 13 → IsCommandRefuted command told
-  refuted_at at = go command told may (status_at 13 at (λ h. omega (arith, h)) (λ h. omega (arith, h)))
+  -- what was found is refuted only by what the files say
+  refuted_at : (n : ℕ) → IsNoFileStatus n → 10 < n → code ≡ n → IsCommandRefuted command told
+  refuted_at n no_file late at = go command told may (status_at n at (λ h. omega (arith, h, late)) (λ h. omega (arith, h, late)))
     where
-      go : (command : Option Asked) (told : Option Files) → MayCome command told o → status_of o ≡ 13 → IsCommandRefuted command told
+      go : (command : Option Asked) (told : Option Files) → MayCome command told o → status_of o ≡ n → IsCommandRefuted command told
       go command None may is = tt
-      go None (Some files) (inl e) is = absurd (omega (arith, is, ap status_of e))
-      go None (Some files) (inr e) is = absurd (omega (arith, is, ap status_of e))
-      go (Some asked) (Some files) may is = only_refuted asked (Some files) o may is
+      go None (Some files) (inl e) is = absurd (omega (arith, is, late, ap status_of e))
+      go None (Some files) (inr e) is = absurd (omega (arith, is, late, ap status_of e))
+      go (Some asked) (Some files) may is = only_refuted n no_file late asked (Some files) o may is
+
+  pub no_run_at : code ≡ 13 → IsCommandRefuted command told
+  no_run_at = refuted_at 13 no_run_is (omega arith)
+
+  pub bad_checkpoint_at : code ≡ 11 → IsCommandRefuted command told
+  bad_checkpoint_at = refuted_at 11 bad_is (omega arith)
 
   -- a refusal's status is the outcome's
   refusal_at : IsRefusal code → IsRefusal (status_of o)
@@ -326,7 +336,7 @@ module _ (command : Option Asked) (told : Option Files) (o : Outcome) (code : �
       go None None may = tt
       go None (Some files) may = tt
       go (Some asked) None may = tt
-      go (Some asked) (Some files) (inr refuted) = absurd (omega (arith, zero_is, ap status_of refuted.0))
+      go (Some asked) (Some files) (inr refuted) = absurd (omega (arith, zero_is, refuted_late asked o refuted.0))
       go (Some asked) (Some files) (inl (inl called)) = whole done ∙ ap (λ (x : Outcome). grown before (line_said x)) called
       go (Some asked) (Some files) (inl (inr (inl (e, some)))) = absurd (omega (arith, zero_is, ap status_of e))
       go (Some asked) (Some files) (inl (inr (inr (inl (e, answered))))) = absurd (omega (arith, zero_is, ap status_of e))

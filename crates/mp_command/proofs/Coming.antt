@@ -20,7 +20,7 @@ use Rattle.mp_command.specs.Calls.{ComesOf, IsOfCommand, IsRefusalOf, MayCome, M
 use Rattle.mp_command.specs.declared.flow.Flow.{Flow}
 use Rattle.mp_command.specs.Config.{flow_with, shape_of}
 use Rattle.mp_command.specs.Ends.{IsRefusal}
-use Rattle.mp_command.specs.Inputs.{AnswerFile, ConfigFile, EventFile, Found, Input, JournalFile, PipeFile, nothing_found, read_as, with_events, with_journal, with_pipe, with_settings}
+use Rattle.mp_command.specs.Inputs.{AnswerFile, CheckpointFile, ConfigFile, EventFile, Found, Input, JournalFile, PipeFile, nothing_found, read_as, with_events, with_journal, with_pipe, with_settings}
 use Rattle.mp_command.specs.Outcome.{Outcome, Answered, ConfigRefused, EventsRefused, JournalRefused, NoMemory, PipeRefused, ReadFault, status_of}
 use Rattle.mp_command.specs.Queries.{rules_of}
 use Rattle.mp_command.specs.Reading.{CannotRead, IsRead, ReadsAll, ReadsAs, RefusesAs, RefusesOne, absent, failed, large, no_memory}
@@ -61,6 +61,7 @@ refusal_of_text (ConfigFile asked) found text o e =
     either (Ok settings) h = cc
     either (Err bad) h =
         let is : ConfigRefused bad.0 bad.1 ≡ o = cc in (bad.0, bad.1, sym is)
+refusal_of_text CheckpointFile found text o e = cc
 refusal_of_text AnswerFile found text o e = cc
 refusal_of_text (JournalFile asked) found text o e = either (journal_of text (shape_of (flow_with asked found.pipe))) e
   where
@@ -72,10 +73,11 @@ refusal_of_text (JournalFile asked) found text o e = either (journal_of text (sh
 -- such a refusal has the status of one
 status_of_text : (input : Input) (o : Outcome) → IsRefusalOf input o → IsRefusal (status_of o)
 status_of_text EventFile o (line, why, is) = inr (inl (ap status_of is))
-status_of_text PipeFile o (line, why, is) = inr (inr (inr (inr (inr (inr (inl (ap status_of is)))))))
+status_of_text PipeFile o (line, why, is) = inr (inr (inr (inr (inr (inr (inr (inl (ap status_of is))))))))
 status_of_text (ConfigFile asked) o (line, why, is) = inr (inr (inl (ap status_of is)))
+status_of_text CheckpointFile o none = absurd none
 status_of_text AnswerFile o none = absurd none
-status_of_text (JournalFile asked) o (line, why, is) = inr (inr (inr (inr (inr (inr (inr (inr (ap status_of is))))))))
+status_of_text (JournalFile asked) o (line, why, is) = inr (inr (inr (inr (inr (inr (inr (inr (inr (ap status_of is)))))))))
 
 -- files that can't be read, or are refused, end the call with a refusal, or for want of memory
 pub refuses_as_refusal : (told : Option Files) (inputs : List (Input × List ℕ)) (before : Found) (o : Outcome) → RefusesOne told inputs before o → IsRefusal (status_of o) ⊎ (o ≡ NoMemory)

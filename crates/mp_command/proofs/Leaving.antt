@@ -1,6 +1,7 @@
 -- What a command has written, and what the files then hold.
-use Rattle.std.proofs.Common.{ℕ, zero, suc, Bool, true, false, ◌||◌, ◌≡◌, ◌⊎◌, inl, inr, Option, Some, None, List, [], ◌∷◌, ◌++◌, take, map, refl, sym, ap, ◌∙◌, arith}
+use Rattle.std.proofs.Common.{ℕ, zero, suc, Bool, true, false, ◌||◌, ◌≡◌, ◌<◌, ◌⊎◌, inl, inr, Option, Some, None, List, [], ◌∷◌, ◌++◌, take, map, refl, sym, ap, ap₂, ◌∙◌, arith}
 use Rattle.std.specs.Prelude.{All, OnSome, is_some, not, slice_index_or, ◌≢◌}
+use Rattle.std.proofs.lemmas.List.{map-append}
 use Rattle.std.proofs.lemmas.List.Elements.{All-cons, All-head, All-nil, All-tail}
 use Rattle.std.proofs.lemmas.List.Kept.{AllPairs-cons}
 use Rattle.std.specs.Option.{option_to_list}
@@ -10,15 +11,16 @@ use Rattle.std.proofs.lemmas.Slice.Eq.{bytes_eq-Decides}
 use Rattle.mp_outside.specs.Files.{Files, file_at, with_file}
 use Rattle.mp_outside.proofs.FileLemmas.{file_at-with_file, file_at-with_file-other, told-with_file}
 use Rattle.mp_words.specs.Limits.{AreWithinLimits, IsWithinLimits}
-use Rattle.mp_words.specs.Values.{Options, are_apart, is_among, options_in, read_names}
+use Rattle.mp_words.specs.Values.{From, Options, SpanAsked, Until, Whole, are_apart, is_among, options_in, read_names, save_names, written_names}
 use Rattle.mp_words.specs.Words.{Asked, Run, Check, Make, Demo, Audit, asked_in}
 use Rattle.mp_words.specs.declared.options.Command.{Command}
 use Rattle.mp_words.specs.declared.options.Command.TheVariants as read
 use Rattle.mp_words.specs.declared.options.RunOptions.{RunOptions}
+use Rattle.mp_command.specs.Audits.{bad_checkpoint_of, refuted_end}
 use Rattle.mp_command.specs.Calls.{StopsAnswer}
 use Rattle.mp_command.specs.Ends.{AreInPart, EndsWith, IsCommandAnsweredInPart, IsDone, IsDoneInPart, IsLeft, IsRefusal, IsSame, IsStop, IsWhole, Leaves, MakesNoRun}
-use Rattle.mp_command.specs.Outcome.{Outcome, Answered, ConfigRefused, EventsRefused, JournalRefused, NoFile, NoMemory, NoRun, PipeRefused, ReadFault, TooLarge, Usage, WriteFault, status_of}
-use Rattle.mp_command.specs.Writing.{AreApart, IsTextOf, Journal, Keeping, NoneKept, Purpose, Report, Target, WritesAll, WritesPart, WritesSome, WritesWhole, answer_at, target_in, targets_of}
+use Rattle.mp_command.specs.Outcome.{Outcome, Answered, BadCheckpoint, ConfigRefused, EventsRefused, JournalRefused, NoFile, NoMemory, NoRun, PipeRefused, ReadFault, TooLarge, Usage, WriteFault, status_of}
+use Rattle.mp_command.specs.Writing.{AreApart, IsTextOf, Journal, Keeping, NoneKept, Purpose, Report, Target, WritesAll, WritesPart, WritesSome, WritesWhole, answer_at, save_target, target_in, targets_of}
 
 -- a target is behind the first of a list, so it has another name; and so is the rest apart
 later : (one : Target) (more : List Target) → AreApart (one ∷ more) → All (λ other. other.name ≢ one.name) more
@@ -113,17 +115,29 @@ names_apart (target ∷ more) read apart =
     let both = and_parts (not (is_among target.name (names ++ read))) (are_apart names read) apart in
     AllPairs-cons Differs target more (none_named target.name more read both.0) (names_apart more read both.1)
 
+-- the names of targets
+
+named_in : (purpose : Purpose) (name : Option (List ℕ)) → map (λ (target : Target). target.name) (target_in purpose name) ≡ option_to_list name
+named_in purpose None = refl
+named_in purpose (Some name) = refl
+
+named_save : (span : SpanAsked) → map (λ (target : Target). target.name) (save_target span) ≡ save_names span
+named_save Whole = refl
+named_save (Until time save) = refl
+named_save (From name) = refl
+
+-- those that a run writes are the names that its words say
+written_are : (asked : Options) → map (λ (target : Target). target.name) (targets_of (Run asked)) ≡ written_names asked
+written_are asked =
+    let name : Target → List ℕ = λ target. target.name in
+    let saves = map-append name (save_target asked.span) (target_in Journal asked.journal) ∙ ap₂ (λ (a b : List (List ℕ)). a ++ b) (named_save asked.span) (named_in Journal asked.journal) in
+    let both = map-append name (target_in Report asked.report) (save_target asked.span ++ target_in Journal asked.journal) ∙ ap₂ (λ (a b : List (List ℕ)). a ++ b) (named_in Report asked.report) saves in
+    ap (λ (names : List (List ℕ)). asked.out ∷ names) both
+
 run_is_apart : (options : RunOptions) → AreWithinLimits options → AreApart (targets_of (Run (options_in options)))
 run_is_apart options within =
-    let asked : Options = options_in options in go asked.report asked.journal within.names
-  where
-    go : (report journal : Option (List ℕ)) → are_apart (options.out.now ∷ (option_to_list report ++ option_to_list journal)) (read_names (options_in options)) ≡ true
-        → AreApart (answer_at options.out.now ∷ (target_in Report report ++ target_in Journal journal))
-    go None None apart = names_apart (answer_at options.out.now ∷ []) (read_names (options_in options)) apart
-    go (Some report) None apart = names_apart (answer_at options.out.now ∷ target_in Report (Some report)) (read_names (options_in options)) apart
-    go None (Some journal) apart = names_apart (answer_at options.out.now ∷ target_in Journal (Some journal)) (read_names (options_in options)) apart
-    go (Some report) (Some journal) apart =
-        names_apart (answer_at options.out.now ∷ (target_in Report (Some report) ++ target_in Journal (Some journal))) (read_names (options_in options)) apart
+    let asked : Options = options_in options in
+    names_apart (targets_of (Run asked)) (read_names asked) (ap (λ (names : List (List ℕ)). are_apart names (read_names asked)) (written_are asked) ∙ within.names)
 
 pub command_is_apart : (command : Command) → IsWithinLimits command → AreApart (targets_of (asked_in command))
 command_is_apart (read.Run options) within = run_is_apart options within
@@ -143,9 +157,10 @@ status_is ReadFault = inr (inr (inr (inr (inr (inr (inl refl))))))
 status_is WriteFault = inr (inl (inl refl))
 status_is NoMemory = inr (inl (inr refl))
 status_is (TooLarge name) = inr (inr (inr (inr (inr (inr (inr (inl refl)))))))
-status_is (PipeRefused line why) = inr (inr (inr (inr (inr (inr (inr (inr (inl refl))))))))
-status_is NoRun = inr (inr (inr (inr (inr (inr (inr (inr (inr (inl refl)))))))))
-status_is (JournalRefused line why) = inr (inr (inr (inr (inr (inr (inr (inr (inr (inr refl)))))))))
+status_is (BadCheckpoint name) = inr (inr (inr (inr (inr (inr (inr (inr (inl refl))))))))
+status_is (PipeRefused line why) = inr (inr (inr (inr (inr (inr (inr (inr (inr (inl refl)))))))))
+status_is NoRun = inr (inr (inr (inr (inr (inr (inr (inr (inr (inr (inl refl))))))))))
+status_is (JournalRefused line why) = inr (inr (inr (inr (inr (inr (inr (inr (inr (inr (inr refl))))))))))
 
 -- a stop is no end and no refusal
 pub no_stop : (code : ℕ) → IsStop code → code ≡ 0 → ⊥
@@ -161,7 +176,8 @@ no_refusal code (inr (inr (inr (inr (inl e))))) done = omega (arith, e, done)
 no_refusal code (inr (inr (inr (inr (inr (inl e)))))) done = omega (arith, e, done)
 no_refusal code (inr (inr (inr (inr (inr (inr (inl e))))))) done = omega (arith, e, done)
 no_refusal code (inr (inr (inr (inr (inr (inr (inr (inl e)))))))) done = omega (arith, e, done)
-no_refusal code (inr (inr (inr (inr (inr (inr (inr (inr e)))))))) done = omega (arith, e, done)
+no_refusal code (inr (inr (inr (inr (inr (inr (inr (inr (inl e))))))))) done = omega (arith, e, done)
+no_refusal code (inr (inr (inr (inr (inr (inr (inr (inr (inr e))))))))) done = omega (arith, e, done)
 
 other : (code n : ℕ) → IsStop code → code ≡ n → (n ≡ 7 → ⊥) → (n ≡ 8 → ⊥) → ⊥
 other code n (inl e) is no_seven no_eight = no_seven (sym is ∙ e)
@@ -174,9 +190,25 @@ no_both code stop (inr (inr (inl e))) = other code 4 stop e (λ h. omega (arith,
 no_both code stop (inr (inr (inr (inl e)))) = other code 5 stop e (λ h. omega (arith, h)) (λ h. omega (arith, h))
 no_both code stop (inr (inr (inr (inr (inl e))))) = other code 6 stop e (λ h. omega (arith, h)) (λ h. omega (arith, h))
 no_both code stop (inr (inr (inr (inr (inr (inl e)))))) = other code 9 stop e (λ h. omega (arith, h)) (λ h. omega (arith, h))
-no_both code stop (inr (inr (inr (inr (inr (inr (inl e))))))) = other code 12 stop e (λ h. omega (arith, h)) (λ h. omega (arith, h))
-no_both code stop (inr (inr (inr (inr (inr (inr (inr (inl e)))))))) = other code 13 stop e (λ h. omega (arith, h)) (λ h. omega (arith, h))
-no_both code stop (inr (inr (inr (inr (inr (inr (inr (inr e)))))))) = other code 14 stop e (λ h. omega (arith, h)) (λ h. omega (arith, h))
+no_both code stop (inr (inr (inr (inr (inr (inr (inl e))))))) = other code 11 stop e (λ h. omega (arith, h)) (λ h. omega (arith, h))
+no_both code stop (inr (inr (inr (inr (inr (inr (inr (inl e)))))))) = other code 12 stop e (λ h. omega (arith, h)) (λ h. omega (arith, h))
+no_both code stop (inr (inr (inr (inr (inr (inr (inr (inr (inl e))))))))) = other code 13 stop e (λ h. omega (arith, h)) (λ h. omega (arith, h))
+no_both code stop (inr (inr (inr (inr (inr (inr (inr (inr (inr e))))))))) = other code 14 stop e (λ h. omega (arith, h)) (λ h. omega (arith, h))
+
+-- a command that refutes what it found ends as 11 or 13
+pub refuted_late : (asked : Asked) (o : Outcome) → refuted_end asked ≡ Some o → 10 < status_of o
+refuted_late (Run asked) o e = of_span asked.span e
+  where
+    of_span : (span : SpanAsked) → bad_checkpoint_of span ≡ Some o → 10 < status_of o
+    of_span Whole e = cc
+    of_span (Until time save) e = cc
+    of_span (From name) e =
+        let is : BadCheckpoint name ≡ o = cc in omega (arith, ap status_of is)
+refuted_late (Check asked) o e = cc
+refuted_late (Make asked) o e = cc
+refuted_late (Demo asked) o e = cc
+refuted_late (Audit asked) o e =
+    let is : NoRun ≡ o = cc in omega (arith, ap status_of is)
 
 -- What a command leaves
 

@@ -5,6 +5,7 @@ pub mod Codes
 pub mod Coming
 pub mod GivingRows
 mod Joined
+mod Left
 pub mod Leaving
 pub mod Parted
 mod Parts

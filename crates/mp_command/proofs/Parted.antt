@@ -37,3 +37,15 @@ module _ (IsText : Purpose → List ℕ → Type 0) where
     part_as None old new is w = w
     part_as (Some name) old new is (inl same) = inl same
     part_as (Some name) old new is (inr (text, has, part)) = inr (text, is refl text has, part)
+
+module _ (IsText IsOther : Purpose → List ℕ → Type 0) (turns : (purpose : Purpose) (text : List ℕ) → IsText purpose text → IsOther purpose text) where
+  -- what is written with texts of one kind is written with those of the other
+  pub all_as : (targets : List Target) (old new : Option Files) → WritesAll IsText targets old new → WritesAll IsOther targets old new
+  all_as [] old new same = same
+  all_as (target ∷ more) old new (text, is, later) = (text, turns target.purpose text is, all_as more _ new later)
+
+  pub some_as : (targets : List Target) (old new : Option Files) → WritesSome IsText targets old new → WritesSome IsOther targets old new
+  some_as [] old new same = same
+  some_as (target ∷ more) old new (inl same) = inl same
+  some_as (target ∷ more) old new (inr (text, is, inl part)) = inr (text, turns target.purpose text is, inl part)
+  some_as (target ∷ more) old new (inr (text, is, inr later)) = inr (text, turns target.purpose text is, inr (some_as more _ new later))

@@ -7,10 +7,10 @@ use Rattle.mp_names.specs.Limits.{most_bytes}
 use Rattle.mp_pipe_file.specs.declared.refused.PipeReason.{PipeReason}
 use Rattle.mp_outside.specs.Files.{Files, file_at}
 use Rattle.mp_words.specs.Words.{Asked}
-use Rattle.mp_command.specs.Audits.{IsRefuted, MayRefute}
-use Rattle.mp_command.specs.Inputs.{Found, Input, AnswerFile, ConfigFile, EventFile, JournalFile, PipeFile, inputs_of, nothing_found, read_as}
+use Rattle.mp_command.specs.Audits.{IsRefuted, refuted_end}
+use Rattle.mp_command.specs.Inputs.{Found, Input, AnswerFile, CheckpointFile, ConfigFile, EventFile, JournalFile, PipeFile, inputs_of, nothing_found, read_as}
 use Rattle.mp_command.specs.Lines.{line_after}
-use Rattle.mp_command.specs.Outcome.{Outcome, Answered, ConfigRefused, EventsRefused, JournalRefused, NoFile, NoMemory, NoRun, PipeRefused, ReadFault, TooLarge, Usage, WriteFault, status_of}
+use Rattle.mp_command.specs.Outcome.{Outcome, Answered, ConfigRefused, EventsRefused, JournalRefused, NoFile, NoMemory, PipeRefused, ReadFault, TooLarge, Usage, WriteFault, status_of}
 use Rattle.mp_command.specs.Reading.{ReadsAll}
 
 -- what comes of a named file: it isn't there, it is larger than is allowed, or it has a text
@@ -30,7 +30,7 @@ files_call_for told [] line found = Answered (line found)
 files_call_for told (input ∷ more) line found =
     with_text input.1 (file_at told input.1) (λ text. unless_refused (files_call_for told more line) (read_as input.0 found text))
 
--- what a command calls for, by what the files hold; of `audit`, where the journal is legal
+-- what a command calls for, by what the files hold, where none of it is refuted
 abbrev pub called_for : Option Files → Asked → Outcome
 called_for told asked = files_call_for told (inputs_of asked) (line_after asked) nothing_found
 
@@ -54,6 +54,7 @@ abbrev pub IsRefusalOf : Input → Outcome → Type 0
 IsRefusalOf EventFile outcome = (line : ℕ) × (why : EventsReason) × (outcome ≡ EventsRefused line why)
 IsRefusalOf PipeFile outcome = (line : ℕ) × (why : PipeReason) × (outcome ≡ PipeRefused line why)
 IsRefusalOf (ConfigFile flow) outcome = (line : ℕ) × (why : ControlReason) × (outcome ≡ ConfigRefused line why)
+IsRefusalOf CheckpointFile outcome = ⊥
 IsRefusalOf AnswerFile outcome = ⊥
 IsRefusalOf (JournalFile flow) outcome = (line : ℕ) × (why : JournalReason) × (outcome ≡ JournalRefused line why)
 
@@ -78,13 +79,13 @@ MayEnd told inputs line outcome =
     MatchOption told (IsOfCommand inputs line outcome)
     (λ _. (outcome ≡ files_call_for told inputs line nothing_found) ⊎ MayFail inputs (files_call_for told inputs line nothing_found) outcome)
 
--- the files of a command that audits were read, and what they say is refuted
+-- the files of a command were read, and what they say is refuted
 abbrev pub Refutes : Option Files → Asked → Type 0
 Refutes told asked = (found : Found) × ReadsAll told (inputs_of asked) nothing_found found × IsRefuted asked found
 
--- `audit` may end as `no legal run`, where the depot tells its files only by what they say
+-- a command may end as it does where it refutes what it found; where the depot tells its files, only by what they say
 abbrev pub MayEndRefuted : Option Files → Asked → Outcome → Type 0
-MayEndRefuted told asked outcome = (outcome ≡ NoRun) × MayRefute asked × OnSome told (Refutes told asked)
+MayEndRefuted told asked outcome = (refuted_end asked ≡ Some outcome) × OnSome told (Refutes told asked)
 
 -- The outcomes that may come. Words that are no command end as usage
 abbrev pub MayCome : Option Asked → Option Files → Outcome → Type 0

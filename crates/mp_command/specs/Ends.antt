@@ -49,7 +49,7 @@ module _ (AreKept : Keeping) where
 -- the statuses at which the files are as they were
 abbrev pub IsRefusal : ℕ → Type 0
 IsRefusal code =
-    (code ≡ 2) ⊎ ((code ≡ 3) ⊎ ((code ≡ 4) ⊎ ((code ≡ 5) ⊎ ((code ≡ 6) ⊎ ((code ≡ 9) ⊎ ((code ≡ 12) ⊎ ((code ≡ 13) ⊎ (code ≡ 14))))))))
+    (code ≡ 2) ⊎ ((code ≡ 3) ⊎ ((code ≡ 4) ⊎ ((code ≡ 5) ⊎ ((code ≡ 6) ⊎ ((code ≡ 9) ⊎ ((code ≡ 11) ⊎ ((code ≡ 12) ⊎ ((code ≡ 13) ⊎ (code ≡ 14)))))))))
 
 -- the statuses at which a part may be written
 abbrev pub IsStop : ℕ → Type 0
@@ -95,7 +95,7 @@ module _ {D : Type 0} (found : D → List ℕ → Bool → D → Type 0) where
   LacksInput None new = ⊥
   LacksInput (Some asked) new = LacksOne (inputs_of asked) new
 
--- where the depot tells its files, the words are an audit, and what these say is refuted
+-- where the depot tells its files, the words are a command, and it refutes what these say
 abbrev pub IsCommandRefuted : Option Asked → Option Files → Type 0
 IsCommandRefuted command told = OnSome told (IsSomeAnd command (Refutes told))
 

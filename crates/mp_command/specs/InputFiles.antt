@@ -25,4 +25,4 @@ pipe_in (Piped pipe) = pipe
 
 -- what they say
 abbrev pub found_in : InputsRead → Found
-found_in read = record nothing_found { events = read.parts.events.items; pipe = pipe_in read.flow.query; settings = settings_in read.parts.settings }
+found_in read = record nothing_found { events = read.parts.events.items; pipe = pipe_in read.flow.query; settings = settings_in read.parts.settings; checkpoint = read.parts.checkpoint.items }

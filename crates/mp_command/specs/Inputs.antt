@@ -12,25 +12,27 @@ use Rattle.mp_pipe_file.specs.declared.refused.PipeReason.{PipeReason}
 use Rattle.mp_pipe_file.specs.Pipes.{pipe_of}
 use Rattle.mp_pipeline.specs.declared.kinds.EventKind.TheVariants.{Bid}
 use Rattle.mp_pipeline.specs.Pipes.{PipeFacts}
-use Rattle.mp_words.specs.Values.{Named, Piped, QueryAsked}
+use Rattle.mp_words.specs.Values.{From, Named, Piped, QueryAsked, SpanAsked, Until, Whole}
 use Rattle.mp_words.specs.Words.{Asked, Run, Check, Make, Demo, Audit}
 use Rattle.mp_command.specs.Config.{FlowAsked, flow_of, flow_to_audit, flow_to_check, flow_with, shape_of}
 use Rattle.mp_command.specs.Outcome.{Outcome, ConfigRefused, EventsRefused, JournalRefused, PipeRefused}
 use Rattle.mp_command.specs.Queries.{rules_of}
 
--- what a file is read as: events, a pipeline, the configuration of a dataflow, an answer, or the journal of a dataflow's job
+-- what a file is read as: events, a pipeline, the configuration of a dataflow, a checkpoint, an answer, or the journal of a dataflow's job
 pub data Input : Type 0 where
   EventFile : Input
   PipeFile : Input
   ConfigFile : (flow : FlowAsked) → Input
+  CheckpointFile : Input
   AnswerFile : Input
   JournalFile : (flow : FlowAsked) → Input
 
--- what the files that were read so far say
+-- what the files that were read so far say; of a checkpoint and of an answer, their bytes
 pub record Found : Type 0 where
   pub events : List Event
   pub pipe : PipeFacts
   pub settings : SettingsFacts
+  pub checkpoint : List ℕ
   pub answer : List ℕ
   pub journal : List (List Kept)
 
@@ -40,7 +42,7 @@ no_pipe = record { kind = Bid; lines = [] }
 
 -- nothing was read
 abbrev pub nothing_found : Found
-nothing_found = record { events = []; pipe = no_pipe; settings = record { firsts = []; values = []; controls = [] }; answer = []; journal = [] }
+nothing_found = record { events = []; pipe = no_pipe; settings = record { firsts = []; values = []; controls = [] }; checkpoint = []; answer = []; journal = [] }
 
 -- what is found with these events, or the first bad line of their file and the first check that it fails
 abbrev pub with_events : Found → Result (List Event) (ℕ × EventsReason) → Result Found Outcome
@@ -68,6 +70,7 @@ read_as EventFile found text = with_events found (events_of text)
 read_as PipeFile found text = with_pipe found (pipe_of text)
 read_as (ConfigFile asked) found text =
     let flow = flow_with asked found.pipe in with_settings found (settings_of text (shape_of flow) (rules_of flow.query))
+read_as CheckpointFile found text = Ok (record found { checkpoint = text })
 read_as AnswerFile found text = Ok (record found { answer = text })
 read_as (JournalFile asked) found text = with_journal found (journal_of text (shape_of (flow_with asked found.pipe)))
 
@@ -80,13 +83,19 @@ pipe_input (Piped file) = (PipeFile, file) ∷ []
 abbrev pub files_of : List ℕ → List ℕ → FlowAsked → List (Input × List ℕ)
 files_of events config flow = (EventFile, events) ∷ (pipe_input flow.query ++ (ConfigFile flow, config) ∷ [])
 
+-- the checkpoint that a run goes on from, where it does
+abbrev pub checkpoint_input : SpanAsked → List (Input × List ℕ)
+checkpoint_input Whole = []
+checkpoint_input (Until time save) = []
+checkpoint_input (From name) = (CheckpointFile, name) ∷ []
+
 -- an answer's file and a journal, of these names
 abbrev pub audited_files : List ℕ → List ℕ → FlowAsked → List (Input × List ℕ)
 audited_files out journal flow = (AnswerFile, out) ∷ (JournalFile flow, journal) ∷ []
 
 -- the files that a command reads, in their order, each with its name
 abbrev pub inputs_of : Asked → List (Input × List ℕ)
-inputs_of (Run asked) = files_of asked.events asked.config (flow_of asked)
+inputs_of (Run asked) = files_of asked.events asked.config (flow_of asked) ++ checkpoint_input asked.span
 inputs_of (Check asked) = files_of asked.events asked.config (flow_to_check asked)
 inputs_of (Make asked) = []
 inputs_of (Demo asked) = []

@@ -10,4 +10,5 @@ pub mod Outcome
 pub mod Queries
 pub mod Reading
 pub mod Refused
+pub mod Spans
 pub mod Writing

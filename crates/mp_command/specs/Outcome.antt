@@ -21,6 +21,7 @@ pub data Outcome : Type 0 where
   WriteFault : Outcome
   NoMemory : Outcome
   TooLarge : (name : List ℕ) → Outcome
+  BadCheckpoint : (name : List ℕ) → Outcome
   PipeRefused : (line : ℕ) (why : PipeReason) → Outcome
   NoRun : Outcome
   JournalRefused : (line : ℕ) (why : JournalReason) → Outcome
@@ -36,6 +37,7 @@ status_of ReadFault = 6
 status_of WriteFault = 7
 status_of NoMemory = 8
 status_of (TooLarge name) = 9
+status_of (BadCheckpoint name) = 11
 status_of (PipeRefused line why) = 12
 status_of NoRun = 13
 status_of (JournalRefused line why) = 14
@@ -53,6 +55,7 @@ line_said ReadFault = codes "read fault\n"
 line_said WriteFault = codes "write fault\n"
 line_said NoMemory = codes "no memory\n"
 line_said (TooLarge name) = codes "too large: " ++ (name ++ codes "\n")
+line_said (BadCheckpoint name) = codes "bad checkpoint " ++ (name ++ codes "\n")
 line_said (PipeRefused line why) =
     codes "pipe line " ++ (decimal line ++ (codes ": " ++ (text_of_pipe why ++ codes "\n")))
 line_said NoRun = codes "no legal run\n"

@@ -8,7 +8,7 @@ use Rattle.mp_outside.specs.declared.fault.Fault.{Fault}
 use Rattle.mp_outside.specs.declared.fault.Fault.TheVariants as fault
 use Rattle.mp_command.specs.declared.refusal.Refusal.{Refusal}
 use Rattle.mp_command.specs.declared.refusal.Refusal.TheVariants as refusal
-use Rattle.mp_command.specs.Outcome.{Outcome, Answered, Usage, EventsRefused, ConfigRefused, JournalRefused, NoFile, NoRun}
+use Rattle.mp_command.specs.Outcome.{Outcome, Answered, BadCheckpoint, Usage, EventsRefused, ConfigRefused, JournalRefused, NoFile, NoRun}
 use Rattle.mp_command.specs.Outcome.{ReadFault, WriteFault, NoMemory, PipeRefused, TooLarge, line_said, status_of}
 
 -- how a call ends with this refusal
@@ -21,6 +21,7 @@ outcome_of refusal.ReadFault = ReadFault
 outcome_of refusal.WriteFault = WriteFault
 outcome_of refusal.NoMemory = NoMemory
 outcome_of (refusal.TooLarge name) = TooLarge name.now
+outcome_of (refusal.BadCheckpoint name) = BadCheckpoint name.now
 outcome_of (refusal.PipeRefused line why) = PipeRefused line why
 outcome_of refusal.NoRun = NoRun
 outcome_of (refusal.JournalRefused line why) = JournalRefused line why

@@ -1,7 +1,7 @@
 //! Layer: the command.
 //!
 //! The command as far as nothing runs: how a call can end and what it says then, the files that it reads, `check`
-//! and `make`, the files of the report and the journal, and what a demo is to run.
+//! and `make`, the files of the report, of what is saved and of the journal, and what a demo is to run.
 #![tactic(auto)]
 
 mod causes;
@@ -12,15 +12,19 @@ mod making;
 mod reading;
 mod refusal;
 mod reporting;
+mod run_files;
 mod samples;
+mod saving;
 mod status;
 
 pub use checking::check;
 pub use flow::{Flow, FlowQuery};
-pub use jobs::job_for;
+pub use jobs::{job_after, job_for, job_until};
 pub use making::make;
 pub use reading::{InputFiles, Inputs, JobParts, read_inputs, read_named};
 pub use refusal::Refusal;
 pub use reporting::{journal_to, report_to};
+pub use run_files::read_run;
 pub use samples::{ANSWER, demo_settings, run_in_memory};
+pub use saving::{SavePlan, save_to};
 pub use status::{Status, lack_memory, tell};

@@ -1,12 +1,13 @@
 //! The files that a command reads.
-ghost use Rattle.std.specs.Prelude.{◌≡◌, ◌<◌, ◌≤◌, List, false, true, IfOk, IfErr};
+ghost use Rattle.std.specs.Prelude.{◌≡◌, ◌<◌, ◌≤◌, [], List, false, true, IfOk, IfErr};
 ghost use Rattle.mp_control.specs.Settings.{settings_in};
 ghost use Rattle.mp_model.specs.declared.record.Event.{Event};
 ghost use Rattle.mp_model.specs.Legal.{EventsAreLegal};
+ghost use Rattle.mp_model.specs.Plain.{EventsArePlain};
 ghost use Rattle.mp_outside.specs.Fault.{Rose};
 ghost use Rattle.mp_pipeline.specs.Pipes.{are_sound};
 ghost use Rattle.mp_words.specs.Values.{audit_in, check_in, options_in, query_in};
-ghost use Rattle.mp_words.specs.Words.{Check, Run};
+ghost use Rattle.mp_words.specs.Words.{Check};
 ghost use Rattle.mp_command.specs.Config.{FlowAsked, SettingsFitFlow, flow_of, flow_to_audit, flow_to_check, flow_with};
 ghost use Rattle.mp_command.specs.Ends.{LacksOne};
 ghost use Rattle.mp_command.specs.InputFiles.{flow_in, found_in, inputs_in, pipe_in};
@@ -42,9 +43,10 @@ pub struct InputFiles<'a> {
 }
 
 impl<'a> InputFiles<'a> {
-    /// Those of `run` or `replay`.
+    /// Those that `run` or `replay` reads before a checkpoint.
     pub fn of_run(options: &RunOptions<'a>) -> InputFiles<'a>
-        ensures files { inputs_in result ≡ inputs_of (Run (options_in options.now)) }
+        ensures files { let asked = options_in options.now in
+            inputs_in result ≡ files_of asked.events asked.config (flow_of asked) }
         ensures flow { flow_in result ≡ flow_of (options_in options.now) }
     {
         InputFiles {
@@ -93,6 +95,8 @@ pub struct JobParts {
     pub events: Vec<Event>,
     /// What the configuration says.
     pub settings: Settings,
+    /// The bytes of the checkpoint that it goes on from; none of other jobs.
+    pub checkpoint: Vec<u8>,
 }
 
 /// What the files say.
@@ -119,6 +123,8 @@ pub fn read_inputs<'a, D: Depot>(
     ensures flow { IfOk result (λ read. read.flow ≡ flow_with (flow_in files.now) (found_in read).pipe) }
     ensures sound { IfOk result (λ read. IsSound read.flow.query) }
     ensures legal { IfOk result (λ read. EventsAreLegal read.parts.events.items) }
+    ensures plain { IfOk result (λ read. EventsArePlain read.parts.events.items) }
+    ensures no_checkpoint { IfOk result (λ read. read.parts.checkpoint.items ≡ []) }
     ensures fits { IfOk result (λ read. SettingsFitFlow read.flow (settings_in read.parts.settings)) }
     ensures refused { IfErr result (λ r.
         RefusesOne (D.files depot.old) (inputs_in files.now) nothing_found (outcome_of r)) }
@@ -138,7 +144,11 @@ pub fn read_inputs<'a, D: Depot>(
         bins: files.bins,
     };
     let settings = settings_in(alloc, depot, files.config, &flow)?;
-    let parts = JobParts { events, settings };
+    let parts = JobParts {
+        events,
+        settings,
+        checkpoint: Vec::new(alloc),
+    };
     Ok(Inputs { flow, parts })
 }
 
@@ -152,6 +162,7 @@ fn events_in<'a, D: Depot>(
     ensures events { IfOk result (λ v. (found : Found)
         → ReadsAs (D.files depot.old) (EventFile, name.now) found (record found { events = v.items })) }
     ensures legal { IfOk result (λ v. EventsAreLegal v.items) }
+    ensures plain { IfOk result (λ v. EventsArePlain v.items) }
     ensures refused { IfErr result (λ r. (found : Found)
         → RefusesAs (D.files depot.old) (EventFile, name.now) found (outcome_of r)) }
 

@@ -32,6 +32,8 @@ pub enum Refusal<'a> {
     NoMemory,
     /// The file of this name has more bytes than are allowed.
     TooLarge(&'a str),
+    /// The file of this name, which a run goes on from, is that of no checkpoint of its query.
+    BadCheckpoint(&'a str),
     /// The pipeline's file has a first bad line, or ends without a stage.
     PipeRefused { line: u64, why: PipeReason },
     /// The journal isn't that of a run that writes the answer.
@@ -54,6 +56,7 @@ impl<'a> Refusal<'a> {
             Refusal::WriteFault => 7,
             Refusal::NoMemory => 8,
             Refusal::TooLarge(_) => 9,
+            Refusal::BadCheckpoint(_) => 11,
             Refusal::PipeRefused { .. } => 12,
             Refusal::NoRun => 13,
             Refusal::JournalRefused { .. } => 14,
@@ -93,6 +96,7 @@ impl<'a> Refusal<'a> {
             Refusal::WriteFault => ("write fault", "", "", ""),
             Refusal::NoMemory => ("no memory", "", "", ""),
             Refusal::TooLarge(name) => ("too large: ", *name, "", ""),
+            Refusal::BadCheckpoint(name) => ("bad checkpoint ", *name, "", ""),
             Refusal::PipeRefused { why, .. } => ("pipe line ", digits, ": ", why.text()),
             Refusal::NoRun => ("no legal run", "", "", ""),
             Refusal::JournalRefused { why, .. } => ("journal line ", digits, ": ", why.text()),

@@ -13,7 +13,7 @@ use crate::flow::Flow;
 use crate::refusal::Refusal;
 use mp_control::{Settings, Shape, ValueList};
 use mp_plans::{Control, all_at_once, fluid};
-use mp_words::{DemoOptions, QueryOption, RunOptions, Schedule};
+use mp_words::{DemoOptions, QueryOption, RunOptions, Schedule, Span};
 use std::alloc::Global;
 
 /// The name that a demo writes its answer to, in memory.
@@ -31,6 +31,7 @@ pub fn run_in_memory(options: &DemoOptions) -> RunOptions<'static>
     ensures out { result.out.now ≡ answer_name }
     ensures report { result.report ≡ None }
     ensures journal { result.journal ≡ None }
+    ensures span { result.span ≡ Span.Whole }
 {
     RunOptions {
         query: QueryOption::Named(options.query),
@@ -44,6 +45,7 @@ pub fn run_in_memory(options: &DemoOptions) -> RunOptions<'static>
         depth: options.depth,
         schedule: Schedule::Threads,
         paced: false,
+        span: Span::Whole,
     }
 }
 

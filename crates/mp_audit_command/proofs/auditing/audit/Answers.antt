@@ -47,7 +47,7 @@ returns-in-Err-NoRun-clause-came g c =
     let found = found_in c.in_ok-read.read in
     let told = rw c.in-Err-NoRun.field-0-is at c.in-Err-NoRun.ensures.none in
     let illegal = rw (c.as_slice.ensures.value, c.as_slice-2.ensures.value) at told refl in
-    came_refuted g.D.Depot.files g.D.Depot.found g.D.Depot.read_faults g.D.Depot.write_faults (Audit asked) c.args.depot.now c.read_audited.new.depot found c.in_ok-read.ensures.found tt illegal
+    came_refuted g.D.Depot.files g.D.Depot.found g.D.Depot.read_faults g.D.Depot.write_faults (Audit asked) c.args.depot.now c.read_audited.new.depot found NoRun c.in_ok-read.ensures.found refl illegal
 
 pub returns-in-Err-NoRun-clause-left : goal.returns-in-Err-NoRun-clause-left
 returns-in-Err-NoRun-clause-left g c = leaves_alone NoneKept (Audit (audit_in c.args.options.now)) NoRun _ _ (λ e. omega (arith, e)) c.read_audited.ensures.files

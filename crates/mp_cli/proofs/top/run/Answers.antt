@@ -1,6 +1,6 @@
 -- Each clause by the outcome that the call came to, and by how much of its line was said.
 use Rattle.mp_command.specs.Refused.{outcome_in}
-use Rattle.mp_command.proofs.Codes.{complete_at, outcome_at, part_at, printed_at, refuted_at, said_fault_at, said_whole, status_at, told_code, untouched_at, usage_at, write_fault_at}
+use Rattle.mp_command.proofs.Codes.{bad_checkpoint_at, complete_at, no_run_at, outcome_at, part_at, printed_at, said_fault_at, said_whole, status_at, told_code, untouched_at, usage_at, write_fault_at}
 use Rattle.std.proofs.Common.{arith}
 use Rattle.mp_cli.specs.Keeping.{IsKeptBy}
 use Rattle.mp_cli.proofs.top.run.Goals as goal
@@ -66,7 +66,14 @@ returns-clause-no_run g c =
     let o = outcome_in c.serve-end.result in
     let tells = told_code g.S.Sink.written g.S.Sink.faults o _ _ _ c.tell.ensures in
     let came = c.serve-end.ensures.came in
-    refuted_at _ _ o _ _ came.may tells
+    no_run_at _ _ o _ _ came.may tells
+
+pub returns-clause-bad_checkpoint : goal.returns-clause-bad_checkpoint
+returns-clause-bad_checkpoint g c =
+    let o = outcome_in c.serve-end.result in
+    let tells = told_code g.S.Sink.written g.S.Sink.faults o _ _ _ c.tell.ensures in
+    let came = c.serve-end.ensures.came in
+    bad_checkpoint_at _ _ o _ _ came.may tells
 
 pub returns-clause-untouched : goal.returns-clause-untouched
 returns-clause-untouched g c =

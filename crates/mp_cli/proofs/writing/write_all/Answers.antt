@@ -12,6 +12,7 @@ use Rattle.mp_command.specs.Writing.{Answer, IsTextOfJob, Journal, Report, answe
 use Rattle.mp_command.proofs.Parted.{all_both, one_as, part_as, some_first, some_second}
 use Rattle.mp_cli.specs.Keeping.{IsKeptBy}
 use Rattle.mp_cli.proofs.Kept.{asked_some}
+use Rattle.mp_cli.proofs.Targets.{no_save}
 use Rattle.mp_cli.proofs.writing.write_all.Goals as goal
 
 pub returns-in_err-run-clause-wrote : goal.returns-in_err-run-clause-wrote
@@ -22,7 +23,7 @@ returns-in_err-run-clause-wrote g c =
     let Is = IsTextOfJob q job (IsKeptBy (outline_of q (run_of asked.paced job)) asked.depth asked.schedule) in
     let p = err_from_is_err_and c.from_residual.result c.from_residual.ensures.1 in
     let part = part_as Is (λ text. text ≡ one_thread_answer q job.events) Answer (Some asked.out) _ _ (λ some text is. is) c.in_err-run.ensures.part in
-    rw p.1 (record { whole = tt; part = some_first Is (answer_at asked.out ∷ []) (target_in Report asked.report ++ target_in Journal asked.journal) _ _ part })
+    rw p.1 (no_save Is asked _ _ _ c.requires.no_save (record { whole = tt; part = some_first Is (answer_at asked.out ∷ []) (target_in Report asked.report ++ target_in Journal asked.journal) _ _ part }))
 
 pub returns-in_err-report_to-clause-wrote : goal.returns-in_err-report_to-clause-wrote
 returns-in_err-report_to-clause-wrote g c =
@@ -32,11 +33,11 @@ returns-in_err-report_to-clause-wrote g c =
     let Is = IsTextOfJob q job (IsKeptBy (outline_of q (run_of asked.paced job)) asked.depth asked.schedule) in
     let p = err_from_is_err_and c.from_residual-in_err-report_to.result c.from_residual-in_err-report_to.ensures.1 in
     let part = part_as Is (IsReport q job) Report asked.report _ _ (λ some text is. is) c.in_err-report_to.ensures.part in
-    rw p.1 (record {
+    rw p.1 (no_save Is asked _ _ _ c.requires.no_save (record {
       whole = tt;
       part = some_second Is (answer_at asked.out ∷ []) (target_in Report asked.report ++ target_in Journal asked.journal) _ _ _ (one_thread_answer q job.events, refl, c.in_ok-run.ensures.whole)
           (some_first Is (target_in Report asked.report) (target_in Journal asked.journal) _ _ part);
-    })
+    }))
 
 pub returns-in_err-journal_to-clause-wrote : goal.returns-in_err-journal_to-clause-wrote
 returns-in_err-journal_to-clause-wrote g c =
@@ -50,11 +51,11 @@ returns-in_err-journal_to-clause-wrote g c =
     let report = one_as Is (IsReport q job) Report asked.report _ _ (λ some text is. is) c.in_ok-report_to.ensures.whole in
     let slice = rw c.as_slice-2.ensures.value at c.in_err-journal_to.ensures.part in
     let part = part_as Is (λ text. text ≡ journal_text lists) Journal asked.journal _ _ (λ some text is. (lists, c.in_ok-run.ensures.kept (asked_some _ c.args.options.now.journal some), is)) slice in
-    rw p.1 (record {
+    rw p.1 (no_save Is asked _ _ _ c.requires.no_save (record {
       whole = tt;
       part = some_second Is (answer_at asked.out ∷ []) (target_in Report asked.report ++ target_in Journal asked.journal) _ _ _ (one_thread_answer q job.events, refl, c.in_ok-run.ensures.whole)
           (some_second Is (target_in Report asked.report) (target_in Journal asked.journal) _ _ _ report part);
-    })
+    }))
 
 pub returns-clause-wrote : goal.returns-clause-wrote
 returns-clause-wrote g c =
@@ -67,8 +68,8 @@ returns-clause-wrote g c =
     let report = one_as Is (IsReport q job) Report asked.report _ _ (λ some text is. is) c.in_ok-report_to.ensures.whole in
     let slice = rw c.as_slice-2.ensures.value at c.in_ok-journal_to.ensures.whole in
     let journal = one_as Is (λ text. text ≡ journal_text lists) Journal asked.journal _ _ (λ some text is. (lists, c.in_ok-run.ensures.kept (asked_some _ c.args.options.now.journal some), is)) slice in
-    record {
+    no_save Is asked _ _ _ c.requires.no_save (record {
       whole = all_both Is (answer_at asked.out ∷ []) (target_in Report asked.report ++ target_in Journal asked.journal) _ _ _ (one_thread_answer q job.events, refl, c.in_ok-run.ensures.whole)
           (all_both Is (target_in Report asked.report) (target_in Journal asked.journal) _ _ _ report journal);
       part = tt;
-    }
+    })

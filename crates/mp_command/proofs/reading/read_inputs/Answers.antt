@@ -1,5 +1,5 @@
 -- The events come first, then the pipeline, and then the configuration.
-use Rattle.std.proofs.Common.{ap, inl, inr, refl}
+use Rattle.std.proofs.Common.{ap, inl, inr, List, refl, ℕ}
 use Rattle.std.proofs.lemmas.Result.{err_from_is_err_and}
 use Rattle.mp_control.specs.Settings.{settings_in}
 use Rattle.mp_command.specs.declared.flow.Flow.{Flow}
@@ -50,5 +50,12 @@ returns-clause-found g c =
     let with : Found = record found { pipe = pipe_in c.in_ok-query.query } in
     let sized : FlowQuery → Flow = λ query. record { query = query; workers = asked.workers; bins = asked.bins } in
     let pipe = rw c.events_in.ensures.files at c.in_ok-query.ensures.found c.in_ok-events.events.items in
-    let settings = rw (c.query_in.ensures.files, c.events_in.ensures.files) at c.in_ok-settings.ensures.settings asked with (ap sized c.in_ok-query.ensures.query) in
-    (found, c.in_ok-events.ensures.events nothing_found, reads_both _ (pipe_input asked.query) _ found with _ pipe (record with { settings = settings_in c.in_ok-settings.settings }, settings, refl))
+    let settings = rw (c.query_in.ensures.files, c.events_in.ensures.files) at c.in_ok-settings.ensures.settings asked with (ap sized c.in_ok-query.ensures.query) in (
+      found,
+      c.in_ok-events.ensures.events nothing_found,
+      reads_both _ (pipe_input asked.query) _ found with _ pipe (
+        record with { settings = settings_in c.in_ok-settings.settings },
+        settings,
+        ap (λ (bytes : List ℕ). record with { settings = settings_in c.in_ok-settings.settings; checkpoint = bytes }) c.new.ensures.items,
+      ),
+    )

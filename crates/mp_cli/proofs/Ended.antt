@@ -1,0 +1,132 @@
+-- How a run ends, by the span that is asked for.
+use Rattle.std.proofs.Common.{◌≡◌, ◌⊎◌, inl, inr, ◌∙◌, ℕ, Bool, List, Option, Some, Result, Ok, Err, ap, arith, subst, sym}
+use Rattle.std.specs.Prelude.{IfErr}
+use Rattle.std.proofs.lemmas.Result.{on_err_weaker, on_ok_weaker}
+use Rattle.mp_checkpoint_laws.specs.Files.{IsFileOf}
+use Rattle.mp_control.specs.Settings.{SettingsFacts}
+use Rattle.mp_model.specs.declared.record.Event.{Event}
+use Rattle.mp_model.specs.Facts.{JobFacts, QueryFacts}
+use Rattle.mp_names.specs.declared.kinds.Kept.{Kept}
+use Rattle.mp_outline.specs.JobOutline.{outline_of}
+use Rattle.mp_outside.specs.Fault.{Rose}
+use Rattle.mp_outside.specs.Files.{Files}
+use Rattle.mp_saved.specs.Checkpoints.{CheckpointOf}
+use Rattle.mp_words.specs.Values.{From, Options, SpanAsked, Until, Whole}
+use Rattle.mp_words.specs.Words.{Run}
+use Rattle.mp_command.specs.declared.flow.Flow.{Flow}
+use Rattle.mp_command.specs.declared.refusal.Refusal.{Refusal}
+use Rattle.mp_command.specs.Audits.{LacksCheckpoint, HasCheckpoint, bad_checkpoint_of}
+use Rattle.mp_command.specs.Calls.{StopsAnswer}
+use Rattle.mp_command.specs.Config.{flow_of, flow_with, job_asked, outline_asked, run_of}
+use Rattle.mp_command.specs.Ends.{CameTo, Leaves, WritesFile}
+use Rattle.mp_command.specs.Inputs.{Found, inputs_of, nothing_found}
+use Rattle.mp_command.specs.Outcome.{Outcome, BadCheckpoint, NoMemory, status_of}
+use Rattle.mp_command.specs.Queries.{SomeQuery, query_of}
+use Rattle.mp_command.specs.Reading.{ReadsAll}
+use Rattle.mp_command.specs.Refused.{outcome_of}
+use Rattle.mp_command.specs.Spans.{IsConfirmedBy, IsRefutedBy, format_by, resumed_from, stopped_at}
+use Rattle.mp_command.specs.Writing.{Answer, IsTextInSpan, IsTextOf, IsTextOfJob, IsTextOfRest, IsTextOfStop, Keeping, Purpose, WritesAll, WritesSome, targets_of}
+use Rattle.mp_command.proofs.Came.{came_refuted, came_stopped}
+use Rattle.mp_command.proofs.Leaving.{leaves_alone, leaves_part, refuted_late}
+use Rattle.mp_command.proofs.Parted.{all_as, none_of, some_as}
+use Rattle.mp_cli.specs.Keeping.{IsKeptBy}
+use Rattle.mp_cli.specs.Wrote.{EndsRun, Wrote}
+
+-- a run that was stopped refutes nothing
+or_refuted : {T : Type 0} (Refutes : Outcome → Type 0) (end : Result T Refusal) → IfErr end (λ r. StopsAnswer (outcome_of r)) → IfErr end (λ r. StopsAnswer (outcome_of r) ⊎ Refutes (outcome_of r))
+or_refuted Refutes (Ok x) stops = tt
+or_refuted Refutes (Err r) stops = inl stops
+
+-- A query by its number, the texts of its cells and its table, with these values; the bytes that a job of it goes on from, and what is
+-- known of the steps that are kept
+module _ {Cell : Type 0} (number : ℕ) (text : ℕ → Cell → List ℕ) (facts : List ℕ → QueryFacts Cell) (values bytes : List ℕ) (job : JobFacts) (Keeps : List (List Kept) → Type 0) (asked : Options) (old new : Option Files) where
+  abbrev pub Ends : {T : Type 0} → Result T Refusal → Type 0
+  Ends end = EndsRun (IsTextInSpan number text facts values asked.span bytes job Keeps) (IsRefutedBy number text facts values asked.span bytes) asked end old new
+
+  -- what is written in a span that is the one that is asked for
+  in_span : {T : Type 0} (end : Result T Refusal) (span : SpanAsked) → asked.span ≡ span
+      → Wrote (IsTextInSpan number text facts values span bytes job Keeps) (targets_of (Run asked)) end old new
+      → IfErr end (λ r. StopsAnswer (outcome_of r)) → Ends end
+  in_span end span is wrote stops = record {
+    wrote = subst (λ (s : SpanAsked). Wrote (IsTextInSpan number text facts values s bytes job Keeps) (targets_of (Run asked)) end old new) (sym is) wrote;
+    refused = or_refuted (λ o. (bad_checkpoint_of asked.span ≡ Some o) × IsRefutedBy number text facts values asked.span bytes × (new ≡ old)) end stops;
+  }
+
+  -- a run of all events
+  pub whole_ends : {T : Type 0} (end : Result T Refusal) → asked.span ≡ Whole → Wrote (IsTextOfJob (facts values) job Keeps) (targets_of (Run asked)) end old new
+      → IfErr end (λ r. StopsAnswer (outcome_of r)) → Ends end
+  whole_ends end is wrote stops = in_span end Whole is wrote stops
+
+  -- one that stops
+  pub stop_ends : {T : Type 0} (end : Result T Refusal) (t : ℕ) (save : List ℕ) → asked.span ≡ Until t save → job.values ≡ values → (stopped : JobFacts) → stopped ≡ stopped_at t job
+      → Wrote (IsTextOfStop number text facts stopped.values stopped t) (targets_of (Run asked)) end old new
+      → IfErr end (λ r. StopsAnswer (outcome_of r)) → Ends end
+  stop_ends end t save is own stopped made wrote stops =
+      in_span end (Until t save) is
+      (subst (λ (vs : List ℕ). Wrote (IsTextOfStop number text facts vs (stopped_at t job) t) (targets_of (Run asked)) end old new) own
+      (subst (λ (j : JobFacts). Wrote (IsTextOfStop number text facts j.values j t) (targets_of (Run asked)) end old new) made wrote))
+      stops
+
+  -- one that goes on from a checkpoint
+  pub rest_ends : {T : Type 0} (end : Result T Refusal) (name : List ℕ) → asked.span ≡ From name → (c : CheckpointOf Cell) → IsFileOf (format_by number text facts values) c bytes
+      → (resumed : JobFacts) → resumed ≡ resumed_from text c job
+      → Wrote (IsTextOfRest facts resumed) (targets_of (Run asked)) end old new
+      → IfErr end (λ r. StopsAnswer (outcome_of r)) → Ends end
+  rest_ends end name is c file resumed made wrote stops =
+      let rest = subst (λ (j : JobFacts). Wrote (IsTextOfRest facts j) (targets_of (Run asked)) end old new) made wrote in
+      let Is = IsTextOfRest facts (resumed_from text c job) in
+      let Goes = IsTextInSpan number text facts values (From name) bytes job Keeps in
+      let turns : (purpose : Purpose) (written : List ℕ) → Is purpose written → Goes purpose written = λ purpose written h. (c, file, h) in
+      in_span end (From name) is
+      (record {
+        whole = on_ok_weaker end (λ w. all_as Is Goes turns (targets_of (Run asked)) old new w) rest.whole;
+        part = on_err_weaker end (λ w. some_as Is Goes turns (targets_of (Run asked)) old new w) rest.part;
+      })
+      stops
+
+  -- what a run goes on from is a checkpoint where it has written an answer
+  answer_confirms : (span : SpanAsked) (written : List ℕ) → IsTextInSpan number text facts values span bytes job Keeps Answer written → IsConfirmedBy number text facts values span bytes
+  answer_confirms Whole written is = tt
+  answer_confirms (Until t save) written is = tt
+  answer_confirms (From name) written (c, file, is) = (c, file)
+
+-- how a run of a job of a query ends, with these values and the bytes that were read
+abbrev pub EndsBy : {T : Type 0} → SomeQuery → List ℕ → List ℕ → JobFacts → Options → Result T Refusal → Option Files → Option Files → Type 0
+EndsBy some values bytes job asked end old new =
+    let Keeps = IsKeptBy (outline_of (some.facts values) (run_of asked.paced job)) asked.depth asked.schedule in
+    EndsRun (IsTextInSpan some.number some.text some.facts values asked.span bytes job Keeps) (IsRefutedBy some.number some.text some.facts values asked.span bytes) asked end old new
+
+-- a run of all events ends so, whatever its query is
+pub all_end : {T : Type 0} (asked : Options) (flow : Flow) (events : List Event) (settings : SettingsFacts) (bytes : List ℕ) (end : Result T Refusal) (old new : Option Files) → asked.span ≡ Whole
+    → Wrote (IsTextOfJob ((query_of flow.query).facts settings.values) (job_asked flow events settings) (IsKeptBy (outline_asked asked.paced flow events settings) asked.depth asked.schedule)) (targets_of (Run asked)) end old new
+    → IfErr end (λ r. StopsAnswer (outcome_of r)) → EndsBy (query_of flow.query) settings.values bytes (job_asked flow events settings) asked end old new
+all_end asked flow events settings bytes end old new is wrote stops =
+    let some = query_of flow.query in
+    let Keeps = IsKeptBy (outline_asked asked.paced flow events settings) asked.depth asked.schedule in
+    whole_ends some.number some.text some.facts settings.values bytes (job_asked flow events settings) Keeps asked old new end is wrote stops
+
+-- what was found is as a run wants it that has written by it
+pub confirmed : (AreKept : Keeping) (asked : Options) (found : Found) (old new : Option Files) → WritesAll (IsTextOf AreKept (Run asked) found) (targets_of (Run asked)) old new → HasCheckpoint asked found
+confirmed AreKept asked found old new (written, is, rest) =
+    let flow = flow_with (flow_of asked) found.pipe in
+    let some = query_of flow.query in
+    let Keeps = AreKept (outline_asked asked.paced flow found.events found.settings) asked.depth asked.schedule in
+    answer_confirms some.number some.text some.facts found.settings.values found.checkpoint (job_asked flow found.events found.settings) Keeps asked old new asked.span written is
+
+-- What a command came to whose run ends without an answer
+
+module _ {D : Type 0} (files : D → Option Files) (found : D → List ℕ → Bool → D → Type 0) (read_faults write_faults : D → ℕ) (asked : Options) (old new : D) where
+  pub came_ended : (read : Found) (o : Outcome) (kept : Type 0) → ReadsAll (files old) (inputs_of (Run asked)) nothing_found read
+      → StopsAnswer o ⊎ ((bad_checkpoint_of asked.span ≡ Some o) × LacksCheckpoint asked read × kept)
+      → (status_of o ≡ 7 → WritesFile (Some (Run asked)) × Rose (write_faults old) (write_faults new))
+      → CameTo files found read_faults write_faults (Some (Run asked)) o old new
+  came_ended read o kept r (inl stops) fault = came_stopped files found read_faults write_faults (Run asked) old new read o r stops fault
+  came_ended read o kept r (inr (bad, lacks, same)) fault = came_refuted files found read_faults write_faults (Run asked) old new read o r bad lacks
+
+-- and what it leaves
+pub leaves_ended : (AreKept : Keeping) (asked : Options) (read : Found) (o : Outcome) (old new : Option Files) → ReadsAll old (inputs_of (Run asked)) nothing_found read
+    → StopsAnswer o ⊎ ((bad_checkpoint_of asked.span ≡ Some o) × LacksCheckpoint asked read × (new ≡ old))
+    → WritesSome (IsTextOf AreKept (Run asked) read) (targets_of (Run asked)) old new
+    → Leaves AreKept (Run asked) o old new
+leaves_ended AreKept asked read o old new r (inl stops) some = leaves_part AreKept (Run asked) o old new stops (inr (read, r, some))
+leaves_ended AreKept asked read o old new r (inr (bad, lacks, same)) some = leaves_alone AreKept (Run asked) o old new (λ zero. omega (arith, zero, refuted_late (Run asked) o bad)) same

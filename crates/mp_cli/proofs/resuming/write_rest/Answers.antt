@@ -1,0 +1,36 @@
+-- The answer comes first, and then the report.
+use Rattle.std.proofs.Common.{◌≡◌, ◌∷◌, [], ◌++◌, Some, refl}
+use Rattle.std.proofs.lemmas.Result.{err_from_is_err_and, on_err_weaker, on_ok_weaker}
+use Rattle.mp_model.specs.Answers.{one_thread_answer}
+use Rattle.mp_model.specs.Tables.{table_of}
+use Rattle.mp_report.specs.Report.{IsReport}
+use Rattle.mp_words.specs.Values.{options_in}
+use Rattle.mp_command.specs.Writing.{Answer, IsTextOfRest, Report, answer_at, target_in}
+use Rattle.mp_command.proofs.Parted.{all_both, one_as, part_as, some_first, some_second}
+use Rattle.mp_cli.proofs.Targets.{of_rest}
+use Rattle.mp_cli.proofs.resuming.write_rest.Goals as goal
+
+pub returns-in_err-run-clause-wrote : goal.returns-in_err-run-clause-wrote
+returns-in_err-run-clause-wrote g c =
+    let asked = options_in c.args.options.now in
+    let job = c.args.job.now in
+    let q = table_of g.Q.Query.facts job in
+    let Is = IsTextOfRest g.Q.Query.facts job in
+    let p = err_from_is_err_and c.from_residual.result c.from_residual.ensures.1 in
+    let part = part_as Is (λ text. text ≡ one_thread_answer q job.events) Answer (Some asked.out) _ _ (λ some text is. is) c.in_err-run.ensures.part in
+    rw p.1 (of_rest Is asked _ _ _ c.args.name.now c.requires.options.span c.requires.span (record { whole = tt; part = some_first Is (answer_at asked.out ∷ []) (target_in Report asked.report ++ []) _ _ part }))
+
+pub returns-clause-wrote : goal.returns-clause-wrote
+returns-clause-wrote g c =
+    let asked = options_in c.args.options.now in
+    let job = c.args.job.now in
+    let q = table_of g.Q.Query.facts job in
+    let Is = IsTextOfRest g.Q.Query.facts job in
+    let slice = c.report_to.ensures in
+    of_rest Is asked c.report_to.result _ _ c.args.name.now c.requires.options.span c.requires.span
+    (record {
+      whole = on_ok_weaker c.report_to.result (λ w. all_both Is (answer_at asked.out ∷ []) (target_in Report asked.report ++ []) _ _ _ (one_thread_answer q job.events, refl, c.in_ok-run.ensures.whole)
+          (all_both Is (target_in Report asked.report) [] _ _ _ (one_as Is (IsReport q job) Report asked.report _ _ (λ some text is. is) w) refl)) slice.whole;
+      part = on_err_weaker c.report_to.result (λ w. some_second Is (answer_at asked.out ∷ []) (target_in Report asked.report ++ []) _ _ _ (one_thread_answer q job.events, refl, c.in_ok-run.ensures.whole)
+          (some_first Is (target_in Report asked.report) [] _ _ (part_as Is (IsReport q job) Report asked.report _ _ (λ some text is. is) w))) slice.part;
+    })
