@@ -1,5 +1,5 @@
 -- The bin of the sample's key moves, and this is its state just before.
-use Rattle.std.proofs.Common.{◌≡◌, ℕ, ◌<◌, ◌≤◌, ◌==◌, true, false, [], ◌∷◌, Contains, refl, sym, subst, ⊎_elim, arith}
+use Rattle.std.proofs.Common.{◌≡◌, ◌⊎◌, ℕ, ◌<◌, ◌≤◌, ◌==◌, true, false, [], ◌∷◌, Contains, refl, sym, subst, inr, ⊎_elim, arith}
 use Rattle.std.proofs.lemmas.Bool.{cases_Bool, eqb-true, or_cases, false≢true}
 use Rattle.std.specs.List.Sorted.{IsStrictlySortedBy}
 use Rattle.mp_bins.specs.Bins.{bin_of_key}
@@ -19,7 +19,7 @@ use Rattle.mp_samples.specs.Bids.{answering_bids, answering_in}
 use Rattle.mp_samples.specs.Jobs.{one_move, record_of_bid}
 use Rattle.mp_samples.specs.Laws.{begins_fresh}
 use Rattle.mp_samples.specs.States.{state_of_bin}
-use Rattle.mp_msg.specs.States.{IsInOrder, IsOfBin, IsPostedAt, IsStateBefore, cell_in}
+use Rattle.mp_msg.specs.States.{IsInOrder, IsOfBin, IsOpening, IsPostedAt, IsStateBefore, cell_in}
 
 -- worker 1 gives the bin to worker 2
 bin_moves : IsMove (outline_of answering_bids one_move) 0 1 10
@@ -47,10 +47,14 @@ marked k =
     (λ (e : (7 == k) ≡ false). rw e refl)
     (cases_Bool (7 == k))
 
-wake_posted : (u k : ℕ) → Has state_of_bin.wakes u k → (10 ≤ u) × (v : ℕ) × (v < 10) × IsPostedAt answering_bids one_move 0 k v u
+-- the wakes that were posted, as the job begins with none
+abbrev IsStated : ℕ → ℕ → Type 0
+IsStated u k = (10 ≤ u) × (IsOpening answering_bids 0 k u ⊎ ((v : ℕ) × (v < 10) × IsPostedAt answering_bids one_move 0 k v u))
+
+wake_posted : (u k : ℕ) → Has state_of_bin.wakes u k → IsStated u k
 wake_posted u k i =
-    subst (λ (w : ℕ × ℕ). (10 ≤ w.0) × (v : ℕ) × (v < 10) × IsPostedAt answering_bids one_move 0 w.1 v w.0) (one_element (15, 7) (u, k) i)
-    (omega arith, 5, omega arith, (record { 0 = 0; 1 = 0 }, refl, refl))
+    subst (λ (w : ℕ × ℕ). IsStated w.0 w.1) (one_element (15, 7) (u, k) i)
+    (omega arith, inr (5, omega arith, (record { 0 = 0; 1 = 0 }, refl, refl)))
 
 posted_wake : (u k v : ℕ) → IsPostedAt answering_bids one_move 0 k v u → Has state_of_bin.wakes u k
 posted_wake u k v h =
@@ -63,12 +67,19 @@ posted_wake u k v h =
     let wake : (15, 7) ≡ (u, k) = cc in
     subst (Contains state_of_bin.wakes) wake (Contains-here (15, 7) [])
 
+stated_wake : (u k : ℕ) → IsStated u k → Has state_of_bin.wakes u k
+stated_wake u k h =
+    ⊎_elim
+    (λ (i : IsOpening answering_bids 0 k u). absurd (nothing_in_nil (u, k) i))
+    (λ (p : (v : ℕ) × (v < 10) × IsPostedAt answering_bids one_move 0 k v u). posted_wake u k p.0 p.2)
+    h.1
+
 pub bin_has_state : IsStateBefore answering_bids one_move 0 1 10 state_of_bin
 bin_has_state = record {
   order = in_order;
   own = of_bin;
   cells = λ k b. marked k;
-  wakes = λ u k b. ((λ i. wake_posted u k i), (λ h. posted_wake u k h.1 h.3));
+  wakes = λ u k b. ((λ i. wake_posted u k i), (λ h. stated_wake u k h));
 }
 
 -- the job is whole, so the query's table in it is the query's own

@@ -1,6 +1,7 @@
 //! The audit of a job of one bid: the worked journal is legal with the answer that it writes; others aren't, and no journal is with
 //! another answer.
-ghost use Rattle.std.specs.Prelude.{◌≡◌, IfOk, None};
+ghost use Rattle.std.specs.Prelude.{IfOk};
+ghost use Rattle.mp_job_lists.specs.Listed.{IsWhole};
 ghost use Rattle.mp_model.specs.Legal.{EventIsLegal};
 
 use mp_job::{Event, Job, Shape};
@@ -54,7 +55,7 @@ fn bid() -> Event
 }
 
 fn one_bid(alloc: Global) -> Result<Job<Q1>, AllocError>
-    ensures { IfOk result (λ job. job.until ≡ None) }
+    ensures { IfOk result IsWhole }
 {
     let events = vec![in alloc; bid()]?;
     let job = Job::new(alloc, Q1::given(), events, Vec::new(alloc), SHAPE)?;

@@ -2,7 +2,7 @@
 //! examples/cases.toml.
 use mp_words::{
     AuditOptions, CheckOptions, Command, DemoOptions, MakeOptions, QueryName, QueryOption,
-    RunOptions, Schedule, WordsRefused, parse,
+    RunOptions, Schedule, Span, WordsRefused, parse,
 };
 use std::alloc::{AllocError, Global};
 use std::process::Abort;
@@ -19,6 +19,7 @@ const RUN: RunOptions<'static> = RunOptions {
     depth: 5,
     schedule: Schedule::Threads,
     paced: false,
+    span: Span::Whole,
 };
 
 const REPLAY: RunOptions<'static> = RunOptions {
@@ -33,6 +34,7 @@ const REPLAY: RunOptions<'static> = RunOptions {
     depth: 64,
     schedule: Schedule::Seeded(9),
     paced: true,
+    span: Span::Whole,
 };
 
 const CHECK: CheckOptions<'static> = CheckOptions {

@@ -2,14 +2,14 @@
 ghost use Rattle.mp_test_parts.specs.Hosts.{BusyHostWaits};
 
 use mp_host_laws::{
-    bins_leave, groups_are_held, hosts_begin_empty, packets_are_held, records_are_held,
+    bins_leave, groups_are_held, hosts_begin_with_the_opening, packets_are_held, records_are_held,
     waiting_groups_are_told,
 };
 use mp_samples::WakingBids;
 
 #[test]
 fn laws_hold_of_a_query(_rt: HostRuntime) {
-    hosts_begin_empty::<WakingBids>();
+    hosts_begin_with_the_opening::<WakingBids>();
     records_are_held::<WakingBids>();
     waiting_groups_are_told::<WakingBids>();
     groups_are_held::<WakingBids>();
