@@ -4,6 +4,8 @@ from megaphone_tools import OLD
 
 # How many events the large ones have.
 COUNT = 250_000
+# How many bytes a file may have.
+MOST = 1 << 28
 
 
 def bids(count, when, auction):
@@ -108,5 +110,44 @@ def audits():
     yield f"an audit of {2**20:,} lines of one kind, half as many bids", "audit --query q1 --journal j", files | {"j": b"s|0|I\n" * 2**20}, 13
     turns = "each bid is posted before the next, the last worker first"
     yield f"an audit of {2**20:,} lines, {turns}, --workers 64", "audit --query q1 --workers 64 --journal j", files | {"j": in_turn(2**13, 64)}, 13
-    most = 2**28 // len(b"s|0|I\n")
+    most = MOST // len(b"s|0|I\n")
     yield f"an audit of {most:,} lines of one kind, no event", "audit --query q1 --journal j", {"e": b"", "c": b"", "o": b"", "j": b"s|0|I\n" * most}, 13
+
+
+def full(first, line):
+    """A checkpoint of the greatest size: its first line, as many lines by their number as fit in, and its last line."""
+    text, count = bytearray(first), 0
+    while len(text) < MOST - 100:
+        text += line(count)
+        count += 1
+    return bytes(text) + b"E|%d\n" % count
+
+
+def open_auctions(count):
+    """As many auctions, which end in no order after all have begun, each at a time of its own."""
+    return b"".join(b"A|%d|%d|%d|10|0|%d\n" % (i, i, i % 1000, 2 * count + i * 7919 % count) for i in range(count))
+
+
+def restarts():
+    """The fixed cases of runs that stop and go on: what each is, its words, its files, or None where those of the case before stay, and its status."""
+    count, stop = 1_000_000, "--until 1000000 --save s"
+    moves = b"".join(b"M|%d|0|0|%d\n" % (2 * count + i * 50_000, i % 2) for i in range(16))
+    for what, events in (
+        ("1,000,000 auctions are open", open_auctions(count)),
+        ("1,000,000 auctions end at one time", b"".join(b"A|%d|%d|7|10|0|%d\n" % (i, i, 2 * count) for i in range(count))),
+    ):
+        yield f"{what}, stop, q4", f"run --query q4 {stop}", {"e": events, "c": moves, "o": OLD}, 0
+        yield "going on, their bin moves 16 times", "replay --query q4 --workers 2 --bins 1 --from s", None, 0
+        yield "going on, --workers 4 --bins 4096", "replay --query q4 --workers 4 --bins 4096 --from s", None, 0
+    yield "1,000,000 bids, stop, q5", f"run --query q5 {stop}", {"e": bids(count, lambda i: i, lambda i: i % 100_003), "c": b"", "o": OLD}, 0
+    yield "going on", "run --query q5 --from s", None, 0
+    none = {"e": b"", "c": b"", "o": b""}
+    lots, wakes = full(b"K|1|q4|50\n", lambda i: b"c|0|%d|0|1|7\n" % i), full(b"K|1|q4|50\n", lambda i: b"w|0|%d|50\n" % i)
+    later = full(b"K|1|q4|50\n", lambda i: b"w|0|7|%d\n" % (50 + i))
+    yield "a checkpoint of 2^28 bytes, all lines cells, q4", "run --query q4 --from s", none | {"s": lots}, 0
+    yield "one of wakes of as many keys at one time, q4", "run --query q4 --bins 1 --from s", none | {"s": wakes}, 0
+    yield "one of wakes of one key, q4", "run --query q4 --from s", none | {"s": later}, 0
+    yield "one whose last line lacks its end, q4", "run --query q4 --from s", none | {"s": wakes[:-1]}, 11
+    yield "one of one cell with too many ids, q3", "run --query q3 --from s", none | {"s": b"K|1|q3|50|10\nc|0|7|0" + b"|5" * (MOST // 2 - 20) + b"\nE|1\n"}, 11
+    lists = b"".join(b"c|0|%d|49" % key + b"|49" * 999_999 + b"\n" for key in range(80))
+    yield "80 cells of 1,000,000 times, q5", "run --query q5 --from s", none | {"s": b"K|1|q5|50|600|6\n" + lists + b"E|80\n"}, 0

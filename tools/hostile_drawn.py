@@ -1,10 +1,11 @@
-"""Cases that are drawn from a seed: words, an event file, a pipeline, a configuration, an answer and a journal that are near well-formed ones,
-and what is wanted of them."""
+"""Cases that are drawn from a seed: words, an event file, a pipeline, a configuration, an answer, a checkpoint and a journal that are near
+well-formed ones, and what is wanted of them."""
 import os
 import random
 import re
 
-from hostile_readers import COMPARED, COUNT, FORMS, MOST_CONTROLS, NUMBER, PRICE, RULES, TESTS, TIME, WIDTH, controls_of, events_of, journal_of, stages_of, steps_of
+from hostile_readers import COMPARED, COUNT, FORMS, LAST, MOST_CONTROLS, NUMBER, PRICE, RULES, TESTS, TIME, WAKING, WIDTH
+from hostile_readers import configuration_of, events_of, is_checkpoint, journal_of, stages_of, steps_of
 from megaphone_tools import OLD, STAGES, read
 
 SAID = {
@@ -16,6 +17,7 @@ SAID = {
     6: rb"read fault\n",
     7: rb"write fault\n",
     9: rb"too large: .*\n",
+    11: rb"bad checkpoint .*\n",
     12: rb"pipe line [1-9][0-9]*: (kind|fields|number|range|order|count|end)\n",
     13: rb"no legal run\n",
     14: rb"journal line [1-9][0-9]*: (kind|fields|number|range|order)\n",
@@ -43,10 +45,26 @@ PIPES = [
     b"on|A\ncount|2|5|3|eq|10\nsum|2|1|0|any|0\n",
     b"\non|P\nwindow|1|0|1|any|0|43200\n",
 ]
-# Kinds of lines of a configuration, of a pipeline and of a journal, and the names of the rules of all queries.
+# By query and stage, texts of cells that may be saved at some time.
+BIDDINGS = [b"1|9|10|0|100|1|60", b"1|9|10|50|140737488355328|0", b"0|1|60", b"0|1|1000000000000"]
+CELLS = {
+    ("q3", 0): [b"1|Ann|Reno|OR", b"1|" + b"\xff" * 64 + b"|x|CA", b"0|5", b"0|9|7|7"],
+    ("q4", 0): BIDDINGS,
+    ("q4", 1): [b"60|1", b"0|7", b"1000000000000000000|1000000"],
+    ("q5", 0): [b"0", b"3|3|4", b"40|49"],
+    ("q6", 0): BIDDINGS,
+    ("q6", 1): [b"10", b"10|1000000000000"],
+    ("q7", 0): [b"1|2|50", b"281474976710656|0|0"],
+    ("q8", 0): [b"1|Ann|0", b"1|Bob|1", b"0|1"],
+}
+# Keys of these cells, times at which they are saved, and how much later their wakes are.
+KEYS, STOPS, LATER = [0, 1, 2, 5, 8, 9, 10, 600, 1200, 43_200, NUMBER], [1, 5, 20, 50, 50, 100, 600, 43_200, TIME], [0, 1, 50, 550, 43_200]
+# Kinds of lines of a configuration, of a pipeline, of a journal and of a checkpoint, and the names of the rules of all queries.
 LINE_WORDS = [b"V", b"first", b"rule", b"drain", b"M", b"all", b"on", *FORMS, *TESTS, *(name for rules in RULES.values() for name in rules), b"s", *steps_of(0, 0)]
-LIMITS = [0, 1, 2, 3, 4, 6, 16, 63, 64, 65, 100, 255, 256, 1000, 1024, 1025, 4096, 4097, 7200, 43_200, WIDTH, COUNT, MOST_CONTROLS, PRICE, COMPARED, TIME, NUMBER, 1 << 32, 1 << 63, 1 << 64, 1 << 128]
-WORDS = [b"", b"--", b"-", b"--query", b"--out", b"--seed", b"--pipe", b"--journal", b"--paced", b"audit", b"pipe", b"p", b"=", b"q0", b"q9", b"Q1", b".", b"/", b"e", b"c", b"o", b"r", b"j", b"none", b"\xff\xfe", b"1e3", b"+1", b"-1", b"0x10"]
+LINE_WORDS += [b"K", b"c", b"w", b"E", *(query.encode() for query in STAGES)]
+LIMITS = [0, 1, 2, 3, 4, 6, 16, 63, 64, 65, 100, 255, 256, 1000, 1024, 1025, 4096, 4097, 7200, 43_200, WIDTH, COUNT, MOST_CONTROLS, PRICE, COMPARED, TIME, LAST, NUMBER, 1 << 32, 1 << 63, 1 << 64, 1 << 128]
+WORDS = [b"", b"--", b"-", b"--query", b"--out", b"--seed", b"--pipe", b"--journal", b"--paced", b"--until", b"--save", b"--from", b"audit", b"pipe", b"p", b"=", b"q0", b"q9", b"Q1"]
+WORDS += [b".", b"/", b"e", b"c", b"o", b"r", b"s", b"j", b"none", b"\xff\xfe", b"1e3", b"+1", b"-1", b"0x10"]
 
 
 def number(draw):
@@ -81,6 +99,19 @@ def any_steps(draw, stages, workers):
         behind = [b"%d" % draw.choice(limit[:9]) if draw.random() < 0.98 else number(draw) for limit in steps[letter]]
         lines.append(b"|".join([b"s", b"%d" % worker, letter, *behind]) + b"\n")
     return b"".join(lines)
+
+
+def any_checkpoint(draw, query, values):
+    """A checkpoint of any cells and wakes, most of them within their limits."""
+    until, lines = draw.choice(STOPS), []
+    for stage in range(STAGES[query]):
+        for key in sorted(draw.sample(KEYS, draw.choice((0, 1, 2, 5)))):
+            if (query, stage) in CELLS and draw.random() < 0.8:
+                lines.append(b"c|%d|%d|%s" % (stage, key, draw.choice(CELLS[query, stage])))
+            if query in WAKING and stage == 0:
+                lines += [b"w|0|%d|%d" % (key, until + later) for later in LATER if draw.random() < 0.3]
+    head = b"|".join([b"K|1", query.encode(), b"%d" % until, *(b"%d" % value for value in values)])
+    return b"".join(line + b"\n" for line in (head, *lines, b"E|%d" % len(lines)))
 
 
 FIELD_ENDS = (b"|", b"\r", b"\n")
@@ -207,100 +238,110 @@ def change_words(draw, words):
 
 
 class Case:
-    """A case: its words, its files, and what the files hold by the readers, where the words are whole."""
+    """A case: its words, what its files hold before the run, and what they hold by the readers, where the words are whole."""
 
     def __init__(self, seed, index):
         self.index, self.draw = index, random.Random(f"{seed} {index}")
         draw = self.draw
         self.query = draw.choice([*STAGES, "pipe", "pipe"])
-        self.pipe = draw.choice(PIPES)
         self.workers, self.bins = draw.choice(((1, 1), (1, 16), (2, 1), (3, 4), (3, 4), (16, 256), (64, 16)))
-        self.command = draw.choices(("check", "replay", "run", "make", "demo", "audit"), (60, 14, 10, 3, 3, 10))[0]
-        self.words, self.is_whole = self.line().encode().split(), True
-        # The words of the run whose answer and journal an audit gets, and then what its files held and the steps of that journal.
-        self.run, self.ran, self.steps = [b"replay", *self.words[1:], b"--seed", b"%d" % index], None, None
-        self.events = draw.choice(BASES)
-        self.config = draw.choice(CONFIGS) if draw.random() < 0.4 else version_two(draw, self.query, self.stages(), self.workers, self.bins)
-        self.answer = self.journal = OLD
-        what = draw.choices(("events", "config", "both", "words"), (45, 25, 15, 15))[0]
+        self.command = draw.choices(("check", "replay", "run", "make", "demo", "audit"), (52, 18, 14, 3, 3, 10))[0]
+        line, before = self.lines()
+        # The words, and those of the run whose files an audit or a run from a checkpoint gets, if this is one.
+        self.words, self.before, self.is_whole = line.encode().split(), before.encode().split(), True
+        # What the files held behind that run, and the steps of its journal.
+        self.ran, self.steps = None, None
+        self.files = dict.fromkeys("orsj", OLD) | {"e": draw.choice(BASES), "p": draw.choice(PIPES)}
+        self.files["c"] = draw.choice(CONFIGS) if draw.random() < 0.4 else version_two(draw, self.query, self.stages(), self.workers, self.bins)
+        what = draw.choices(("e", "c", "ec", "words"), (45, 25, 15, 15))[0]
         if self.query == "pipe" and draw.random() < 0.6:
-            what = "pipe"
-        if self.command != "audit" or draw.random() < 0.3:
+            what = "p"
+        if not self.before or draw.random() < 0.3:
             self.change(what)
 
-    def line(self):
-        """Words that are whole."""
+    def lines(self):
+        """Words that are whole, and those of the run whose files they read, or none."""
         draw, shape = self.draw, f"--workers {self.workers} --bins {self.bins}"
         if self.command == "make":
-            return f"make --count {draw.randrange(60)} --out o --seed {draw.randrange(1 << 48)}"
+            return f"make --count {draw.randrange(60)} --out o --seed {draw.randrange(1 << 48)}", ""
         if self.command == "demo":
-            return f"demo --query {draw.choice(list(STAGES))} --count {draw.randrange(60)} {shape}"
-        line = f"{self.command} --query {self.query} --events e --config c {shape}" + (" --pipe p" if self.query == "pipe" else "")
+            return f"demo --query {draw.choice(list(STAGES))} --count {draw.randrange(60)} {shape}", ""
+        asked = f"--query {self.query} --events e --config c {shape}" + (" --pipe p" if self.query == "pipe" else "")
         if self.command == "check":
-            return line
-        line += f" --out o --depth {draw.choice((1, 2, 64))}" + draw.choice(("", " --paced"))
+            return f"check {asked}", ""
+        asked += f" --out o --depth {draw.choice((1, 2, 64))}" + draw.choice(("", " --paced"))
         if self.command == "audit":
-            return f"{line} --journal j"
-        return line + draw.choice(("", " --report r")) + draw.choice(("", " --journal j"))
+            return f"audit {asked} --journal j", f"replay {asked} --journal j --seed {self.index}"
+        return self.lines_of_part(asked, draw.choice(("", " --report r")))
+
+    def lines_of_part(self, asked, report):
+        """The same of a run, of all events or of a part of them."""
+        part = "all" if self.query == "pipe" else self.draw.choice(("all", "until", "from"))
+        stop = f" --until {self.draw.choice(STOPS)} --save s"
+        words = {"all": self.draw.choice(("", " --journal j")), "until": stop, "from": " --from s"}
+        return f"{self.command} {asked}{report}{words[part]}", f"replay {asked}{stop}" if part == "from" else ""
 
     def change(self, what):
-        """Changes files or the words to others that are near them."""
-        draw, index = self.draw, self.index
-        for _ in range(draw.choice((1, 1, 2, 4))):
-            if what in ("events", "both"):
-                self.events = change(draw, index, self.events)
-            if what in ("config", "both"):
-                self.config = change(draw, index, self.config)
-            if what in ("pipe", "both"):
-                self.pipe = change(draw, index, self.pipe)
-            if what == "answer":
-                self.answer = change(draw, index, self.answer)
-            if what == "journal":
-                self.journal = change(draw, index, self.journal)
+        """Changes the files of these names, or the words, to others that are near them."""
+        for _ in range(self.draw.choice((1, 1, 2, 4))):
             if what == "words" and self.words:
-                change_words(draw, self.words)
+                change_words(self.draw, self.words)
                 self.is_whole = False
+            for name in what if what != "words" else "":
+                self.files[name] = change(self.draw, self.index, self.files[name])
 
-    def take_run(self, answer, journal):
-        """Takes the answer and the journal of the run, and changes one of the files, or none, or puts any steps in the journal's place."""
-        self.answer, self.journal = answer, journal
-        self.ran, self.steps = self.files(), journal_of(journal, self.stages(), self.workers)
-        what = self.draw.choices(("none", "journal", "steps", "answer", "events", "config"), (10, 50, 10, 10, 10, 10))[0]
-        if what == "steps":
-            self.journal = any_steps(self.draw, self.stages(), self.workers)
-        else:
+    def take_run(self, written):
+        """Takes the files that the run before wrote and this one reads, and changes one of the files, or none, or puts any steps or lines in the
+        place of the last one."""
+        last = "j" if self.command == "audit" else "s"
+        self.files |= {name: written[name] for name in ("oj" if last == "j" else "s")}
+        self.ran, self.steps = dict(self.files), journal_of(self.files["j"], self.stages(), self.workers)
+        what = self.draw.choices(("", last, "any", "o", "e", "c"), (10, 50, 10, 10, 10, 10))[0]
+        if what != "any":
             self.change(what)
-
-    def files(self):
-        """What the files hold before the run."""
-        return {"e": self.events, "p": self.pipe, "c": self.config, "o": self.answer, "r": OLD, "j": self.journal}
+        elif last == "j":
+            self.files["j"] = any_steps(self.draw, self.stages(), self.workers)
+        else:
+            self.files["s"] = any_checkpoint(self.draw, self.query, self.configuration().values())
+            self.change(self.draw.choice(("", "s")))
 
     def written(self):
         """The files that may hold something else after a run that isn't refused."""
         if self.is_whole:
-            return {b"o", b"r", b"j"} & set(self.words) if self.command in ("run", "replay", "make") else set()
+            names = {b"o", b"r", b"j"} | ({b"s"} if b"--save" in self.words else set())
+            return names & set(self.words) if self.command in ("run", "replay", "make") else set()
         return set(self.words) | {word.partition(b"=")[2] for word in self.words}
 
     def stages(self):
         """How many stages the query has, or the first bad line of its pipeline and the check that it fails."""
-        return STAGES[self.query] if self.query in STAGES else stages_of(self.pipe)
+        return STAGES[self.query] if self.query in STAGES else stages_of(self.files["p"])
+
+    def configuration(self):
+        """The configuration of the query, or its first bad line and the check that it fails."""
+        return configuration_of(self.files["c"], self.query, self.stages(), self.workers, self.bins)
+
+    def is_checkpoint(self, text):
+        """Whether a text is the file of a checkpoint of the query, with the values that the configuration gives its rules."""
+        return is_checkpoint(text, self.query, self.configuration().values())
 
     def wanted(self):
         """The status and the line of each end that the readers find right, where the words are whole and the files are read."""
         if not self.is_whole or self.command in ("make", "demo"):
             return None
-        events = events_of(self.events)
+        events = events_of(self.files["e"])
         if isinstance(events, tuple):
             return [(3, b"events line %d: %s\n" % (events[0], events[1].encode()))]
         stages = self.stages()
         if isinstance(stages, tuple):
             return [(12, b"pipe line %d: %s\n" % (stages[0], stages[1].encode()))]
-        controls = controls_of(self.config, self.query, stages, self.workers, self.bins)
-        if isinstance(controls, tuple):
-            return [(4, b"config line %d: %s\n" % (controls[0], controls[1].encode()))]
+        read = self.configuration()
+        if isinstance(read, tuple):
+            return [(4, b"config line %d: %s\n" % (read[0], read[1].encode()))]
         if self.command == "audit":
-            return self.wanted_of_audit(journal_of(self.journal, stages, self.workers))
-        return [(0, b"ok %d events %d controls\n" % (events, controls) if self.command == "check" else b"")]
+            return self.wanted_of_audit(journal_of(self.files["j"], stages, self.workers))
+        if b"--from" in self.words and not self.is_checkpoint(self.files["s"]):
+            return [(11, b"bad checkpoint s\n")]
+        return [(0, b"ok %d events %d controls\n" % (events, read.count) if self.command == "check" else b"")]
 
     def wanted_of_audit(self, steps):
         """The same of an audit whose other files are whole: the run is legal, and another answer isn't, nor are more or fewer of the steps that
@@ -308,7 +349,7 @@ class Case:
         if isinstance(steps, tuple):
             return [(14, b"journal line %d: %s\n" % (steps[0], steps[1].encode()))]
         legal, none = (0, b"legal %d steps\n" % len(steps)), (13, b"no legal run\n")
-        changed = {name for name, held in self.files().items() if self.ran is None or held != self.ran[name]}
+        changed = {name for name, held in self.files.items() if self.ran is None or held != self.ran[name]}
         if changed <= {"j"} and steps == self.steps:
             return [legal]
         if "o" in changed or changed == {"j"} and owed_in(steps) != owed_in(self.steps):
@@ -339,11 +380,13 @@ def wrong_in(case, status, said):
         return f"status {status} says {said}, and not {wanted}"
     if case.is_whole and not wanted and status != 0:
         return f"status {status} of whole words"
-    before = case.files()
+    before = case.files
     after = {name: read(name) for name in os.listdir(".")}
     for name in before.keys() | after.keys():
         if before.get(name) != after.get(name) and (status not in (0, 7) or os.fsencode(name) not in case.written()):
             return f"status {status} changes {name}"
     if case.is_whole and status == 0 and b"j" in case.written() and isinstance(journal_of(after["j"], case.stages(), case.workers), tuple):
         return "the journal has a bad line"
+    if case.is_whole and status == 0 and b"s" in case.written() and not case.is_checkpoint(after["s"]):
+        return "what is saved is no checkpoint"
     return None

@@ -1,7 +1,10 @@
-"""What the event file, the pipeline, the configuration and the journal hold, read as docs/FORMATS.md says, and not as the program does."""
+"""What the event file, the pipeline, the configuration, the checkpoint and the journal hold, read as docs/FORMATS.md says, and not as the
+program does."""
 TIME, NUMBER, PRICE, COUNT, VERSION = 1 << 47, 1 << 48, 10**12, 1_000_000, 1 << 48
 MOST_CONTROLS, MOST_SHIFT, MOST_SIZE = 65_536, 255, 4096
 MOST_STAGES, COMPARED, WIDTH = 4, 10**18, 43_200
+# The greatest time of a wake, and the greatest sum of prices.
+LAST, TOTAL = TIME + WIDTH, 10**18
 NAME = object()
 
 
@@ -30,6 +33,10 @@ RULES = {
     "q8": {b"width": up_to(43_200, 1)},
     "pipe": {},
 }
+# The values that they have where no line gives them others.
+GIVEN = {"q1": (89, 100), "q2": (123,), "q3": (10,), "q4": (), "q5": (600, 6), "q6": (10,), "q7": (600,), "q8": (43_200,), "pipe": ()}
+# The queries that wake keys.
+WAKING = ("q4", "q5", "q6", "q7", "q8")
 
 
 def all_lines(text):
@@ -131,10 +138,12 @@ def stages_of(text):
 
 
 class Configuration:
-    """The lines of a configuration that were read so far: its version, its control records, and what first owners and rules."""
+    """The lines of a configuration that were read so far: its version, its control records, what first owners and rules, and the values of all
+    rules."""
 
     def __init__(self, query, stages, workers, bins):
         self.workers, self.bins, self.rules = workers, bins, RULES[query]
+        self.said_values = dict(zip(self.rules, GIVEN[query]))
         self.version, self.count, self.late, self.said = None, 0, False, set()
         # By stage and bin its first owner, and the time, the number and the worker of each of its control records.
         self.firsts, self.records = {}, {}
@@ -147,6 +156,10 @@ class Configuration:
         }
         self.drain = [time, time, stage, worker]
         self.first = [stage, range(bins), worker]
+
+    def values(self):
+        """The values of the rules, in their order."""
+        return list(self.said_values.values())
 
     def form(self, kind, fields):
         """What a line of this kind holds behind its kind; None where no such line may stand here."""
@@ -173,6 +186,7 @@ class Configuration:
             self.version = value_of(fields[0])
             return None
         if kind == b"rule":
+            self.said_values[fields[0]] = value_of(fields[1])
             return self.keep_setting(fields[0])
         values = [value_of(field) for field in fields]
         if kind == b"first":
@@ -220,13 +234,100 @@ class Configuration:
         return others[turn % len(others)] if others else worker
 
 
-def controls_of(text, query, stages, workers, bins):
-    """How many control records there are, or the first bad line and the check that it fails."""
+def configuration_of(text, query, stages, workers, bins):
+    """The configuration, or the first bad line and the check that it fails."""
     read = Configuration(query, stages, workers, bins)
     for number, line in lines_of(text):
         if fault := read.fault(line):
             return number, fault
-    return read.count
+    return read
+
+
+def said(word):
+    """The number that a word without leading zeros says; -1 where it says none, or one of more than twenty digits."""
+    is_number = word.isdigit() and len(word) <= 20 and (word == b"0" or word[:1] != b"0")
+    return int(word) if is_number else -1
+
+
+def are_said(words, limits):
+    """Whether words say numbers within these limits, one for each."""
+    return len(words) == len(limits) and all(said(word) in limit for word, limit in zip(words, limits))
+
+
+def is_person_or_waits(words):
+    """Whether words say a person, or the auctions that wait for one."""
+    if words[0] == b"1":
+        return len(words) == 4 and all(field_fault(word, NAME) is None for word in words[1:])
+    return words[0] == b"0" and 1 <= len(words) - 1 <= COUNT and are_said(words[1:], [up_to(NUMBER)] * (len(words) - 1))
+
+
+def is_bidding(words):
+    """Whether words say a lot, the best bid for it, or both."""
+    has_lot, bid = words[0] == b"1", words[5 if words[0] == b"1" else 1 :]
+    lot = [up_to(NUMBER), up_to(NUMBER), up_to(PRICE), up_to(TIME)] if has_lot else []
+    best = [up_to(PRICE)] if bid[:1] == [b"1"] else []
+    is_some = words[0] in (b"0", b"1") and bid[:1] in ([b"0"], [b"1"]) and (has_lot or best)
+    return bool(is_some) and are_said(words[1 : 1 + len(lot)], lot) and are_said(bid[1:], best)
+
+
+def is_seller(words):
+    """Whether words say a name, that it sells, or both."""
+    if words[0] == b"1":
+        return len(words) == 3 and field_fault(words[1], NAME) is None and words[2] in (b"0", b"1")
+    return words == [b"0", b"1"]
+
+
+def are_times(words, until):
+    """Whether words say times of bids, none below the one before, all below the time of the checkpoint."""
+    times = [said(word) for word in words]
+    return len(times) <= COUNT and all(time in range(until) for time in times) and times == sorted(times)
+
+
+def is_cell(query, stage, words, until, values):
+    """Whether words say a cell of a stage that may be saved at this time."""
+    match query, stage:
+        case "q3", 0:
+            return is_person_or_waits(words)
+        case "q4" | "q6", 0:
+            return is_bidding(words)
+        case "q4", 1:
+            return are_said(words, [up_to(TOTAL), up_to(COUNT, 1)])
+        case "q6", 1:
+            return len(words) <= values[0] and are_said(words, [up_to(PRICE)] * len(words))
+        case "q5", 0:
+            return are_times(words, until)
+        case "q7", 0:
+            return are_said(words, [up_to(NUMBER), up_to(NUMBER), up_to(PRICE)])
+        case "q8", 0:
+            return is_seller(words)
+    return False
+
+
+def place_of(line, query, until, values):
+    """The place of a line between the first and the last of a checkpoint, as its stage, its key, whether it is a wake and the wake's time; None where no
+    such line may stand there."""
+    kind, *words = line.split(b"|")
+    if len(words) < 3 or said(words[1]) not in up_to(NUMBER):
+        return None
+    stage, key = map(said, words[:2])
+    if kind == b"c" and is_cell(query, stage, words[2:], until, values):
+        return stage, key, 0, 0
+    if kind == b"w" and query in WAKING and stage == 0 and are_said(words[2:], [up_to(LAST, until)]):
+        return stage, key, 1, said(words[2])
+    return None
+
+
+def is_checkpoint(text, query, values):
+    """Whether a text is the file of a checkpoint of this query, with these values of its rules."""
+    if text.count(b"\n") < 2:
+        return False
+    first, *lines, last, behind = text.split(b"\n")
+    head, given = first.split(b"|"), [b"%d" % value for value in values]
+    if len(head) < 4 or head[:3] + head[4:] != [b"K", b"1", query.encode(), *given] or said(head[3]) not in up_to(TIME, 1):
+        return False
+    places = [place_of(line, query, said(head[3]), values) for line in lines]
+    ascend = None not in places and all(before < place for before, place in zip(places, places[1:]))
+    return ascend and last == b"E|%d" % len(lines) and behind == b""
 
 
 def steps_of(stages, workers):
