@@ -1,5 +1,5 @@
 //! Lots of q4 that are open or sold when the job stops.
-ghost use Rattle.std.specs.Prelude.{◌≤◌};
+ghost use Rattle.std.specs.Prelude.{◌≡◌, ◌≤◌, IfOk, None};
 
 use crate::saving::leaves;
 use mp_control::{RuleList, read_settings};
@@ -20,6 +20,7 @@ const SHAPE: Shape = Shape {
 fn job_until(alloc: Global, text: &[u8], time: u64) -> Result<Job<Q4>, Fail>
     requires first { 1 ≤ time }
     requires last { time ≤ 1000 }
+    ensures fresh { IfOk result (λ job. job.from ≡ None) }
 {
     let events = read_events(alloc, text)?;
     let moves = b"all|30|0|1\nall|30|1|1\nall|60|0|1\nall|60|1|0\n";

@@ -1,4 +1,6 @@
 //! Persons of q8 whose first day isn't over when the job stops.
+ghost use Rattle.std.specs.Prelude.{◌≡◌, IfOk, None};
+
 use crate::saving::leaves;
 use mp_events::read_events;
 use mp_job::{Job, JobInputs};
@@ -14,7 +16,9 @@ const SHAPE: Shape = Shape {
 };
 
 /// A job of these events that stops at 150.
-fn job_until_150(alloc: Global, text: &[u8]) -> Result<Job<Q8>, Fail> {
+fn job_until_150(alloc: Global, text: &[u8]) -> Result<Job<Q8>, Fail>
+    ensures fresh { IfOk result (λ job. job.from ≡ None) }
+{
     let inputs = JobInputs {
         events: read_events(alloc, text)?,
         controls: Vec::new(alloc),

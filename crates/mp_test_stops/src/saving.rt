@@ -1,5 +1,5 @@
 //! What the workers of a job that stops write and leave.
-ghost use Rattle.std.specs.Prelude.{◌≡◌, false};
+ghost use Rattle.std.specs.Prelude.{◌≡◌, None, false};
 ghost use Rattle.mp_job.specs.Runs.{IsRunOf};
 ghost use Rattle.mp_model.specs.Tables.{table_of};
 ghost use Rattle.mp_output.specs.Rows.{GivesRows};
@@ -27,6 +27,7 @@ pub fn leaves<Q: Saved>(
     answer: &[u8],
     file: &[u8],
 ) -> Result<(), Fail>
+    requires fresh { job.now.from ≡ None }
     requires rows { GivesRows (table_of Q.facts job.now) }
 {
     for seed in 0..4 {
@@ -50,6 +51,7 @@ fn left<Q: Saved, J: Naming>(
 ) -> Result<Checkpoint<Q>, Cause>
     requires job { IsRunOf job.now J.job }
     requires pace { J.job.paced ≡ false }
+    requires fresh { J.job.from ≡ None }
     requires rows { GivesRows (table_of Q.facts J.job) }
 {
     let mut sink = MemSink::new(alloc);
