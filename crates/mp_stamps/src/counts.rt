@@ -151,7 +151,8 @@ impl Counts {
         if place >= self.rows.len() {
             return 0;
         }
-        match self.times.binary_search(&time) {
+        let near = self.near(place, time);
+        match index_of(&self.times, near, time) {
             Ok(index) => self.rows[place].at(index),
             Err(_) => 0,
         }
