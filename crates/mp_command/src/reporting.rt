@@ -1,5 +1,6 @@
 //! The report's way into its file, and the journal's.
-ghost use Rattle.std.specs.Prelude.{◌≡◌, ◌<◌, ◌≤◌, ◌^◌, ℕ, Err, IfErr, OnErr, OnOk, Some, length, map, option_map, take};
+ghost use Rattle.std.specs.Prelude.{◌≡◌, ◌<◌, ◌≤◌, ◌^◌, ℕ, Err, IfErr, OnErr, OnOk, Some, [], length, map, option_map, take};
+ghost use Rattle.std.specs.Option.{ForSome};
 ghost use Rattle.mp_model.specs.Tables.{table_of};
 ghost use Rattle.mp_output.specs.declared.refused.OutRefused.TheVariants.{WriteFault};
 ghost use Rattle.mp_outside.specs.Fault.{Rose};
@@ -11,6 +12,7 @@ ghost use Rattle.mp_command.specs.Refused.{EndsAs, outcome_of};
 ghost use Rattle.mp_command.specs.Writing.{Journal, Report, WritesAll, WritesSome, target_in};
 
 use crate::refusal::Refusal;
+use mp_buffered::{Buffered, room};
 use mp_job::Job;
 use mp_journal::Kept;
 use mp_model::Query;
@@ -116,7 +118,29 @@ fn journal_at<'a, D: Depot>(
 {
     depot.begin(name)?;
     let mut sink = DepotSink::new(depot, name);
-    write_lists(alloc, lists, &mut sink)?;
+    write_gathered(alloc, lists, &mut sink)?;
+    Ok(())
+}
+
+/// Writes the lines of the steps of one worker after the other, in long pieces. The refusals are those of one list.
+fn write_gathered<S: Sink>(
+    alloc: Global,
+    lists: &[Vec<Kept>],
+    sink: &mut S,
+) -> Result<(), OutRefused>
+    requires few { length lists.now < 2 ^ 32 }
+    requires begun { ForSome (S.written sink.old) (λ bytes. bytes ≡ []) }
+    ensures whole { OnOk result
+        (S.written sink.new ≡ grown (S.written sink.old) (journal_text (map (λ v. v.items) lists.now))) }
+    ensures part { OnErr result ((k : ℕ)
+        × (S.written sink.new ≡ grown (S.written sink.old) (take k (journal_text (map (λ v. v.items) lists.now))))) }
+    ensures failed { result ≡ Err WriteFault → Rose (S.faults sink.old) (S.faults sink.new) }
+    ensures appends_only { OnlyAppends S.frame S.faults sink.old sink.new }
+{
+    let mut room = room(alloc)?;
+    let mut buffered = Buffered::new(sink, &mut room);
+    write_lists(alloc, lists, &mut buffered)?;
+    buffered.flush()?;
     Ok(())
 }
 
