@@ -2,8 +2,9 @@
 ghost use Rattle.std.specs.Prelude.{◌≡◌, ◌≤◌, OnOk};
 ghost use Rattle.mp_outside.specs.Files.{with_file};
 
+use mp_buffered::{Buffered, room};
 use mp_outside::{
-    Depot, Fault, HostDepot, MemDepot, MemSink, NeverFails, Op, ReadRefused, append_piece,
+    Depot, Fault, HostDepot, MemDepot, MemSink, NeverFails, Op, ReadRefused, Sink, append_piece,
     read_all, write_piece,
 };
 use std::alloc::{AllocError, Global};
@@ -97,7 +98,7 @@ fn faulty_sink(alloc: Global) -> Result<MemSink, AllocError> {
     Ok(sink)
 }
 
-fn takes(rt: &impl Abort, sink: &mut MemSink, piece: &[u8], is_taken: bool) {
+fn takes<S: Sink>(rt: &impl Abort, sink: &mut S, piece: &[u8], is_taken: bool) {
     assert!(rt; write_piece(sink, piece).is_ok() == is_taken);
 }
 
@@ -108,6 +109,24 @@ fn sinks_in_memory(rt: HostRuntime) -> Result<(), AllocError> {
     takes(&rt, &mut sink, b"lost", false);
     takes(&rt, &mut sink, b", last", true);
     assert!(rt; sink.bytes() == b"first, last".as_slice());
+    Ok(())
+}
+
+/// The first write takes two bytes of what waits and the second fails, so a long piece is refused. All others arrive, in order.
+#[test]
+fn sink_behind_a_buffer(rt: HostRuntime) -> Result<(), AllocError> {
+    let mut sink = faulty_sink(rt.alloc())?;
+    sink.take_at_most(2);
+    let mut room = room(rt.alloc())?;
+    let long = vec![in rt.alloc(); b'-'; 65_537]?;
+    let mut buffered = Buffered::new(&mut sink, &mut room);
+    takes(&rt, &mut buffered, b"first", true);
+    takes(&rt, &mut buffered, long.as_slice(), false);
+    takes(&rt, &mut buffered, b", last", true);
+    takes(&rt, &mut buffered, long.as_slice(), true);
+    assert!(rt; buffered.flush().is_ok());
+    assert!(rt; sink.bytes().starts_with(b"first, last-"));
+    assert!(rt; sink.bytes().len() == 11 + long.len());
     Ok(())
 }
 
