@@ -114,10 +114,10 @@ def audits():
     yield f"an audit of {most:,} lines of one kind, no event", "audit --query q1 --journal j", {"e": b"", "c": b"", "o": b"", "j": b"s|0|I\n" * most}, 13
 
 
-def full(first, line):
-    """A checkpoint of the greatest size: its first line, as many lines by their number as fit in, and its last line."""
+def full(first, line, most=MOST):
+    """A checkpoint of so many bytes: its first line, as many lines by their number as fit in, and its last line."""
     text, count = bytearray(first), 0
-    while len(text) < MOST - 100:
+    while len(text) < most - 100:
         text += line(count)
         count += 1
     return bytes(text) + b"E|%d\n" % count
@@ -136,17 +136,18 @@ def restarts():
         ("1,000,000 auctions are open", open_auctions(count)),
         ("1,000,000 auctions end at one time", b"".join(b"A|%d|%d|7|10|0|%d\n" % (i, i, 2 * count) for i in range(count))),
     ):
-        yield f"{what}, stop, q4", f"run --query q4 {stop}", {"e": events, "c": moves, "o": OLD}, 0
+        yield f"{what}, stop, q4", f"run --query q4 --workers 2 --bins 1 {stop}", {"e": events, "c": moves, "o": OLD}, 0
         yield "going on, their bin moves 16 times", "replay --query q4 --workers 2 --bins 1 --from s", None, 0
         yield "going on, --workers 4 --bins 4096", "replay --query q4 --workers 4 --bins 4096 --from s", None, 0
     yield "1,000,000 bids, stop, q5", f"run --query q5 {stop}", {"e": bids(count, lambda i: i, lambda i: i % 100_003), "c": b"", "o": OLD}, 0
     yield "going on", "run --query q5 --from s", None, 0
     none = {"e": b"", "c": b"", "o": b""}
-    lots, wakes = full(b"K|1|q4|50\n", lambda i: b"c|0|%d|0|1|7\n" % i), full(b"K|1|q4|50\n", lambda i: b"w|0|%d|50\n" % i)
-    later = full(b"K|1|q4|50\n", lambda i: b"w|0|7|%d\n" % (50 + i))
-    yield "a checkpoint of 2^28 bytes, all lines cells, q4", "run --query q4 --from s", none | {"s": lots}, 0
-    yield "one of wakes of as many keys at one time, q4", "run --query q4 --bins 1 --from s", none | {"s": wakes}, 0
-    yield "one of wakes of one key, q4", "run --query q4 --from s", none | {"s": later}, 0
+    wakes = full(b"K|1|q4|50\n", lambda i: b"w|0|%d|50\n" % i)
+    lots = full(b"K|1|q4|50\n", lambda i: b"c|0|%d|0|1|7\n" % i, MOST // 2)
+    later = full(b"K|1|q4|50\n", lambda i: b"w|0|7|%d\n" % (50 + i), MOST // 2)
+    yield "a checkpoint of 2^28 bytes, wakes of as many keys at one time, q4", "run --query q4 --bins 1 --from s", none | {"s": wakes}, 0
+    yield "one of 2^27 bytes, all lines cells, q4", "run --query q4 --from s", none | {"s": lots}, 0
+    yield "one of 2^27 bytes, wakes of one key, q4", "run --query q4 --from s", none | {"s": later}, 0
     yield "one whose last line lacks its end, q4", "run --query q4 --from s", none | {"s": wakes[:-1]}, 11
     yield "one of one cell with too many ids, q3", "run --query q3 --from s", none | {"s": b"K|1|q3|50|10\nc|0|7|0" + b"|5" * (MOST // 2 - 20) + b"\nE|1\n"}, 11
     lists = b"".join(b"c|0|%d|49" % key + b"|49" * 999_999 + b"\n" for key in range(80))
