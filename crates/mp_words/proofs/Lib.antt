@@ -1,4 +1,4 @@
 pub mod Numbers
-pub mod Shapes
 pub mod Faults
 pub mod Powers
+pub mod Tables
