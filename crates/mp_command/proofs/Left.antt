@@ -1,5 +1,5 @@
 -- What the events of a job leave at a time, where the job stops there.
-use Rattle.std.proofs.Common.{◌≡◌, ◌∙◌, ℕ, List, None, Ok, Err, Option, Result, Some, ap, sym}
+use Rattle.std.proofs.Common.{◌≡◌, ◌∙◌, ℕ, List, None, Ok, Err, Result, Some, ap, sym}
 use Rattle.std.specs.Prelude.{IfOk}
 use Rattle.mp_model.specs.Facts.{JobFacts, QueryFacts}
 use Rattle.mp_model.specs.Legal.{EventsAreLegal}

@@ -1,5 +1,5 @@
 -- The name holds what was written of the file, since it was begun.
-use Rattle.std.proofs.Common.{◌≡◌, ◌∙◌, ap, inl, inr, length, refl, rules, sym, take}
+use Rattle.std.proofs.Common.{◌∙◌, ap, inl, inr, length, refl, rules, sym, take}
 use Rattle.std.proofs.lemmas.Result.{err_from_is_err_and}
 use Rattle.std.proofs.Math.Seq.{take-append_seam}
 use Rattle.mp_checkpoint_laws.specs.Files.{file_text, lines_of}
