@@ -1,6 +1,6 @@
 -- What clap's clauses come to at the command set.
 use Rattle.std.proofs.Common.{◌≡◌, ◌∙◌, refl, sym, subst, true, ℕ, List, [], ◌∷◌, Option, Some, None, inl, inr, ap, option_map}
-use Rattle.std.specs.Prelude.{Result, Ok, Err, IsErrAnd, MatchResult, option_and_then}
+use Rattle.std.specs.Prelude.{MatchResult, option_and_then}
 use Rattle.std.specs.Option.{ok_or}
 use Rattle.clap.specs.Words.{App, HasKind, HasMatchesOf, Kinds, fault_of, is_simple, Row, is_simple_and_free, kind_of, subcommand_of, subcommand_rows_of}
 use Rattle.clap.specs.declared.error.Error.{Error}
@@ -10,7 +10,6 @@ use Rattle.mp_words.specs.Command.{command_app}
 use Rattle.mp_words.specs.Refused.{refusal_of}
 use Rattle.mp_words.specs.Words.{Asked, asked_in, asked_of, command_of, values_in, values_without}
 use Rattle.mp_words.specs.declared.options.Command.{Command}
-use Rattle.mp_words.specs.declared.refused.WordsRefused.{WordsRefused}
 use Rattle.mp_words.specs.declared.refused.WordsRefused.TheVariants.{Usage, NoMemory}
 
 -- clap's definitions say all of what it does with this command
@@ -47,12 +46,6 @@ taken app words m same none found =
     let clean : fault_of command_app words ≡ [] = subst (λ (a : App). fault_of a words ≡ []) same none in
     ap (option_and_then asked_of) rows
     ∙ ap (λ (faults : Kinds). option_and_then asked_of (values_without faults (subcommand_of command_app words))) (sym clean)
-
--- an error is that of the words
-pub handed_on : (asked : Option Asked) (why : WordsRefused) (r : Result Command WordsRefused) → IsErrAnd r (λ e. e ≡ why) → (why ≡ Usage → asked ≡ None)
-    → MatchResult r (λ command. asked ≡ Some (asked_in command)) (λ e. e ≡ Usage → asked ≡ None)
-handed_on asked why (Ok command) is none = absurd is
-handed_on asked why (Err e) is none = λ usage. none (sym is ∙ usage)
 
 -- an answer is that of the words
 pub answered : (asked : Option Asked) (o : Option Command) → option_map asked_in o ≡ asked

@@ -1,9 +1,10 @@
-//! The command set, as clap is told it.
+//! The command set, as clap is told it: by tables, so that one loop adds all options and one all commands.
 ghost use Rattle.std.specs.Prelude.{◌≡◌, IfOk, false};
 ghost use Rattle.clap.specs.Words.{app_of, rule_of};
 ghost use Rattle.mp_words.specs.Command.{bare, command_app, valued};
 ghost use Rattle.mp_words.specs.Tables.{Denotes, rule_in, shape_with, with_all};
 
+use OptionRule::{Defaulted, Flag, Needed, Valued};
 use clap::{Arg, ArgAction, Command};
 use std::alloc::{AllocError, Global};
 
@@ -18,8 +19,6 @@ enum OptionRule {
     /// It takes no value.
     Flag(&'static str),
 }
-
-use OptionRule::{Defaulted, Flag, Needed, Valued};
 
 /// A command's name and its options.
 struct CommandRule {

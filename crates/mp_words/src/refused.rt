@@ -2,7 +2,6 @@
 ghost use Rattle.mp_words.specs.declared.refused.WordsRefused.TheVariants.{Usage, NoMemory};
 
 use clap::error::ErrorKind;
-use std::alloc::AllocError;
 use std::error::Error;
 use std::fmt;
 
@@ -13,16 +12,6 @@ pub enum WordsRefused {
     Usage,
     /// Memory ran out.
     NoMemory,
-}
-
-impl From<AllocError> for WordsRefused {
-    ghost use Rattle.std.specs.Prelude.{◌≡◌};
-
-    ghost from_gives = { λ _ why. why ≡ NoMemory };
-
-    fn from(_error: AllocError) -> WordsRefused {
-        WordsRefused::NoMemory
-    }
 }
 
 impl From<clap::Error> for WordsRefused {

@@ -1,46 +1,129 @@
-//! The values of the options, checked one by one.
+//! The values of the options, checked one by one. Each is taken by a `match` or a `let .. else`: for a `?` the proof writes
+//! out two calls more, which costs it twice the time.
 ghost use Rattle.std.specs.Prelude.{◌≡◌, ◌≤◌, ◌++◌, IfSome, codes, option_map, option_and_then};
 ghost use Rattle.std.specs.Option.{option_to_list};
 ghost use Rattle.clap.specs.Words.{first_of, found_of, rows_of};
-ghost use Rattle.mp_words.specs.Limits.{AreWithinLimits, AuditIsWithinLimits, CheckIsWithinLimits, DemoIsWithinLimits};
-ghost use Rattle.mp_words.specs.Limits.{IsBinCount, IsPositiveUpTo, MakeIsWithinLimits, SeedIsWithinLimit, SpanIsWithinLimit};
+ghost use Rattle.mp_words.specs.Limits.{AreWithinLimits, IsBinCount, IsPositiveUpTo, IsWithinLimits, SeedIsWithinLimit, SpanIsWithinLimit};
 ghost use Rattle.mp_names.specs.Limits.{greatest_seed, greatest_time, most_bins, most_events};
-ghost use Rattle.mp_words.specs.Values.{audit_in, audit_of, check_in, check_of, count_of, demo_of, make_in, make_of, number_up_to, options_in};
+ghost use Rattle.mp_words.specs.Reading.{SizeIsWithinLimits, inputs_read, size_read};
+ghost use Rattle.mp_words.specs.Values.{audit_of, check_of, count_of, demo_of, inputs_of, make_of, number_up_to, options_in, size_of};
 ghost use Rattle.mp_words.specs.Values.{are_apart, checkpoint_names, is_among, is_set, names_are_apart, options_of, pipe_names, positive_up_to, power_up_to};
 ghost use Rattle.mp_words.specs.Values.{query_asked, query_in, query_of, read_names, replay_of, save_names, seed_of, span_asked, span_in, span_is_allowed};
+ghost use Rattle.mp_words.specs.Words.{Audit, Check, Demo, Make, Run, asked_in};
 
 use crate::options::{
-    AuditOptions, CheckOptions, DemoOptions, MakeOptions, QueryName, QueryOption, RunOptions,
-    Schedule, Span,
+    AuditOptions, CheckOptions, Command, DemoOptions, MakeOptions, QueryName, QueryOption,
+    RunOptions, Schedule, Span,
 };
 use clap::ArgMatches;
 use mp_names::limits::{MAX_BINS, MAX_DEPTH, MAX_EVENTS, MAX_SEED, MAX_TIME, MAX_WORKERS};
 use mp_text::number;
 
+// What a run reads, but for a checkpoint.
+#[derive(Clone, Copy)]
+struct Inputs<'a> {
+    query: QueryOption<'a>,
+    events: &'a str,
+    config: &'a str,
+}
+
+// How great it is.
+#[derive(Clone, Copy)]
+struct Size {
+    workers: u32,
+    bins: u32,
+    depth: u32,
+}
+
 /// What the options of `run` or `replay` ask for, with this schedule, or `None` where a value isn't allowed.
-pub fn run_options<'a>(matches: &ArgMatches<'a>, schedule: Schedule) -> Option<RunOptions<'a>>
+pub fn run_command<'a>(matches: &ArgMatches<'a>, schedule: Schedule) -> Option<Command<'a>>
+    requires { SeedIsWithinLimit schedule }
+    ensures asked { option_map asked_in result ≡ option_map Run (options_of schedule (rows_of (found_of matches.now))) }
+    ensures within { IfSome result IsWithinLimits }
+{
+    match run_options(matches, schedule) {
+        Some(options) => Some(Command::Run(options)),
+        None => None,
+    }
+}
+
+/// The options that they ask for.
+fn run_options<'a>(matches: &ArgMatches<'a>, schedule: Schedule) -> Option<RunOptions<'a>>
     requires { SeedIsWithinLimit schedule }
     ensures asked { option_map options_in result ≡ options_of schedule (rows_of (found_of matches.now)) }
     ensures within { IfSome result AreWithinLimits }
 {
+    let Some(inputs) = inputs_in(matches) else {
+        return None;
+    };
+    let Some(out) = text(matches, "out") else {
+        return None;
+    };
+    let Some(size) = size_in(matches) else {
+        return None;
+    };
+    let Some(span) = span_option(matches) else {
+        return None;
+    };
     let options = RunOptions {
-        query: query_option(matches)?,
-        events: text(matches, "events")?,
-        config: text(matches, "config")?,
-        out: text(matches, "out")?,
+        query: inputs.query,
+        events: inputs.events,
+        config: inputs.config,
+        out,
         report: text(matches, "report"),
         journal: text(matches, "journal"),
-        workers: positive_in(matches, "workers", MAX_WORKERS)?,
-        bins: bins_in(matches)?,
-        depth: positive_in(matches, "depth", MAX_DEPTH)?,
+        workers: size.workers,
+        bins: size.bins,
+        depth: size.depth,
         schedule,
         paced: flag_in(matches, "paced"),
-        span: span_option(matches)?,
+        span,
     };
     if names_are_apart(&options) && span_is_allowed(&options) {
         Some(options)
     } else {
         None
+    }
+}
+
+/// What a run is asked to read.
+fn inputs_in<'a>(matches: &ArgMatches<'a>) -> Option<Inputs<'a>>
+    ensures { option_map inputs_read result ≡ inputs_of (rows_of (found_of matches.now)) }
+{
+    let Some(query) = query_option(matches) else {
+        return None;
+    };
+    let Some(events) = text(matches, "events") else {
+        return None;
+    };
+    match text(matches, "config") {
+        Some(config) => Some(Inputs {
+            query,
+            events,
+            config,
+        }),
+        None => None,
+    }
+}
+
+/// How great it is asked to be.
+fn size_in(matches: &ArgMatches) -> Option<Size>
+    ensures size { option_map size_read result ≡ size_of (rows_of (found_of matches.now)) }
+    ensures within { IfSome result SizeIsWithinLimits }
+{
+    let Some(workers) = positive_in(matches, "workers", MAX_WORKERS) else {
+        return None;
+    };
+    let Some(bins) = bins_in(matches) else {
+        return None;
+    };
+    match positive_in(matches, "depth", MAX_DEPTH) {
+        Some(depth) => Some(Size {
+            workers,
+            bins,
+            depth,
+        }),
+        None => None,
     }
 }
 
@@ -156,72 +239,117 @@ fn span_is_allowed(options: &RunOptions) -> bool
 }
 
 /// What the options of `replay` ask for, or `None` where a value isn't allowed.
-pub fn replay_options<'a>(matches: &ArgMatches<'a>) -> Option<RunOptions<'a>>
-    ensures asked { option_map options_in result ≡ replay_of (rows_of (found_of matches.now)) }
-    ensures within { IfSome result AreWithinLimits }
+pub fn replay_command<'a>(matches: &ArgMatches<'a>) -> Option<Command<'a>>
+    ensures asked { option_map asked_in result ≡ option_map Run (replay_of (rows_of (found_of matches.now))) }
+    ensures within { IfSome result IsWithinLimits }
 {
-    let seed = seed_in(matches)?;
-    run_options(matches, Schedule::Seeded(seed))
+    match seed_in(matches) {
+        Some(seed) => run_command(matches, Schedule::Seeded(seed)),
+        None => None,
+    }
 }
 
 /// What the options of `audit` ask for, or `None` where a value isn't allowed: what `run` would with them, and a journal.
-pub fn audit_options<'a>(matches: &ArgMatches<'a>) -> Option<AuditOptions<'a>>
-    ensures asked { option_map audit_in result ≡ audit_of (rows_of (found_of matches.now)) }
-    ensures within { IfSome result AuditIsWithinLimits }
+pub fn audit_command<'a>(matches: &ArgMatches<'a>) -> Option<Command<'a>>
+    ensures asked { option_map asked_in result ≡ option_map Audit (audit_of (rows_of (found_of matches.now))) }
+    ensures within { IfSome result IsWithinLimits }
 {
-    let run = run_options(matches, Schedule::Threads)?;
-    Some(AuditOptions {
-        query: run.query,
-        events: run.events,
-        config: run.config,
-        out: run.out,
-        journal: run.journal?,
-        workers: run.workers,
-        bins: run.bins,
-        depth: run.depth,
-        paced: run.paced,
-    })
+    let Some(run) = run_options(matches, Schedule::Threads) else {
+        return None;
+    };
+    match run.journal {
+        Some(journal) => Some(Command::Audit(AuditOptions {
+            query: run.query,
+            events: run.events,
+            config: run.config,
+            out: run.out,
+            journal,
+            workers: run.workers,
+            bins: run.bins,
+            depth: run.depth,
+            paced: run.paced,
+        })),
+        None => None,
+    }
 }
 
 /// What the options of `check` ask for, or `None` where a value isn't allowed.
-pub fn check_options<'a>(matches: &ArgMatches<'a>) -> Option<CheckOptions<'a>>
-    ensures asked { option_map check_in result ≡ check_of (rows_of (found_of matches.now)) }
-    ensures within { IfSome result CheckIsWithinLimits }
+pub fn check_command<'a>(matches: &ArgMatches<'a>) -> Option<Command<'a>>
+    ensures asked { option_map asked_in result ≡ option_map Check (check_of (rows_of (found_of matches.now))) }
+    ensures within { IfSome result IsWithinLimits }
 {
-    Some(CheckOptions {
-        query: query_option(matches)?,
-        events: text(matches, "events")?,
-        config: text(matches, "config")?,
-        workers: positive_in(matches, "workers", MAX_WORKERS)?,
-        bins: bins_in(matches)?,
-    })
+    let Some(query) = query_option(matches) else {
+        return None;
+    };
+    let Some(events) = text(matches, "events") else {
+        return None;
+    };
+    let Some(config) = text(matches, "config") else {
+        return None;
+    };
+    let Some(workers) = positive_in(matches, "workers", MAX_WORKERS) else {
+        return None;
+    };
+    match bins_in(matches) {
+        Some(bins) => Some(Command::Check(CheckOptions {
+            query,
+            events,
+            config,
+            workers,
+            bins,
+        })),
+        None => None,
+    }
 }
 
 /// What the options of `make` ask for, or `None` where a value isn't allowed.
-pub fn make_options<'a>(matches: &ArgMatches<'a>) -> Option<MakeOptions<'a>>
-    ensures asked { option_map make_in result ≡ make_of (rows_of (found_of matches.now)) }
-    ensures within { IfSome result MakeIsWithinLimits }
+pub fn make_command<'a>(matches: &ArgMatches<'a>) -> Option<Command<'a>>
+    ensures asked { option_map asked_in result ≡ option_map Make (make_of (rows_of (found_of matches.now))) }
+    ensures within { IfSome result IsWithinLimits }
 {
-    Some(MakeOptions {
-        count: count_in(matches)?,
-        seed: seed_in(matches)?,
-        out: text(matches, "out")?,
-    })
+    let Some(count) = count_in(matches) else {
+        return None;
+    };
+    let Some(seed) = seed_in(matches) else {
+        return None;
+    };
+    match text(matches, "out") {
+        Some(out) => Some(Command::Make(MakeOptions { count, seed, out })),
+        None => None,
+    }
 }
 
 /// What the options of `demo` ask for, or `None` where a value isn't allowed.
-pub fn demo_options(matches: &ArgMatches) -> Option<DemoOptions>
-    ensures asked { result ≡ demo_of (rows_of (found_of matches.now)) }
-    ensures within { IfSome result DemoIsWithinLimits }
+pub fn demo_command<'a>(matches: &ArgMatches<'a>) -> Option<Command<'a>>
+    ensures asked { option_map asked_in result ≡ option_map Demo (demo_of (rows_of (found_of matches.now))) }
+    ensures within { IfSome result IsWithinLimits }
 {
-    Some(DemoOptions {
-        query: query_name(matches)?,
-        count: count_in(matches)?,
-        seed: seed_in(matches)?,
-        workers: positive_in(matches, "workers", MAX_WORKERS)?,
-        bins: bins_in(matches)?,
-        depth: positive_in(matches, "depth", MAX_DEPTH)?,
-    })
+    let Some(query) = query_name(matches) else {
+        return None;
+    };
+    let Some(count) = count_in(matches) else {
+        return None;
+    };
+    let Some(seed) = seed_in(matches) else {
+        return None;
+    };
+    let Some(workers) = positive_in(matches, "workers", MAX_WORKERS) else {
+        return None;
+    };
+    let Some(bins) = bins_in(matches) else {
+        return None;
+    };
+    match positive_in(matches, "depth", MAX_DEPTH) {
+        Some(depth) => Some(Command::Demo(DemoOptions {
+            query,
+            count,
+            seed,
+            workers,
+            bins,
+            depth,
+        })),
+        None => None,
+    }
 }
 
 /// The value of an option, as text, or `None` where it has none.
@@ -245,7 +373,10 @@ fn flag_in(matches: &ArgMatches, name: &str) -> bool
 fn query_name(matches: &ArgMatches) -> Option<QueryName>
     ensures { result ≡ option_and_then query_of (first_of (codes "query") (rows_of (found_of matches.now))) }
 {
-    query_named(text(matches, "query")?)
+    match text(matches, "query") {
+        Some(name) => query_named(name),
+        None => None,
+    }
 }
 
 /// The values of `--query` and `--pipe`, which is there exactly where the first is `pipe`.
@@ -253,11 +384,16 @@ fn query_option<'a>(matches: &ArgMatches<'a>) -> Option<QueryOption<'a>>
     ensures { let rows = rows_of (found_of matches.now) in
         option_map query_in result ≡ query_asked (first_of (codes "query") rows) (first_of (codes "pipe") rows) }
 {
-    let word = text(matches, "query")?;
+    let Some(word) = text(matches, "query") else {
+        return None;
+    };
     match text(matches, "pipe") {
         Some(file) if word == "pipe" => Some(QueryOption::Piped(file)),
         Some(_) => None,
-        None => Some(QueryOption::Named(query_named(word)?)),
+        None => match query_named(word) {
+            Some(name) => Some(QueryOption::Named(name)),
+            None => None,
+        },
     }
 }
 
@@ -276,7 +412,10 @@ fn positive_in(matches: &ArgMatches, name: &str, most: u32) -> Option<u32>
     ensures value { result ≡ option_and_then (positive_up_to most) (first_of name.now (rows_of (found_of matches.now))) }
     ensures within { IfSome result (IsPositiveUpTo most) }
 {
-    positive_number(text(matches, name)?, most)
+    match text(matches, name) {
+        Some(number) => positive_number(number, most),
+        None => None,
+    }
 }
 
 /// The value of `--bins`.
@@ -284,7 +423,10 @@ fn bins_in(matches: &ArgMatches) -> Option<u32>
     ensures value { result ≡ option_and_then (power_up_to most_bins) (first_of (codes "bins") (rows_of (found_of matches.now))) }
     ensures within { IfSome result IsBinCount }
 {
-    bins_named(text(matches, "bins")?)
+    match text(matches, "bins") {
+        Some(bins) => bins_named(bins),
+        None => None,
+    }
 }
 
 /// The value of `--count`.
@@ -292,7 +434,10 @@ fn count_in(matches: &ArgMatches) -> Option<u32>
     ensures value { result ≡ option_and_then count_of (first_of (codes "count") (rows_of (found_of matches.now))) }
     ensures within { IfSome result (λ count. count ≤ most_events) }
 {
-    count_named(text(matches, "count")?)
+    match text(matches, "count") {
+        Some(count) => count_named(count),
+        None => None,
+    }
 }
 
 /// The value of `--seed`, which is 0 where it isn't there.
@@ -331,10 +476,10 @@ fn span_named<'a>(
 {
     match (until, save, from) {
         (None, None, None) => Some(Span::Whole),
-        (Some(until), Some(save), None) => Some(Span::Until {
-            time: time_named(until)?,
-            save,
-        }),
+        (Some(until), Some(save), None) => match time_named(until) {
+            Some(time) => Some(Span::Until { time, save }),
+            None => None,
+        },
         (None, None, Some(name)) => Some(Span::From(name)),
         _ => None,
     }
@@ -376,11 +521,9 @@ fn bins_named(text: &str) -> Option<u32>
     ensures value { result ≡ power_up_to most_bins text.now }
     ensures within { IfSome result IsBinCount }
 {
-    let bins = positive_number(text, MAX_BINS)?;
-    if bins.is_power_of_two() {
-        Some(bins)
-    } else {
-        None
+    match positive_number(text, MAX_BINS) {
+        Some(bins) if bins.is_power_of_two() => Some(bins),
+        _ => None,
     }
 }
 

@@ -8,7 +8,7 @@ use crate::command::command;
 use crate::options::{Command, Schedule};
 use crate::refused::WordsRefused;
 use crate::values::{
-    audit_options, check_options, demo_options, make_options, replay_options, run_options,
+    audit_command, check_command, demo_command, make_command, replay_command, run_command,
 };
 use clap::ArgMatches;
 use std::alloc::Global;
@@ -22,8 +22,13 @@ pub fn parse<'a>(alloc: Global, words: &'a [String]) -> Result<Command<'a>, Word
         (λ why. why ≡ WordsRefused.Usage → command_in words.now ≡ None) }
     ensures within { IfOk result IsWithinLimits }
 {
-    let matches = command(alloc)?.try_get_matches_from(words)?;
-    command_found(&matches).ok_or(WordsRefused::Usage)
+    let Ok(program) = command(alloc) else {
+        return Err(WordsRefused::NoMemory);
+    };
+    match program.try_get_matches_from(words) {
+        Ok(matches) => command_found(&matches).ok_or(WordsRefused::Usage),
+        Err(error) => Err(WordsRefused::from(error)),
+    }
 }
 
 /// What the subcommand that was used asks for.
@@ -31,14 +36,16 @@ fn command_found<'a>(matches: &ArgMatches<'a>) -> Option<Command<'a>>
     ensures asked { option_map asked_in result ≡ option_and_then asked_of (subcommand_rows_of matches.now) }
     ensures within { IfSome result IsWithinLimits }
 {
-    let (name, options) = matches.subcommand()?;
+    let Some((name, options)) = matches.subcommand() else {
+        return None;
+    };
     match name {
-        "run" => Some(Command::Run(run_options(options, Schedule::Threads)?)),
-        "replay" => Some(Command::Run(replay_options(options)?)),
-        "check" => Some(Command::Check(check_options(options)?)),
-        "make" => Some(Command::Make(make_options(options)?)),
-        "demo" => Some(Command::Demo(demo_options(options)?)),
-        "audit" => Some(Command::Audit(audit_options(options)?)),
+        "run" => run_command(options, Schedule::Threads),
+        "replay" => replay_command(options),
+        "check" => check_command(options),
+        "make" => make_command(options),
+        "demo" => demo_command(options),
+        "audit" => audit_command(options),
         _ => None,
     }
 }

@@ -1,5 +1,5 @@
 -- Each round adds an option.
-use Rattle.std.proofs.Common.{rules, subst, List}
+use Rattle.std.proofs.Common.{subst, List}
 use Rattle.std.proofs.lemmas.List.{take_all}
 use Rattle.mp_words.specs.Tables.{Denotes, shape_with}
 use Rattle.mp_words.specs.declared.command.OptionRule.{OptionRule}
