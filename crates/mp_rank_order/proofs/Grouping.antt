@@ -59,6 +59,10 @@ moments_in_order j = record {
   rises = rises j;
 }
 
+-- moments that are sorted, and of which each is kept once, are those of the groups in rank order
+pub moments_kept : (j : ℕ) (moments sorted kept : List Moment) → IsPermutation moments sorted → IsSorted moment_cmp sorted → kept ≡ dedup same_moment sorted → map (group_at j) kept ≡ ascending (map (group_at j) moments)
+moments_kept j moments sorted kept moved up is = kept_are (group_at j) moment_cmp same_moment (moments_in_order j) moments sorted kept moved up is
+
 -- The groups of names
 
 own_group : (j : ℕ) (x : Name) → is_group j x ≡ true → group_at j (moment_of x) ≡ x
@@ -93,7 +97,7 @@ groups_made_by_all o j (x ∷ xs) h =
     ∙ ap (λ (l : List Name). groups_made o x ++ l) b
     ∙ sym (flat_map-cons (groups_made o) x xs)
 
-module _ (o : Outline) (ok : OutlineIsSound o) (j : ℕ) (moments sorted kept : List Moment) (are : moments ≡ map moment_of (o.opening j) ++ flat_map (moments_made o) (o.records j)) (moved : IsPermutation moments sorted) (up : IsSorted moment_cmp sorted) (is : kept ≡ dedup same_moment sorted) where
+module _ (o : Outline) (ok : OutlineIsSound o) (j : ℕ) (moments kept : List Moment) (are : moments ≡ map moment_of (o.opening j) ++ flat_map (moments_made o) (o.records j)) (is : map (group_at j) kept ≡ ascending (map (group_at j) moments)) where
   abbrev all : List Name
   all = o.opening j ++ flat_map (groups_made o) (o.records j)
 
@@ -107,7 +111,7 @@ module _ (o : Outline) (ok : OutlineIsSound o) (j : ℕ) (moments sorted kept : 
   -- those that are kept are the groups of the stage
   pub groups_kept : map (group_at j) kept ≡ groups_of o j
   unfolding groups_of
-  groups_kept = kept_are (group_at j) moment_cmp same_moment (moments_in_order j) moments sorted kept moved up is ∙ ap ascending names_are
+  groups_kept = is ∙ ap ascending names_are
 
 -- One more record
 

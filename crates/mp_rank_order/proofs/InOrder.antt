@@ -1,12 +1,12 @@
 -- What is sorted by the six numbers of a rank and has no name twice is the list in rank order.
-use Rattle.std.proofs.Common.{◌≡◌, ℕ, ◌+◌, ◌<◌, ◌⊎◌, nat_lt, ◌==◌, Bool, true, false, cond, List, [], ◌∷◌, ◌++◌, get_or, length, refl, sym, ap, ◌∙◌, subst, inl, inr, ⊎_elim, arith, length-append}
+use Rattle.std.proofs.Common.{◌≡◌, ◌↔◌, ℕ, ◌+◌, ◌<◌, ◌⊎◌, nat_lt, ◌==◌, Bool, true, false, cond, List, [], ◌∷◌, ◌++◌, get_or, length, refl, sym, ap, ◌∙◌, subst, inl, inr, ⊎_elim, arith, length-append}
 use Rattle.std.specs.Cmp.{IsEquivalence, IsTotalOrder}
 use Rattle.std.specs.Cmp.Lexicographic.{slice_cmp, lists_total}
 use Rattle.std.specs.FinMap.{nat_cmp-IsAntisymmetric, slice_cmp-IsAntisymmetric}
-use Rattle.std.specs.List.{All, AllByRecursion, dedup, Contains}
+use Rattle.std.specs.List.{All, AllByRecursion, IsAllAdjacentAnswer, dedup, Contains}
 use Rattle.std.specs.List.Retain.{IsFiltered, DiffersFromLast}
 use Rattle.std.specs.List.Sorted.{IsPermutation, IsSortedByKey, IsStrictlySortedBy}
-use Rattle.std.specs.Ordering.{eq_by_cmp, is_eq, is_lt, nat_cmp, ordering_then}
+use Rattle.std.specs.Ordering.{eq_by_cmp, is_eq, is_le, is_lt, nat_cmp, ordering_reverse, ordering_then}
 use Rattle.std.specs.declared.cmp.Ordering.{Ordering}
 use Rattle.std.specs.declared.cmp.Ordering.TheVariants.{Less as LessOrd, Equal, Greater}
 use Rattle.std.proofs.lemmas.Bool.{false≢true, eq-eqb, eqb-true, ltb-true, both_ways, cases_Bool, false_from_ne_true}
@@ -21,7 +21,7 @@ use Rattle.mp_names.specs.contracts.names.NamePartialEq.TheImpl as NamePartialEq
 use Rattle.mp_names.specs.Names.{same_name, In, IsBefore, Less, IsAscending, ascending}
 use Rattle.mp_names.proofs.Lists.{In_here, In_later, In_cases, same_tag, same_name-from, same_name-refl, same_name-true, same_name_sym}
 use Rattle.mp_names.proofs.Orders.{before_irreflexive, In_ascending, ascending_In, ascending_ascends, ascending_unique}
-use Rattle.mp_rank_order.specs.Ranks.{rank_of}
+use Rattle.mp_rank_order.specs.Ranks.{rank_cmp, rank_of}
 use Rattle.mp_rank_order.specs.declared.rank.Rank.{Rank}
 
 -- Lists of numbers
@@ -61,15 +61,6 @@ six r = r.0 ∷ r.1 ∷ r.2 ∷ r.3 ∷ r.4 ∷ r.5 ∷ []
 abbrev pub six_of : Name → List ℕ
 six_of x = six (rank_of x)
 
--- how ranks compare
-abbrev pub rank_cmp : Rank → Rank → Ordering
-rank_cmp r s =
-    ordering_then (nat_cmp r.0 s.0)
-    (ordering_then (nat_cmp r.1 s.1)
-    (ordering_then (nat_cmp r.2 s.2)
-    (ordering_then (nat_cmp r.3 s.3)
-    (ordering_then (nat_cmp r.4 s.4) (nat_cmp r.5 s.5)))))
-
 then_equal : (o : Ordering) → ordering_then o Equal ≡ o
 then_equal LessOrd = refl
 then_equal Equal = refl
@@ -85,6 +76,20 @@ six_cmp r s =
 
 sorted_by_six : (xs : List Name) → IsSortedByKey rank_of rank_cmp xs → IsSortedByKey six_of (slice_cmp nat_cmp) xs
 sorted_by_six xs up k d low high = ap is_lt (sym (six_cmp (rank_of (get_or xs (k + 1) d)) (rank_of (get_or xs k d)))) ∙ up k d low high
+
+-- each rank and the next in order
+not_after : (o p : Ordering) → p ≡ ordering_reverse o → is_le o ≡ true → is_lt p ≡ false
+not_after LessOrd p e h = ap is_lt e
+not_after Equal p e h = ap is_lt e
+not_after Greater p e h = absurd (false≢true h)
+
+pub sorted_by_rank : (xs : List Name) (r : Bool) → IsAllAdjacentAnswer (λ x y b. b ≡ is_le (rank_cmp (rank_of x) (rank_of y))) xs r → r ≡ true → IsSortedByKey rank_of rank_cmp xs
+sorted_by_rank xs true up e = λ k d low high.
+    let r = rank_of (get_or xs k d) in
+    let s = rank_of (get_or xs (k + 1) d) in
+    let back : rank_cmp s r ≡ ordering_reverse (rank_cmp r s) = six_cmp s r ∙ (lists_total nat_cmp_total).antisymm (six s) (six r) ∙ ap ordering_reverse (sym (six_cmp r s)) in
+    not_after (rank_cmp r s) (rank_cmp s r) back (sym (up k d high))
+sorted_by_rank xs false up e = absurd (false≢true e)
 
 less_from_six : (x y : Name) → IsBefore (six_of x) (six_of y) → Less x y
 less_from_six (Ctrl i v) (Ctrl j w) h = cut (0 ∷ i ∷ v ∷ []) (0 ∷ j ∷ w ∷ []) (0 ∷ 0 ∷ 0 ∷ []) refl h
@@ -196,3 +201,14 @@ module _ (eq : Name → Name → Bool) (same : (x y : Name) → eq x y ≡ same_
 -- the same of the `==` that names have
 pub put_in_order : (names sorted kept : List Name) → IsPermutation names sorted → IsSortedByKey rank_of rank_cmp sorted → IsFiltered (DiffersFromLast NamePartialEq.eq-value.it) [] sorted kept → kept ≡ ascending names
 put_in_order names sorted kept moved up once = dedup_is NamePartialEq.eq-value.it sorted kept once ∙ sorted_once NamePartialEq.eq-value.it eq_is names sorted moved (sorted_by_six sorted up)
+
+-- lists of the same names have the same order
+pub ascending_same : (xs ys : List Name) → ((x : Name) → Contains xs x ↔ Contains ys x) → ascending xs ≡ ascending ys
+ascending_same xs ys same =
+    ascending_unique
+    (ascending xs)
+    (ascending ys)
+    (ascending_ascends xs)
+    (ascending_ascends ys)
+    (λ z i. ascending_In z ys (in_from_contains z ys ((same z).0 (contains_from_in z xs (In_ascending z xs i)))))
+    (λ z i. ascending_In z xs (in_from_contains z xs ((same z).1 (contains_from_in z ys (In_ascending z ys i)))))

@@ -2,3 +2,4 @@ pub mod InOrder
 pub mod Keys
 pub mod Grouping
 pub mod Gathered
+mod Packing

@@ -2,3 +2,4 @@
 pub mod Ranks
 pub mod Moments
 pub mod Groups
+pub mod Packed

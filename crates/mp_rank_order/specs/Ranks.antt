@@ -1,4 +1,6 @@
 -- The rank of a name as six numbers.
+use Rattle.std.specs.Ordering.{nat_cmp, ordering_then}
+use Rattle.std.specs.declared.cmp.Ordering.{Ordering}
 use Rattle.mp_names.specs.declared.names.Name.{Name}
 use Rattle.mp_names.specs.declared.names.Name.TheVariants.{Ctrl, Rec, Packet, Row, Group, Settled, Written}
 use Rattle.mp_rank_order.specs.declared.rank.Rank.{Rank}
@@ -12,3 +14,12 @@ rank_of (Row t g) = record { 0 = 3; 1 = t; 2 = g.0; 3 = g.1; 4 = 0; 5 = 0 }
 rank_of (Group j t k) = record { 0 = 4; 1 = t; 2 = j; 3 = k; 4 = 0; 5 = 0 }
 rank_of (Settled j t) = record { 0 = 5; 1 = t; 2 = j; 3 = 0; 4 = 0; 5 = 0 }
 rank_of (Written t) = record { 0 = 6; 1 = t; 2 = 0; 3 = 0; 4 = 0; 5 = 0 }
+
+-- how ranks compare
+abbrev pub rank_cmp : Rank → Rank → Ordering
+rank_cmp r s =
+    ordering_then (nat_cmp r.0 s.0)
+    (ordering_then (nat_cmp r.1 s.1)
+    (ordering_then (nat_cmp r.2 s.2)
+    (ordering_then (nat_cmp r.3 s.3)
+    (ordering_then (nat_cmp r.4 s.4) (nat_cmp r.5 s.5)))))

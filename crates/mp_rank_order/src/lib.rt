@@ -3,8 +3,11 @@
 //! Lists of names in rank order: any list, and the groups of a stage, also as times and keys.
 #![tactic(auto)]
 
+mod by_time;
 mod groups;
 mod moments;
+mod once;
+mod packed;
 mod rank;
 mod sorted;
 

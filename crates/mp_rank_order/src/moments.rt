@@ -4,6 +4,7 @@ ghost use Rattle.std.specs.List.{flat_map};
 ghost use Rattle.mp_names.specs.Outlines.{groups_of};
 ghost use Rattle.mp_rank_order.specs.Moments.{group_at, moment_of, moments_made};
 
+use crate::once::put_in_order;
 use mp_names::{Name, Time};
 use mp_outline_lists::OutlineLists;
 use std::alloc::{AllocError, Global};
@@ -32,8 +33,7 @@ pub fn moments_of<L: OutlineLists>(
     add_groups(&mut moments, lists.opening(stage))?;
     add_made(&mut moments, lists, stage)?;
     lists.are_sound();
-    moments.sort_unstable();
-    moments.dedup();
+    put_in_order(alloc, &mut moments)?;
     Ok(moments)
 }
 

@@ -27,3 +27,10 @@ pub(crate) fn rank_of(name: Name) -> Rank
         Name::Written { time } => Rank(6, time, 0, 0, 0, 0),
     }
 }
+
+/// What stands first in the rank of a name among those of its kind: its time, or the index of a control record.
+pub(crate) fn lead_of(name: Name) -> u64
+    ensures { result ≡ (rank_of name).1 }
+{
+    rank_of(name).1
+}

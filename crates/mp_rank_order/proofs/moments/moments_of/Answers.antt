@@ -1,6 +1,5 @@
 use Rattle.std.proofs.Common.{◌≡◌, ◌∙◌, ◌++◌, List, ap, map}
 use Rattle.std.specs.List.{flat_map}
-use Rattle.std.proofs.lemmas.List.Filters.{dedup_is}
 use Rattle.mp_rank_order.specs.declared.moments.Moment.{Moment}
 use Rattle.mp_rank_order.specs.Moments.{moment_of, moments_made}
 use Rattle.mp_rank_order.proofs.Grouping.{groups_kept}
@@ -14,4 +13,4 @@ returns g c =
     let made : c.add_made.new.moments.items ≡ c.add_groups.new.moments.items ++ flat_map (moments_made o) (o.records j) = c.in_ok-add_made.ensures in
     let first = opened ∙ ap (λ (l : List Moment). l ++ map moment_of c.opening.result.now) c.new-moments.ensures.items ∙ ap (map moment_of) c.opening.ensures in
     let are = made ∙ ap (λ (l : List Moment). l ++ flat_map (moments_made o) (o.records j)) first in
-    groups_kept o c.are_sound.ensures.sound j c.add_made.new.moments.items c.sort_unstable.new.self.items c.dedup.new.self.items are c.sort_unstable.ensures.permutation c.sort_unstable.ensures.sorted (dedup_is _ _ _ c.dedup.ensures.filtered)
+    groups_kept o c.are_sound.ensures.sound j c.add_made.new.moments.items c.put_in_order.new.moments.items are (c.in_ok-put_in_order.ensures j)
