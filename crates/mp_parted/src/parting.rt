@@ -28,7 +28,7 @@ pub fn parted<L: OutlineLists>(
     requires { All (FitsBy (L.outline lists.now) by) names.now }
     ensures { IfOk result (λ parts. map (λ part. part.items) parts.items ≡ parted_by (L.outline lists.now) by names.now) }
 {
-    let mut parts = no_entries(alloc, lists.workers())?;
+    let mut parts = no_entries(alloc, lists.workers(), names.len())?;
     for name in names {
         let worker = worker_by(lists, by, *name);
         put(&mut parts, worker, entry_of(lists, *name))?;
@@ -58,13 +58,15 @@ fn worker_by<L: OutlineLists>(lists: &L, by: By, name: Name) -> u32
     }
 }
 
-// For each of so many workers a list of no entries. `AllocError`: no memory.
-fn no_entries(alloc: Global, workers: u32) -> Result<Vec<Vec<Entry>>, AllocError>
+// For each of so many workers a list of no entries, with room for its share of so many and some more. `AllocError`: no memory.
+fn no_entries(alloc: Global, workers: u32, count: usize) -> Result<Vec<Vec<Entry>>, AllocError>
     ensures lists { IfOk result (λ parts. map (λ part. part.items) parts.items ≡ replicate workers []) }
 {
+    let share = count / workers.max(1) as usize;
+    let room = share.saturating_add(share / 8);
     let mut parts = Vec::new(alloc);
     for _ in 0..workers {
-        parts.push(Vec::new(alloc))?;
+        parts.push(Vec::with_capacity(alloc, room)?)?;
     }
     Ok(parts)
 }
