@@ -6,6 +6,7 @@ use mp_group_lists::GroupLists;
 use mp_left_counts::Work;
 use mp_names::{Kind, Time};
 use mp_outline_lists::OutlineLists;
+use mp_rank_order::moments_by_stage;
 use mp_step_lists::StepLists;
 use mp_work_lists::WorkLists;
 use std::alloc::{AllocError, Global};
@@ -37,8 +38,9 @@ impl<L: OutlineLists + Drop> Charted<L> {
     {
         lists.are_sound();
         let steps = StepLists::of(alloc, &lists)?;
-        let groups = GroupLists::of(alloc, &lists)?;
-        let work = WorkLists::of(alloc, &lists)?;
+        let moments = moments_by_stage(alloc, &lists)?;
+        let groups = GroupLists::of(alloc, &lists, &moments)?;
+        let work = WorkLists::of(alloc, &lists, &moments)?;
         Ok(Charted {
             lists,
             steps,

@@ -7,6 +7,7 @@ ghost use Rattle.mp_step_order.specs.Decisions.{rows_to_send};
 ghost use Rattle.mp_player_laws.specs.Numbers.{StandsAt};
 ghost use Rattle.mp_player_laws.specs.Counted.{IsGivenWithin};
 ghost use Rattle.mp_chart.specs.Entries.{entries_of, records_given};
+ghost use Rattle.mp_rank_order.specs.Moments.{AreMomentsOf};
 ghost use Rattle.mp_group_lists.specs.Lists.{AreListsOf};
 ghost use Rattle.mp_group_lists.specs.Parts.{next_records};
 
@@ -14,6 +15,7 @@ use crate::making::{groups_by_stage, records_by_stage, rows_by_worker};
 use crate::moments::{count_upto, entries_at, moment_of};
 use mp_chart::Entry;
 use mp_outline_lists::OutlineLists;
+use mp_rank_order::Moment;
 use std::alloc::{AllocError, Global};
 use std::cell::Cell;
 
@@ -31,12 +33,17 @@ pub struct GroupLists {
 }
 
 impl GroupLists {
-    /// The lists of an outline. Takes n log n steps for n names. `AllocError`: no memory.
-    pub fn of<L: OutlineLists>(alloc: Global, lists: &L) -> Result<GroupLists, AllocError>
+    /// The lists of an outline, of which these are the moments of groups by stage. Takes n log n steps for n names. `AllocError`: no memory.
+    pub fn of<L: OutlineLists>(
+        alloc: Global,
+        lists: &L,
+        moments: &[Vec<Moment>],
+    ) -> Result<GroupLists, AllocError>
+        requires { AreMomentsOf (L.outline lists.now) (map (λ own. own.items) moments.now) }
         ensures { IfOk result (λ made. AreListsOf (L.outline lists.now) made) }
     {
         Ok(GroupLists {
-            groups: groups_by_stage(alloc, lists)?,
+            groups: groups_by_stage(alloc, lists, moments)?,
             rows: rows_by_worker(alloc, lists)?,
             records: records_by_stage(alloc, lists)?,
             near: Cell::new(0),

@@ -4,26 +4,29 @@ ghost use Rattle.std.specs.List.{range_with_len};
 ghost use Rattle.mp_names.specs.Names.{ascending};
 ghost use Rattle.mp_chart.specs.Entries.{entries_of};
 ghost use Rattle.mp_parted.specs.Fitting.{FitsShape};
+ghost use Rattle.mp_rank_order.specs.Moments.{AreMomentsOf};
 ghost use Rattle.mp_group_lists.specs.Parts.{groups_in, next_records, rows_in};
 
 use mp_chart::Entry;
 use mp_names::Name;
 use mp_outline_lists::OutlineLists;
 use mp_parted::{By, entry_of, parted};
-use mp_rank_order::{due_groups, in_order};
+use mp_rank_order::{Moment, due_groups, in_order, moments_at};
 use std::alloc::{AllocError, Global};
 
 /// Of each stage by worker the groups that it is to apply. `AllocError`: no memory.
 pub(crate) fn groups_by_stage<L: OutlineLists>(
     alloc: Global,
     lists: &L,
+    moments: &[Vec<Moment>],
 ) -> Result<Vec<Vec<Vec<Entry>>>, AllocError>
+    requires { AreMomentsOf (L.outline lists.now) (map (λ own. own.items) moments.now) }
     ensures { let o = L.outline lists.now in
         IfOk result (λ groups. map (λ parts. map (λ part. part.items) parts.items) groups.items ≡ map (groups_in o) (range_with_len 0 o.stages)) }
 {
     let mut groups = Vec::new(alloc);
     for stage in 0..lists.stages() {
-        groups.push(groups_of(alloc, lists, stage)?)?;
+        groups.push(groups_of(alloc, lists, stage, moments)?)?;
     }
     Ok(groups)
 }
@@ -33,12 +36,14 @@ fn groups_of<L: OutlineLists>(
     alloc: Global,
     lists: &L,
     stage: u32,
+    moments: &[Vec<Moment>],
 ) -> Result<Vec<Vec<Entry>>, AllocError>
-    requires { stage < (L.outline lists.now).stages }
+    requires stage { stage < (L.outline lists.now).stages }
+    requires moments { AreMomentsOf (L.outline lists.now) (map (λ own. own.items) moments.now) }
     ensures { IfOk result (λ parts. map (λ part. part.items) parts.items ≡ groups_in (L.outline lists.now) stage) }
 {
     lists.are_sound();
-    let names = due_groups(alloc, lists, stage)?;
+    let names = due_groups(alloc, lists, stage, moments_at(moments, stage))?;
     parted(alloc, lists, By::Owner, &names)
 }
 

@@ -1,5 +1,5 @@
 -- The groups of a stage, by when they are.
-use Rattle.std.proofs.Common.{◌≡◌, ℕ, zero, suc, ◌+◌, ◌<◌, ◌&&◌, ◌==◌, Bool, true, List, [], ◌∷◌, ◌++◌, length, get_or, take, map, Ordering, refl, sym, ap, ◌∙◌, inl, inr, arith}
+use Rattle.std.proofs.Common.{◌≡◌, ℕ, zero, suc, ◌+◌, ◌<◌, ◌&&◌, ◌==◌, Bool, true, List, [], ◌∷◌, ◌++◌, length, get_or, take, map, Ordering, refl, sym, ap, ◌∙◌, inl, inr, ⊎_elim, arith}
 use Rattle.std.specs.Cmp.{IsTotalOrder}
 use Rattle.std.specs.List.{dedup, flat_map}
 use Rattle.std.specs.List.Sorted.{IsPermutation, IsSorted}
@@ -7,7 +7,8 @@ use Rattle.std.specs.Ordering.{nat_cmp, ordering_then, is_eq, eq_by_cmp}
 use Rattle.std.specs.declared.cmp.Ordering.TheVariants.{Less as LessOrd}
 use Rattle.std.proofs.lemmas.Bool.{false≢true, eqb-true, and_parts}
 use Rattle.std.proofs.lemmas.Cmp.{nat_cmp_total, nat_eq_equiv, on_total, then_total, on_equiv, and_equiv}
-use Rattle.std.proofs.lemmas.List.{append-nil, map-append, take_more}
+use Rattle.std.proofs.Math.Nat.{eq-or-lt_of_le}
+use Rattle.std.proofs.lemmas.List.{append-nil, get_or_append_left, get_or_push, map-append, take_more}
 use Rattle.std.proofs.lemmas.List.Concat.{flat_map-append, flat_map-cons}
 use Rattle.mp_names.specs.declared.names.Name.{Name}
 use Rattle.mp_names.specs.declared.names.Name.TheVariants.{Rec, Group}
@@ -15,7 +16,7 @@ use Rattle.mp_names.specs.Names.{In, Less, ascending, is_rec, is_group}
 use Rattle.mp_names.specs.Outlines.{Outline, OutlineIsSound, groups_of, groups_made}
 use Rattle.mp_names.proofs.Lists.{In_here, In_later}
 use Rattle.mp_rank_order.specs.declared.moments.Moment.{Moment}
-use Rattle.mp_rank_order.specs.Moments.{group_at, moment_of, moments_made}
+use Rattle.mp_rank_order.specs.Moments.{AreMomentsBelow, group_at, moment_of, moments_made}
 use Rattle.mp_rank_order.proofs.InOrder.{two}
 use Rattle.mp_rank_order.proofs.Keys.{IsKeyOrder, below, kept_are, nat_ties, then_ties}
 
@@ -124,3 +125,12 @@ flat_more f xs i d l =
 pub posts_nothing : (o : Outline) → ((j : ℕ) (x : Name) → In x (o.records (suc j)) → o.posts x ≡ []) → (j : ℕ) (x : Name) → 0 < j → In x (o.records j) → o.posts x ≡ []
 posts_nothing o later zero x l i = absurd (omega arith)
 posts_nothing o later (suc j) x l i = later j x i
+
+-- One more stage
+
+pub one_more_stage : (o : Outline) (j : ℕ) (lists : List (List Moment)) (own : List Moment) → length lists ≡ j → AreMomentsBelow j o lists → map (group_at j) own ≡ groups_of o j → AreMomentsBelow (j + 1) o (lists ++ own ∷ [])
+one_more_stage o j lists own count so_far is i below =
+    ⊎_elim
+    (λ (same : i ≡ j). ap (map (group_at i)) (get_or_push lists own [] i (count ∙ sym same)) ∙ ap (λ (n : ℕ). map (group_at n) own) same ∙ is ∙ ap (groups_of o) (sym same))
+    (λ (earlier : i < j). ap (map (group_at i)) (get_or_append_left lists (own ∷ []) [] i (omega arith)) ∙ so_far i earlier)
+    (eq-or-lt_of_le {n = i} {m = j} (omega arith))

@@ -1,26 +1,26 @@
 //! The groups of a stage.
-ghost use Rattle.std.specs.Prelude.{◌≡◌, ◌<◌, IfOk, filter, map};
-ghost use Rattle.mp_names.specs.Outlines.{due_groups, is_before_stop};
+ghost use Rattle.std.specs.Prelude.{◌≡◌, IfOk, filter, map};
+ghost use Rattle.mp_names.specs.Outlines.{due_groups, groups_of, is_before_stop};
 ghost use Rattle.mp_rank_order.specs.Groups.{is_due};
 ghost use Rattle.mp_rank_order.specs.Moments.{group_at};
 
-use crate::moments::{Moment, moments_of};
+use crate::moments::Moment;
 use mp_names::{Name, Time};
 use mp_outline_lists::OutlineLists;
 use std::alloc::{AllocError, Global};
 
-/// The groups of a stage that are to be applied, by time and key. `AllocError`: no memory.
+/// The groups of a stage that are to be applied, by time and key, where these are when its groups are. `AllocError`: no memory.
 pub fn due_groups<L: OutlineLists>(
     alloc: Global,
     lists: &L,
     stage: u32,
+    moments: &[Moment],
 ) -> Result<Vec<Name>, AllocError>
-    requires { stage < (L.outline lists.now).stages }
+    requires { map (group_at stage) moments.now ≡ groups_of (L.outline lists.now) stage }
     ensures { IfOk result (λ names. names.items ≡ due_groups (L.outline lists.now) stage) }
 {
     lists.are_sound();
-    let moments = moments_of(alloc, lists, stage)?;
-    let mut names = names_at(alloc, stage, &moments)?;
+    let mut names = names_at(alloc, stage, moments)?;
     keep_due(&mut names, lists.until());
     Ok(names)
 }

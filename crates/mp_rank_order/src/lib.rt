@@ -12,5 +12,5 @@ mod rank;
 mod sorted;
 
 pub use groups::due_groups;
-pub use moments::{Moment, moments_of};
+pub use moments::{Moment, moments_at, moments_by_stage};
 pub use sorted::{in_order, put_in_order};

@@ -1,8 +1,8 @@
 //! When the groups of a stage are.
-ghost use Rattle.std.specs.Prelude.{◌≡◌, ◌<◌, ◌++◌, ◌∷◌, [], ℕ, IfOk, OnOk, Some, map, slice_get};
+ghost use Rattle.std.specs.Prelude.{◌≡◌, ◌<◌, ◌++◌, ◌∷◌, [], ℕ, IfOk, OnOk, Some, get_or, map, slice_get};
 ghost use Rattle.std.specs.List.{flat_map};
 ghost use Rattle.mp_names.specs.Outlines.{groups_of};
-ghost use Rattle.mp_rank_order.specs.Moments.{group_at, moment_of, moments_made};
+ghost use Rattle.mp_rank_order.specs.Moments.{AreMomentsOf, group_at, moment_of, moments_made};
 
 use crate::once::put_in_order;
 use mp_names::{Name, Time};
@@ -18,9 +18,33 @@ pub struct Moment {
     pub key: u64,
 }
 
-/// When the groups of a stage are, in their order. Takes n log n comparisons of n numbers for n groups that are made.
+/// When the groups of each stage are, by stage, in their order. `AllocError`: no memory.
+pub fn moments_by_stage<L: OutlineLists>(
+    alloc: Global,
+    lists: &L,
+) -> Result<Vec<Vec<Moment>>, AllocError>
+    ensures { IfOk result (λ moments. AreMomentsOf (L.outline lists.now) (map (λ own. own.items) moments.items)) }
+{
+    let mut moments = Vec::new(alloc);
+    for stage in 0..lists.stages() {
+        moments.push(moments_of(alloc, lists, stage)?)?;
+    }
+    Ok(moments)
+}
+
+/// Those of a stage; none where there is no such stage.
+pub fn moments_at(moments: &[Vec<Moment>], stage: u32) -> &[Moment]
+    ensures { result.now ≡ get_or (map (λ own. own.items) moments.now) stage [] }
+{
+    match moments.get(stage as usize) {
+        Some(own) => own,
+        None => &[],
+    }
+}
+
+// When the groups of a stage are, in their order. Takes n log n comparisons of n numbers for n groups that are made.
 /// `AllocError`: no memory.
-pub fn moments_of<L: OutlineLists>(
+fn moments_of<L: OutlineLists>(
     alloc: Global,
     lists: &L,
     stage: u32,

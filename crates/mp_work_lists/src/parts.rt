@@ -1,7 +1,8 @@
 //! The parts of the work of a job.
-ghost use Rattle.std.specs.Prelude.{◌≡◌, ◌+◌, ◌<◌, ◌==◌, OnOk, cond};
+ghost use Rattle.std.specs.Prelude.{◌≡◌, ◌+◌, ◌<◌, ◌==◌, OnOk, cond, map};
 ghost use Rattle.mp_names.specs.declared.locations.Loc.TheVariants.{Source};
 ghost use Rattle.mp_work_left.specs.WorkLeft.{added_below};
+ghost use Rattle.mp_rank_order.specs.Moments.{AreMomentsOf};
 ghost use Rattle.mp_work_lists.specs.Parts.{HasMore, control_work, group_work, job_work, move_work, record_work, row_work, stage_work, times_at, work_at_one};
 
 use crate::gathering::add_times;
@@ -11,18 +12,21 @@ use crate::times::{
 use mp_left_counts::Work;
 use mp_names::{Loc, Time};
 use mp_outline_lists::OutlineLists;
+use mp_rank_order::{Moment, moments_at};
 use std::alloc::{AllocError, Global};
 
 /// Adds all work of a job. `AllocError`: no memory.
 pub(crate) fn add_job<L: OutlineLists>(
     alloc: Global,
     lists: &L,
+    moments: &[Vec<Moment>],
     works: &mut Vec<Work>,
 ) -> Result<(), AllocError>
+    requires { AreMomentsOf (L.outline lists.now) (map (λ own. own.items) moments.now) }
     ensures { OnOk result (HasMore (job_work (L.outline lists.now)) works.old.items works.new.items) }
 {
     add_controls(alloc, lists, works)?;
-    add_stages(alloc, lists, works)?;
+    add_stages(alloc, lists, moments, works)?;
     add_rows(alloc, lists, works)?;
     Ok(())
 }
@@ -61,14 +65,16 @@ fn add_rows<L: OutlineLists>(
 fn add_stages<L: OutlineLists>(
     alloc: Global,
     lists: &L,
+    moments: &[Vec<Moment>],
     works: &mut Vec<Work>,
 ) -> Result<(), AllocError>
+    requires { AreMomentsOf (L.outline lists.now) (map (λ own. own.items) moments.now) }
     ensures { let o = L.outline lists.now in
         OnOk result (HasMore (λ a t. added_below o.stages (λ j. stage_work o j a t)) works.old.items works.new.items) }
 {
     let stages = lists.stages();
     for stage in 0..stages {
-        add_stage(alloc, lists, stage, works)?;
+        add_stage(alloc, lists, stage, moments, works)?;
     }
     Ok(())
 }
@@ -78,14 +84,16 @@ fn add_stage<L: OutlineLists>(
     alloc: Global,
     lists: &L,
     stage: u32,
+    moments: &[Vec<Moment>],
     works: &mut Vec<Work>,
 ) -> Result<(), AllocError>
-    requires { stage < (L.outline lists.now).stages }
+    requires stage { stage < (L.outline lists.now).stages }
+    requires moments { AreMomentsOf (L.outline lists.now) (map (λ own. own.items) moments.now) }
     ensures { OnOk result (HasMore (stage_work (L.outline lists.now) stage) works.old.items works.new.items) }
 {
     add_records(alloc, lists, stage, works)?;
     add_moves(alloc, lists, stage, works)?;
-    add_groups(alloc, lists, stage, works)?;
+    add_groups(alloc, lists, stage, moments, works)?;
     Ok(())
 }
 
@@ -140,12 +148,14 @@ fn add_groups<L: OutlineLists>(
     alloc: Global,
     lists: &L,
     stage: u32,
+    moments: &[Vec<Moment>],
     works: &mut Vec<Work>,
 ) -> Result<(), AllocError>
-    requires { stage < (L.outline lists.now).stages }
+    requires stage { stage < (L.outline lists.now).stages }
+    requires moments { AreMomentsOf (L.outline lists.now) (map (λ own. own.items) moments.now) }
     ensures { OnOk result (HasMore (group_work (L.outline lists.now) stage) works.old.items works.new.items) }
 {
-    let times = times_of_groups(alloc, lists, stage)?;
+    let times = times_of_groups(alloc, moments_at(moments, stage))?;
     add_times(works, Loc::Host(stage), 1, &times)?;
     Ok(())
 }

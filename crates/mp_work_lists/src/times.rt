@@ -1,12 +1,13 @@
 //! The times of names and of control records.
-ghost use Rattle.std.specs.Prelude.{◌≡◌, ◌<◌, ◌==◌, ℕ, IfOk, filter, map};
+ghost use Rattle.std.specs.Prelude.{◌≡◌, ◌==◌, ℕ, IfOk, filter, map};
 ghost use Rattle.mp_names.specs.Names.{is_packet};
-ghost use Rattle.mp_names.specs.Outlines.{control_times, groups_of};
+ghost use Rattle.mp_names.specs.Outlines.{control_times};
+ghost use Rattle.mp_rank_order.specs.Moments.{group_at};
 ghost use Rattle.mp_work_lists.specs.Parts.{controls_at, names_at, time_in, times_at};
 
 use mp_names::{Control, Name, Time};
 use mp_outline_lists::OutlineLists;
-use mp_rank_order::{Moment, moments_of};
+use mp_rank_order::Moment;
 use std::alloc::{AllocError, Global};
 
 /// The times of control records, ascending. `AllocError`: no memory.
@@ -117,18 +118,11 @@ fn is_packet(name: Name, stage: u32) -> bool
     }
 }
 
-/// The times of the groups of a stage, ascending, each as often as there are groups then. `AllocError`: no memory.
-pub(crate) fn times_of_groups<L: OutlineLists>(
-    alloc: Global,
-    lists: &L,
-    stage: u32,
-) -> Result<Vec<Time>, AllocError>
-    requires { stage < (L.outline lists.now).stages }
-    ensures { let o = L.outline lists.now in
-        IfOk result (λ times. (t : ℕ) → times_at t times.items ≡ names_at t (groups_of o stage)) }
+/// The times of the groups of a stage at these moments, in their order, each as often as there are groups then. `AllocError`: no memory.
+pub(crate) fn times_of_groups(alloc: Global, moments: &[Moment]) -> Result<Vec<Time>, AllocError>
+    ensures { IfOk result (λ times. (j t : ℕ) → times_at t times.items ≡ names_at t (map (group_at j) moments.now)) }
 {
-    let moments = moments_of(alloc, lists, stage)?;
-    let times = times_of_moments(alloc, &moments)?;
+    let times = times_of_moments(alloc, moments)?;
     Ok(times)
 }
 

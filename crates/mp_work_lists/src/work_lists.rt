@@ -3,12 +3,14 @@ ghost use Rattle.std.specs.Prelude.{◌≡◌, ◌<◌, ℕ, Contains, IfOk, map
 ghost use Rattle.std.specs.List.Sorted.{IsStrictlyIncreasing};
 ghost use Rattle.mp_names.specs.declared.locations.Loc.{Loc};
 ghost use Rattle.mp_left_counts.specs.Left.{work_at};
+ghost use Rattle.mp_rank_order.specs.Moments.{AreMomentsOf};
 ghost use Rattle.mp_work_lists.specs.Works.{IsAllWork};
 
 use crate::parts::add_job;
 use mp_left_counts::Work;
 use mp_names::Time;
 use mp_outline_lists::OutlineLists;
+use mp_rank_order::Moment;
 use std::alloc::{AllocError, Global};
 use std::marker::Model;
 
@@ -28,13 +30,18 @@ impl Model for WorkLists {
 }
 
 impl WorkLists {
-    /// All work of the job with these lists, of which nothing is done. `AllocError`: no memory.
-    pub fn of<L: OutlineLists>(alloc: Global, lists: &L) -> Result<WorkLists, AllocError>
+    /// All work of the job with these lists and moments of groups by stage, of which nothing is done. `AllocError`: no memory.
+    pub fn of<L: OutlineLists>(
+        alloc: Global,
+        lists: &L,
+        moments: &[Vec<Moment>],
+    ) -> Result<WorkLists, AllocError>
+        requires { AreMomentsOf (L.outline lists.now) (map (λ own. own.items) moments.now) }
         ensures { IfOk result (λ listed. IsAllWork (L.outline lists.now) listed) }
     {
         lists.are_sound();
         let mut work = Vec::new(alloc);
-        add_job(alloc, lists, &mut work)?;
+        add_job(alloc, lists, moments, &mut work)?;
         let times = times_of(alloc, &work)?;
         Ok(WorkLists { times, work })
     }
