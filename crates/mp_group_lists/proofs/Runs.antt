@@ -153,9 +153,27 @@ not_false : (b : Bool) → not b ≡ false → b ≡ true
 not_false true h = refl
 not_false false h = absurd (false≢true (sym h))
 
--- what a search by the test answers
-pub upto_from_tests : (m : Moment) (es : List Entry) (n : ℕ) → IsPartitionPoint (λ e. goes_no_later m e ≡ true) (λ e. goes_no_later m e ≡ false) es n → IsUpto m es n
-upto_from_tests m es n point = ((λ k d low high. not_true (comes_before m (moment_at (get_or es k d))) (point.0 k d low high)), (λ k d low high. not_false (comes_before m (moment_at (get_or es k d))) (point.1 k d low high)))
+not_back : (m n : Moment) → comes_before n m ≡ true → comes_before m n ≡ false
+not_back m n h = false_from_ne_true (comes_before m n) (λ b. before_irreflexive (rank_of m) (before_trans (rank_of m) (rank_of n) (rank_of m) (before_is (rank_of m) (rank_of n) b) (before_is (rank_of n) (rank_of m) h)))
+
+less_or_not : (i n : ℕ) → (i < n) ⊎ (n ≤ i)
+less_or_not i n = grind arith
+
+-- those before a moment, and then those up to it
+pub upto_in_parts : (m : Moment) (es : List Entry) (n k : ℕ) → n ≤ length es → IsPartitionPoint (λ e. comes_before (moment_of e.name) m ≡ true) (λ e. comes_before (moment_of e.name) m ≡ false) es n → IsUpto m (drop n es) k → IsUpto m es (n + k)
+upto_in_parts m es n k l before upto = (
+  (λ i d low high.
+      ⊎_elim
+      (λ (front : i < n). not_back m (moment_at (get_or es i d)) (before.0 i d low front))
+      (λ (back : n ≤ i). subst (λ (x : Entry). comes_before m (moment_at x) ≡ false) (at i d back) (upto.0 (i - n) d (omega arith) (omega arith)))
+      (less_or_not i n)),
+  (λ i d low high.
+      let e = length-drop n es in
+      subst (λ (x : Entry). comes_before m (moment_at x) ≡ true) (at i d (omega arith)) (upto.1 (i - n) d (omega arith) (omega arith))),
+)
+  where
+    at : (i : ℕ) (d : Entry) → n ≤ i → get_or (drop n es) (i - n) d ≡ get_or es i d
+    at i d back = let e : n + (i - n) ≡ i = omega arith in get_or-drop n es (i - n) d ∙ ap (λ (j : ℕ). get_or es j d) e
 
 -- What looks at the ends of a part tell
 

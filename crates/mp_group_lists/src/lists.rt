@@ -89,13 +89,14 @@ impl GroupLists {
         part_of(&self.records, stage)
     }
 
-    /// How many groups of the last stage a worker has to apply until it has the answer row at a place of its list.
+    /// How many groups of the last stage a worker has to apply until it has the answer row at a place of its list. Where each group gives
+    /// one row, they are as many as the row's place and one more.
     pub fn groups_before(&self, worker: u32, place: usize) -> usize
         ensures { (o : Outline) (x : Name) → OutlineIsSound o → AreListsOf o self.now → worker < o.workers →
             StandsAt (rows_to_send o worker) place x → (n : ℕ) → IsGivenWithin o worker n x ↔ result ≤ n }
     {
         match self.rows(worker).get(place) {
-            Some(row) => count_upto(self.last_groups(worker), moment_of(row.name)),
+            Some(row) => count_upto(self.last_groups(worker), moment_of(row.name), place),
             None => 0,
         }
     }

@@ -1,5 +1,5 @@
 //! Entries by the groups that they come from.
-ghost use Rattle.std.specs.Prelude.{◌≡◌, ◌≤◌, ◌<◌, ◌-◌, true, false, filter, get_or, length, not};
+ghost use Rattle.std.specs.Prelude.{◌≡◌, ◌≤◌, ◌<◌, ◌-◌, true, false, filter, get_or, length};
 ghost use Rattle.std.specs.List.Sorted.{IsPartitionPoint};
 ghost use Rattle.mp_chart.specs.declared.entry.Entry.{Entry};
 ghost use Rattle.mp_group_lists.specs.Moments.{AreByMoment, comes_before, is_at, moment_of};
@@ -81,17 +81,16 @@ fn begins_no_earlier(entries: &[Entry], moment: Moment) -> bool
     }
 }
 
-/// How many entries come before a moment or are of it, of entries by moments. Found by halving.
-pub(crate) fn count_upto(entries: &[Entry], moment: Moment) -> usize
+/// How many entries come before a moment or are of it, of entries by moments. Where it is `near` or a little more that come before it,
+/// that takes few looks.
+pub(crate) fn count_upto(entries: &[Entry], moment: Moment, near: usize) -> usize
     ensures bound { result ≤ length entries.now }
     ensures point { AreByMoment entries.now →
         IsPartitionPoint (λ e. comes_before moment (moment_of e.name) ≡ false) (λ e. comes_before moment (moment_of e.name) ≡ true) entries.now result }
 {
-    entries.partition_point(
-        |entry: &Entry| -> bool
-            ensures { result ≡ not (comes_before moment (moment_of entry.now.name)) }
-        { !comes_before(moment, moment_of(entry.name)) },
-    )
+    let start = count_before(entries, moment, near);
+    let count = run_upto(&entries[start..], moment);
+    start + count
 }
 
 // How many entries stand in front of the first that comes after a moment.

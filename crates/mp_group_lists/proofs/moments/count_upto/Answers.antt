@@ -1,13 +1,17 @@
--- Where the entries are by moments, those that come no later than a moment stand in front.
-use Rattle.std.proofs.Common.{of_calls, rules}
-use Rattle.std.proofs.lemmas.Fn.{always_returns_same}
-use Rattle.mp_group_lists.proofs.Runs.{goes_no_later, parted_upto, upto_from_tests}
+-- Those before the moment, and then those up to it.
+use Rattle.std.proofs.Common.{List, subst, sym}
+use Rattle.std.proofs.lemmas.List.{take_rest}
+use Rattle.mp_chart.specs.declared.entry.Entry.{Entry}
+use Rattle.mp_group_lists.specs.Moments.{AreByMoment}
+use Rattle.mp_group_lists.proofs.Runs.{IsUpto, by_moment-drop, upto_in_parts}
 use Rattle.mp_group_lists.proofs.moments.count_upto.Goals as goal
 
 pub returns-clause-point : goal.returns-clause-point
 returns-clause-point c = λ by.
-    upto_from_tests
-    c.args.moment
-    c.args.entries.now
-    c.partition_point.result
-    (c.partition_point.ensures.partitioned (goes_no_later c.args.moment) (always_returns_same _ _ _ (λ a r f k. search (rules, of_calls))) (parted_upto c.args.moment c.args.entries.now by))
+    let es = c.args.entries.now in
+    let m = c.args.moment in
+    let n = c.count_before-start.result in
+    let k = c.run_upto-count.result in
+    let whole = take_rest es n in
+    let point = subst (λ (ys : List Entry). IsUpto m ys k) whole (c.run_upto-count.ensures.point (subst AreByMoment (sym whole) (by_moment-drop n es by))) in
+    upto_in_parts m es n k c.count_before-start.ensures.bound (c.count_before-start.ensures.point by) point
