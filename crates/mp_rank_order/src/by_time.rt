@@ -9,8 +9,8 @@ use crate::rank::lead_of;
 use mp_names::Name;
 use std::alloc::{AllocError, Global};
 
-/// The names by time, those of one time in the order that they have; in that order all, where numbers of 64 bits don't tell the time and the
-/// place of each. `AllocError`: no memory.
+/// The names by time, those of one time in the order that they have. Where the time and the place of each aren't told by one number of 64
+/// bits, all stay in the order that they have. `AllocError`: no memory.
 pub(crate) fn by_time(alloc: Global, names: &[Name]) -> Result<Vec<Name>, AllocError>
     ensures { IfOk result (λ moved. (x : Name) → Contains moved.items x ↔ Contains names.now x) }
 {

@@ -43,7 +43,7 @@ pub fn moments_at(moments: &[Vec<Moment>], stage: u32) -> &[Moment]
 }
 
 // When the groups of a stage are, in their order. Takes n log n comparisons of n numbers for n groups that are made.
-/// `AllocError`: no memory.
+// `AllocError`: no memory.
 fn moments_of<L: OutlineLists>(
     alloc: Global,
     lists: &L,
