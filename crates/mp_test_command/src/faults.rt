@@ -1,8 +1,7 @@
 //! What comes of faults: which come first, and what then stands in the files.
 ghost use Rattle.std.specs.Prelude.{◌<◌};
 
-use crate::fixture::{PIPE, code_of, files};
-use mp_gate::OpenGate;
+use crate::fixture::{Holds, SeeingDepot, Seen, code_of, files};
 use mp_outside::{MemDepot, MemSink, Op};
 use std::alloc::{AllocError, Global};
 use std::process::Abort;
@@ -11,62 +10,138 @@ use std::thread::Threads;
 
 const THREE_BIDS: &[u8] = b"B|5|7|2|100\nB|3|7|1|250\nB|5|2|9|99\n";
 
-/// The lines of each time are one piece.
-const ANSWER: [&[u8]; 2] = [b"3|7|1|222\n", b"5|2|9|88\n5|7|2|89\n"];
+/// Two auctions of a category, one of which closes at 40 and one at 70.
+const TWO_LOTS: &[u8] = b"A|0|1|9|10|0|40\nA|0|2|9|10|0|70\nB|20|1|2|60\nB|65|2|3|90\n";
 
-/// The sums of the prices of each bidder.
-const SUMS: [&[u8]; 2] = [b"3|1|250\n", b"5|2|100\n5|9|99\n"];
+/// What the auctions leave at 70.
+const SAVED: &[u8] =
+    b"K|1|q4|70\nc|0|1|1|9|10|0|40|1|60\nc|0|2|1|9|10|0|70|1|90\nw|0|2|70\nc|1|10|60|1\nE|4\n";
 
-/// The report of three workers.
-const REPORT: [&[u8]; 3] = [b"worker 0 3\n", b"worker 1 0\n", b"worker 2 0\n"];
+/// What a file that is written holds before.
+const OLD: &[u8] = b"old";
 
 const Q1: &str = "megaphone run --query q1 --events e --config c --out o";
 
 const CHECK: &str = "megaphone check --query q1 --events e --config c";
 
-/// What the files of the answer and the report hold before.
-const OLD: &[u8] = b"old";
-
-/// A run of the three bids: its words, and whether they ask for a pipeline and for a report.
-#[derive(Clone, Copy)]
-struct Asked {
-    line: &'static str,
-    piped: bool,
-    reports: bool,
+/// What a run does with a file.
+enum Use {
+    /// It reads these bytes.
+    Reads(&'static [u8]),
+    /// It appends these pieces.
+    Writes(&'static [&'static [u8]]),
 }
 
-const LINES: [Asked; 6] = [
+/// The name of a file, and what a run does with it.
+type File = (&'static str, Use);
+
+const BIDS: File = ("e", Use::Reads(THREE_BIDS));
+
+const LOTS: File = ("e", Use::Reads(TWO_LOTS));
+
+/// The sums of the prices of each bidder.
+const SUMMING: File = ("p", Use::Reads(b"on|B\nsum|2|3|0|any|0\n"));
+
+const EMPTY: File = ("c", Use::Reads(b""));
+
+/// The lines of each time are one piece.
+const ANSWER: File = ("o", Use::Writes(&[b"3|7|1|222\n", b"5|2|9|88\n5|7|2|89\n"]));
+
+const SUMS: File = ("o", Use::Writes(&[b"3|1|250\n", b"5|2|100\n5|9|99\n"]));
+
+/// The report of three workers with one bin.
+const REPORT: File = (
+    "r",
+    Use::Writes(&[b"worker 0 3\n", b"worker 1 0\n", b"worker 2 0\n"]),
+);
+
+const FIRST_SALE: File = ("o", Use::Writes(&[b"40|10|60\n"]));
+
+/// Four groups of auctions and one of a sale are below 70, and the wake at 40.
+const FIRST_REPORT: File = (
+    "r",
+    Use::Writes(&[b"worker 0 6\n", b"worker 1 0\n", b"worker 2 0\n"]),
+);
+
+/// A line is one piece.
+const SAVES: File = (
+    "s",
+    Use::Writes(&[
+        b"K|1|q4|70\n",
+        b"c|0|1|1|9|10|0|40|1|60\n",
+        b"c|0|2|1|9|10|0|70|1|90\n",
+        b"w|0|2|70\n",
+        b"c|1|10|60|1\n",
+        b"E|4\n",
+    ]),
+);
+
+const GOES_ON: File = ("s", Use::Reads(SAVED));
+
+const SECOND_SALE: File = ("o", Use::Writes(&[b"70|10|75\n"]));
+
+/// The wake at 70 and the sale.
+const SECOND_REPORT: File = (
+    "r",
+    Use::Writes(&[b"worker 0 2\n", b"worker 1 0\n", b"worker 2 0\n"]),
+);
+
+/// A run: its words, and its files in the order in which it comes to them.
+struct Asked {
+    line: &'static str,
+    files: &'static [File],
+}
+
+const LINES: [Asked; 10] = [
     Asked {
         line: "megaphone run --query q1 --events e --config c --out o --workers 3",
-        piped: false,
-        reports: false,
+        files: &[BIDS, EMPTY, ANSWER],
     },
     Asked {
         line: "megaphone run --query q1 --events e --config c --out o --workers 3 --bins 1 --report r",
-        piped: false,
-        reports: true,
+        files: &[BIDS, EMPTY, ANSWER, REPORT],
     },
     Asked {
         line: "megaphone replay --query q1 --events e --config c --out o",
-        piped: false,
-        reports: false,
+        files: &[BIDS, EMPTY, ANSWER],
     },
     Asked {
         line: "megaphone replay --query q1 --events e --config c --out o --workers 3 --bins 1 --seed 7 --report r",
-        piped: false,
-        reports: true,
+        files: &[BIDS, EMPTY, ANSWER, REPORT],
     },
     Asked {
         line: "megaphone run --query pipe --pipe p --events e --config c --out o --workers 3",
-        piped: true,
-        reports: false,
+        files: &[BIDS, SUMMING, EMPTY, SUMS],
     },
     Asked {
         line: "megaphone replay --query pipe --pipe p --events e --config c --out o --workers 3 --bins 1 --report r",
-        piped: true,
-        reports: true,
+        files: &[BIDS, SUMMING, EMPTY, SUMS, REPORT],
+    },
+    Asked {
+        line: "megaphone run --query q4 --events e --config c --out o --workers 3 --bins 1 --report r --until 70 --save s",
+        files: &[LOTS, EMPTY, FIRST_SALE, FIRST_REPORT, SAVES],
+    },
+    Asked {
+        line: "megaphone replay --query q4 --events e --config c --out o --until 70 --save s",
+        files: &[LOTS, EMPTY, FIRST_SALE, SAVES],
+    },
+    Asked {
+        line: "megaphone run --query q4 --events e --config c --out o --workers 3 --from s",
+        files: &[LOTS, EMPTY, GOES_ON, SECOND_SALE],
+    },
+    Asked {
+        line: "megaphone replay --query q4 --events e --config c --out o --workers 3 --bins 1 --report r --from s",
+        files: &[LOTS, EMPTY, GOES_ON, SECOND_SALE, SECOND_REPORT],
     },
 ];
+
+/// What a file holds before a run.
+fn before(what: &Use) -> &'static [u8] {
+    match what {
+        Use::Reads(bytes) => bytes,
+        Use::Writes(_) => OLD,
+    }
+}
 
 /// A call of the depot: the method, the name, and the bytes that it puts there.
 #[derive(Clone, Copy)]
@@ -76,20 +151,16 @@ struct Call {
     bytes: &'static [u8],
 }
 
-/// The calls that a run of the three bids makes of a depot which gives and takes so many bytes at most.
-fn calls_of(alloc: Global, portion: usize, asked: Asked) -> Result<Vec<Call>, AllocError>
+/// The calls that a run makes for its files, of a depot which gives and takes so many bytes at most.
+fn calls_of(alloc: Global, portion: usize, files: &[File]) -> Result<Vec<Call>, AllocError>
     requires { 0 < portion }
 {
     let mut calls = Vec::new(alloc);
-    reads(&mut calls, "e", THREE_BIDS, portion)?;
-    if asked.piped {
-        reads(&mut calls, "p", PIPE, portion)?;
-    }
-    reads(&mut calls, "c", b"", portion)?;
-    let answer = if asked.piped { &SUMS } else { &ANSWER };
-    writes(&mut calls, "o", answer, portion)?;
-    if asked.reports {
-        writes(&mut calls, "r", &REPORT, portion)?;
+    for (name, what) in files {
+        match what {
+            Use::Reads(bytes) => reads(&mut calls, name, bytes, portion)?,
+            Use::Writes(pieces) => writes(&mut calls, name, pieces, portion)?,
+        }
     }
     Ok(calls)
 }
@@ -142,9 +213,9 @@ fn writes(
     Ok(())
 }
 
-/// What a file holds after these calls.
-fn held(alloc: Global, calls: &[Call], name: &str) -> Result<Vec<u8>, AllocError> {
-    let mut bytes = Vec::from_slice(alloc, OLD)?;
+/// What a file that held these bytes holds after these calls.
+fn held(alloc: Global, calls: &[Call], name: &str, old: &[u8]) -> Result<Vec<u8>, AllocError> {
+    let mut bytes = Vec::from_slice(alloc, old)?;
     for call in calls {
         if call.name == name {
             if call.op == Op::Begin {
@@ -156,51 +227,59 @@ fn held(alloc: Global, calls: &[Call], name: &str) -> Result<Vec<u8>, AllocError
     Ok(bytes)
 }
 
-/// A depot with the three bids, of which the call after these fails.
-fn failing_after(alloc: Global, calls: &[Call], op: Op) -> Result<MemDepot, AllocError> {
-    let mut depot = files(alloc, THREE_BIDS)?;
-    depot.put("o", OLD)?;
-    depot.put("r", OLD)?;
-    let before = calls.iter().filter(|call| call.op == op).count();
-    depot.fail(op, (before as u64).saturating_add(1))?;
+/// A depot with the files of a run, of which the call after these fails.
+fn failing_after(
+    alloc: Global,
+    files: &[File],
+    calls: &[Call],
+    op: Op,
+) -> Result<MemDepot, AllocError> {
+    let mut depot = MemDepot::new(alloc);
+    for (name, what) in files {
+        depot.put(name, before(what))?;
+    }
+    let made = calls.iter().filter(|call| call.op == op).count();
+    depot.fail(op, (made as u64).saturating_add(1))?;
     Ok(depot)
 }
 
 /// Does what a line says on the files of a depot, and compares the status and what is said.
 fn ends_with<R: Threads + Wait + Sync + AllocGlobal + Abort>(
     rt: &R,
-    depot: &mut MemDepot,
+    depot: &mut SeeingDepot<'_>,
     line: &str,
     status: u8,
     says: &str,
 ) -> Result<(), AllocError> {
     let mut said = MemSink::new(rt.alloc());
-    let code = code_of(rt, depot, &mut said, line, &OpenGate)?;
+    let code = code_of(rt, depot, &mut said, line, Holds::Nobody)?;
     assert!(rt; code == status, "{line}");
     assert!(rt; said.bytes() == says.as_bytes(), "{line}");
     Ok(())
 }
 
-/// A file holds what these calls put there.
-fn holds(
+/// Each file of a run holds what these calls put there.
+fn hold(
     rt: &impl Abort,
     alloc: Global,
     depot: &MemDepot,
+    files: &[File],
     calls: &[Call],
-    name: &str,
 ) -> Result<(), AllocError> {
-    let wanted = held(alloc, calls, name)?;
-    assert!(rt; depot.get(name) == Some(wanted.as_slice()), "{name}");
+    for (name, what) in files {
+        let wanted = held(alloc, calls, name, before(what))?;
+        assert!(rt; depot.get(name) == Some(wanted.as_slice()), "{name}");
+    }
     Ok(())
 }
 
 /// How a run ends: where a call fails, which one, the status and what is said.
 type End = (Op, u8, &'static str);
 
-/// Runs a line where the call after these fails, and compares its end.
+/// Does a run where the call after these fails, and compares its end.
 fn ends<R: Threads + Wait + Sync + AllocGlobal + Abort>(
     rt: &R,
-    line: &str,
+    asked: &Asked,
     portion: u64,
     calls: &[Call],
     end: End,
@@ -208,11 +287,14 @@ fn ends<R: Threads + Wait + Sync + AllocGlobal + Abort>(
     requires { 0 < portion }
 {
     let (op, status, says) = end;
-    let mut depot = failing_after(rt.alloc(), calls, op)?;
-    depot.take_at_most(portion);
-    ends_with(rt, &mut depot, line, status, says)?;
-    holds(rt, rt.alloc(), &depot, calls, "o")?;
-    holds(rt, rt.alloc(), &depot, calls, "r")
+    let seen = Seen::nothing();
+    let mut depot = SeeingDepot {
+        memory: failing_after(rt.alloc(), asked.files, calls, op)?,
+        seen: &seen,
+    };
+    depot.memory.take_at_most(portion);
+    ends_with(rt, &mut depot, asked.line, status, says)?;
+    hold(rt, rt.alloc(), &depot.memory, asked.files, calls)
 }
 
 fn end_of(op: Op) -> End {
@@ -225,14 +307,14 @@ fn end_of(op: Op) -> End {
 /// Each of these calls fails once.
 fn each_fails<R: Threads + Wait + Sync + AllocGlobal + Abort>(
     rt: &R,
-    line: &str,
+    asked: &Asked,
     portion: u64,
     calls: &[Call],
 ) -> Result<(), AllocError>
     requires { 0 < portion }
 {
     for (at, call) in calls.iter().enumerate() {
-        ends(rt, line, portion, &calls[..at], end_of(call.op))?;
+        ends(rt, asked, portion, &calls[..at], end_of(call.op))?;
     }
     Ok(())
 }
@@ -240,33 +322,33 @@ fn each_fails<R: Threads + Wait + Sync + AllocGlobal + Abort>(
 /// No call comes after these.
 fn all_are_made<R: Threads + Wait + Sync + AllocGlobal + Abort>(
     rt: &R,
-    line: &str,
+    asked: &Asked,
     portion: u64,
     calls: &[Call],
 ) -> Result<(), AllocError>
     requires { 0 < portion }
 {
     for op in [Op::Find, Op::Read, Op::Begin, Op::Append] {
-        ends(rt, line, portion, calls, (op, 0, ""))?;
+        ends(rt, asked, portion, calls, (op, 0, ""))?;
     }
     Ok(())
 }
 
 fn fails_in_portions<R: Threads + Wait + Sync + AllocGlobal + Abort>(
     rt: &R,
-    asked: Asked,
+    asked: &Asked,
     portion: usize,
 ) -> Result<(), AllocError>
     requires { 0 < portion }
 {
-    let calls = calls_of(rt.alloc(), portion, asked)?;
-    each_fails(rt, asked.line, portion as u64, calls.as_slice())?;
-    all_are_made(rt, asked.line, portion as u64, calls.as_slice())
+    let calls = calls_of(rt.alloc(), portion, asked.files)?;
+    each_fails(rt, asked, portion as u64, calls.as_slice())?;
+    all_are_made(rt, asked, portion as u64, calls.as_slice())
 }
 
 #[test]
 fn failing_calls(rt: HostRuntime) -> Result<(), AllocError> {
-    for asked in LINES {
+    for asked in &LINES {
         for portion in [1, 7, 64] {
             fails_in_portions(&rt, asked, portion)?;
         }
@@ -281,8 +363,12 @@ fn finds<R: Threads + Wait + Sync + AllocGlobal + Abort>(
     status: u8,
     says: &str,
 ) -> Result<(), AllocError> {
-    let mut depot = files(rt.alloc(), b"x")?;
-    depot.fail(Op::Find, nth)?;
+    let seen = Seen::nothing();
+    let mut depot = SeeingDepot {
+        memory: files(rt.alloc(), b"x")?,
+        seen: &seen,
+    };
+    depot.memory.fail(Op::Find, nth)?;
     ends_with(rt, &mut depot, Q1, status, says)
 }
 
@@ -308,9 +394,13 @@ fn says_first<R: Threads + Wait + Sync + AllocGlobal + Abort>(
     says: &[u8],
     status: u8,
 ) -> Result<(), AllocError> {
-    let mut depot = files(rt.alloc(), events)?;
+    let seen = Seen::nothing();
+    let mut depot = SeeingDepot {
+        memory: files(rt.alloc(), events)?,
+        seen: &seen,
+    };
     let mut said = failing_output(rt.alloc(), says.len() as u64)?;
-    let code = code_of(rt, &mut depot, &mut said, line, &OpenGate)?;
+    let code = code_of(rt, &mut depot, &mut said, line, Holds::Nobody)?;
     assert!(rt; code == status, "{line}");
     assert!(rt; said.bytes() == says, "{line}");
     Ok(())

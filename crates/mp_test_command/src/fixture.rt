@@ -1,19 +1,149 @@
-//! What the tests share: files in memory, and a call of the command.
+//! What the tests share: a depot and a gate that see what workers do, and a call of the command.
+ghost use Rattle.std.specs.Prelude.{⊤};
+ghost use Rattle.mp_outside.specs.Memory.{depot_files, depot_read_faults, depot_write_faults};
+
 use mp_cli::run;
-use mp_gate::Gate;
-use mp_outside::{Depot, MemDepot, MemSink};
+use mp_gate::{Gate, Kind};
+use mp_meet::Meet;
+use mp_outside::{Depot, Fault, MemDepot, MemSink};
 use std::alloc::{AllocError, Global};
 use std::sync::Wait;
+use std::sync::atomic::{AtomicBool, Ordering};
+use std::thread;
 use std::thread::Threads;
 
-/// A pipeline that sums the prices of each bidder.
-pub const PIPE: &[u8] = b"on|B\nsum|2|3|0|any|0\n";
+/// How often worker 2 asks at most whether an append failed.
+const TURNS: u32 = 1_000_000;
 
-/// An event file `e`, a pipeline `p` and an empty configuration `c`.
+/// What a gate and a depot have seen.
+#[derive(Drop)]
+pub struct Seen {
+    /// Worker 1 passed the gate with Apply.
+    pub first_applies: AtomicBool,
+    /// Worker 2 did.
+    pub second_applies: AtomicBool,
+    /// The last pass of worker 0 was with Write.
+    writes: AtomicBool,
+    /// An append to the answer came while it wasn't.
+    pub strayed: AtomicBool,
+    /// The last append failed.
+    failed: AtomicBool,
+    /// Worker 2 waited for that in vain.
+    pub missed: AtomicBool,
+}
+
+impl Seen {
+    /// Nothing is seen yet.
+    pub fn nothing() -> Seen {
+        Seen {
+            first_applies: AtomicBool::new(false),
+            second_applies: AtomicBool::new(false),
+            writes: AtomicBool::new(false),
+            strayed: AtomicBool::new(false),
+            failed: AtomicBool::new(false),
+            missed: AtomicBool::new(false),
+        }
+    }
+
+    /// A worker passes the gate.
+    fn note(&self, worker: u32, kind: Kind) {
+        match (worker, kind) {
+            (0, _) => self.writes.store(kind == Kind::Write, Ordering::SeqCst),
+            (1, Kind::Apply(_)) => self.first_applies.store(true, Ordering::SeqCst),
+            (2, Kind::Apply(_)) => self.second_applies.store(true, Ordering::SeqCst),
+            _ => {}
+        }
+    }
+
+    /// Waits until an append has failed, but only once in vain.
+    fn await_failure(&self) {
+        if self.missed.load(Ordering::SeqCst) {
+            return;
+        }
+        for _ in 0..TURNS {
+            if self.failed.load(Ordering::SeqCst) {
+                return;
+            }
+            thread::yield_now();
+        }
+        self.missed.store(true, Ordering::SeqCst);
+    }
+}
+
+/// Whom a gate holds back.
+#[derive(Clone, Copy)]
+pub enum Holds<'s> {
+    Nobody,
+    /// Worker 2, until an append has failed.
+    Second,
+    /// Two workers, until they meet.
+    Two(&'s Meet),
+}
+
+/// A gate that tells who passes it, and holds workers back.
+#[derive(Drop)]
+struct SeeingGate<'s> {
+    seen: &'s Seen,
+    holds: Holds<'s>,
+}
+
+impl<'s> Gate for SeeingGate<'s> {
+    fn pass(&self, worker: u32, kind: Kind) {
+        self.seen.note(worker, kind);
+        match self.holds {
+            Holds::Nobody => {}
+            Holds::Second => {
+                if worker == 2 {
+                    self.seen.await_failure();
+                }
+            }
+            Holds::Two(meet) => meet.pass(worker, kind),
+        }
+    }
+}
+
+/// A depot in memory that tells of appends.
+#[derive(Drop)]
+pub struct SeeingDepot<'s> {
+    pub memory: MemDepot,
+    pub seen: &'s Seen,
+}
+
+impl<'s> Depot for SeeingDepot<'s> {
+    ghost files = { λ d. depot_files d.memory };
+
+    ghost read_faults = { λ d. depot_read_faults d.memory };
+
+    ghost write_faults = { λ d. depot_write_faults d.memory };
+
+    ghost found = { λ before name there after. ⊤ };
+
+    fn find(&mut self, name: &str) -> Result<bool, Fault> {
+        self.memory.find(name)
+    }
+
+    fn read(&mut self, name: &str, at: u64, into: &mut [u8]) -> Result<usize, Fault> {
+        self.memory.read(name, at, into)
+    }
+
+    fn begin(&mut self, name: &str) -> Result<(), Fault> {
+        self.memory.begin(name)
+    }
+
+    fn append(&mut self, name: &str, piece: &[u8]) -> Result<usize, Fault> {
+        if name == "o" && !self.seen.writes.load(Ordering::SeqCst) {
+            self.seen.strayed.store(true, Ordering::SeqCst);
+        }
+        let took = self.memory.append(name, piece);
+        self.seen.failed.store(took.is_err(), Ordering::SeqCst);
+        took
+    }
+}
+
+/// An event file `e` and an empty configuration `c`.
 pub fn files(alloc: Global, events: &[u8]) -> Result<MemDepot, AllocError> {
     let mut depot = MemDepot::new(alloc);
     depot.put("e", events)?;
-    depot.put("p", PIPE)?;
     depot.put("c", b"")?;
     Ok(depot)
 }
@@ -27,15 +157,20 @@ fn cut(alloc: Global, line: &str) -> Result<Vec<String>, AllocError> {
     Ok(words)
 }
 
-/// Does what a line says on the files of a depot, with this gate: the status.
-pub fn code_of<R: Threads + Wait + Sync + AllocGlobal, D: Depot, G: Gate + Sync>(
+/// Does what a line says on the files of a depot, with a gate: the status. One kind of depot and one of gate serve all tests, so
+/// that the command is compiled once.
+pub fn code_of<R: Threads + Wait + Sync + AllocGlobal>(
     rt: &R,
-    depot: &mut D,
+    depot: &mut SeeingDepot<'_>,
     said: &mut MemSink,
     line: &str,
-    gate: &G,
+    holds: Holds<'_>,
 ) -> Result<u8, AllocError> {
     let words = cut(rt.alloc(), line)?;
-    let ended = run(rt, words.as_slice(), depot, said, gate);
+    let gate = SeeingGate {
+        seen: depot.seen,
+        holds,
+    };
+    let ended = run(rt, words.as_slice(), depot, said, &gate);
     Ok(ended.code)
 }
