@@ -4,8 +4,9 @@ ghost use Rattle.mp_job.specs.Runs.{IsRunOf};
 ghost use Rattle.mp_model.specs.Tables.{table_of};
 ghost use Rattle.mp_output.specs.Rows.{GivesRows};
 
+use crate::saving::PLAN;
 use mp_board::Cause;
-use mp_drive::{RunPlan, replay};
+use mp_drive::replay;
 use mp_gate::OpenGate;
 use mp_job::Job;
 use mp_model::{Naming, Query};
@@ -16,13 +17,6 @@ use std::process::Abort;
 use std::sync::Wait;
 use std::test::Fail;
 use std::thread::Threads;
-
-/// Mailboxes for two messages.
-const PLAN: RunPlan = RunPlan {
-    depth: 2,
-    paced: false,
-    keeps: false,
-};
 
 /// The workers of a job write this answer, by four schedules and on threads.
 pub fn writes<Q: Query + Send, R: Threads + Wait + Sync + AllocGlobal + Abort>(

@@ -1,6 +1,7 @@
 //! Layer: tests.
 //!
-//! Tests of jobs that go on from a checkpoint: with another shape and other moves, on one thread and on many.
+//! Tests of jobs that stop at a time, and of jobs that go on from what those leave: what workers write, and the file that is saved. The
+//! second job has another shape and other moves, and runs on one thread and on many.
 #![tactic(auto)]
 
 #[cfg(test)]
@@ -9,3 +10,5 @@ mod going;
 mod lots;
 #[cfg(test)]
 mod persons;
+#[cfg(test)]
+mod saving;
