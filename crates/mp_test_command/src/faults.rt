@@ -1,8 +1,8 @@
 //! What comes of faults: which come first, and what then stands in the files.
 ghost use Rattle.std.specs.Prelude.{◌<◌};
 
-use crate::fixture::{Holds, SeeingDepot, Seen, code_of, files};
-use mp_outside::{MemDepot, MemSink, Op};
+use crate::fixture::{End, Holds, SeeingDepot, Seen, ends, failing_files, files};
+use mp_outside::{MemDepot, Op};
 use std::alloc::{AllocError, Global};
 use std::process::Abort;
 use std::sync::Wait;
@@ -165,6 +165,16 @@ fn calls_of(alloc: Global, portion: usize, files: &[File]) -> Result<Vec<Call>, 
     Ok(calls)
 }
 
+fn note(
+    calls: &mut Vec<Call>,
+    op: Op,
+    name: &'static str,
+    bytes: &'static [u8],
+) -> Result<(), AllocError> {
+    calls.push(Call { op, name, bytes })?;
+    Ok(())
+}
+
 /// A file is found and read to its end.
 fn reads(
     calls: &mut Vec<Call>,
@@ -174,17 +184,11 @@ fn reads(
 ) -> Result<(), AllocError>
     requires { 0 < portion }
 {
-    let call = |op| Call {
-        op,
-        name,
-        bytes: b"",
-    };
-    calls.push(call(Op::Find))?;
+    note(calls, Op::Find, name, b"")?;
     for _ in bytes.chunks(portion) {
-        calls.push(call(Op::Read))?;
+        note(calls, Op::Read, name, b"")?;
     }
-    calls.push(call(Op::Read))?;
-    Ok(())
+    note(calls, Op::Read, name, b"")
 }
 
 /// A file is begun, and pieces are put into it.
@@ -196,19 +200,24 @@ fn writes(
 ) -> Result<(), AllocError>
     requires { 0 < portion }
 {
-    calls.push(Call {
-        op: Op::Begin,
-        name,
-        bytes: b"",
-    })?;
+    note(calls, Op::Begin, name, b"")?;
     for piece in pieces {
-        for bytes in piece.chunks(portion) {
-            calls.push(Call {
-                op: Op::Append,
-                name,
-                bytes,
-            })?;
-        }
+        puts(calls, name, piece, portion)?;
+    }
+    Ok(())
+}
+
+/// A piece is put into a file.
+fn puts(
+    calls: &mut Vec<Call>,
+    name: &'static str,
+    piece: &'static [u8],
+    portion: usize,
+) -> Result<(), AllocError>
+    requires { 0 < portion }
+{
+    for bytes in piece.chunks(portion) {
+        note(calls, Op::Append, name, bytes)?;
     }
     Ok(())
 }
@@ -227,37 +236,6 @@ fn held(alloc: Global, calls: &[Call], name: &str, old: &[u8]) -> Result<Vec<u8>
     Ok(bytes)
 }
 
-/// A depot with the files of a run, of which the call after these fails.
-fn failing_after(
-    alloc: Global,
-    files: &[File],
-    calls: &[Call],
-    op: Op,
-) -> Result<MemDepot, AllocError> {
-    let mut depot = MemDepot::new(alloc);
-    for (name, what) in files {
-        depot.put(name, before(what))?;
-    }
-    let made = calls.iter().filter(|call| call.op == op).count();
-    depot.fail(op, (made as u64).saturating_add(1))?;
-    Ok(depot)
-}
-
-/// Does what a line says on the files of a depot, and compares the status and what is said.
-fn ends_with<R: Threads + Wait + Sync + AllocGlobal + Abort>(
-    rt: &R,
-    depot: &mut SeeingDepot<'_>,
-    line: &str,
-    status: u8,
-    says: &str,
-) -> Result<(), AllocError> {
-    let mut said = MemSink::new(rt.alloc());
-    let code = code_of(rt, depot, &mut said, line, Holds::Nobody)?;
-    assert!(rt; code == status, "{line}");
-    assert!(rt; said.bytes() == says.as_bytes(), "{line}");
-    Ok(())
-}
-
 /// Each file of a run holds what these calls put there.
 fn hold(
     rt: &impl Abort,
@@ -273,34 +251,73 @@ fn hold(
     Ok(())
 }
 
-/// How a run ends: where a call fails, which one, the status and what is said.
-type End = (Op, u8, &'static str);
+/// How many of these calls are of this method.
+fn count(calls: &[Call], op: Op) -> u64 {
+    let mut count: u64 = 0;
+    for call in calls {
+        if call.op == op {
+            count = count.saturating_add(1);
+        }
+    }
+    count
+}
+
+/// The files of a run, of whose calls the one after these fails.
+fn prepare(depot: &mut MemDepot, files: &[File], calls: &[Call], op: Op) -> Result<(), AllocError> {
+    for (name, what) in files {
+        depot.put(name, before(what))?;
+    }
+    depot.fail(op, count(calls, op).saturating_add(1))
+}
+
+/// A depot that has these, and gives and takes so many bytes at most.
+fn failing_after<'s>(
+    alloc: Global,
+    seen: &'s Seen,
+    asked: &Asked,
+    portion: u64,
+    calls: &[Call],
+    op: Op,
+) -> Result<SeeingDepot<'s>, AllocError>
+    requires { 0 < portion }
+{
+    let mut memory = MemDepot::new(alloc);
+    prepare(&mut memory, asked.files, calls, op)?;
+    memory.take_at_most(portion);
+    Ok(SeeingDepot { memory, seen })
+}
 
 /// Does a run where the call after these fails, and compares its end.
-fn ends<R: Threads + Wait + Sync + AllocGlobal + Abort>(
+fn fails_after<R: Threads + Wait + Sync + AllocGlobal + Abort>(
     rt: &R,
     asked: &Asked,
     portion: u64,
     calls: &[Call],
-    end: End,
+    op: Op,
+    end: End<'_>,
 ) -> Result<(), AllocError>
     requires { 0 < portion }
 {
-    let (op, status, says) = end;
     let seen = Seen::nothing();
-    let mut depot = SeeingDepot {
-        memory: failing_after(rt.alloc(), asked.files, calls, op)?,
-        seen: &seen,
-    };
-    depot.memory.take_at_most(portion);
-    ends_with(rt, &mut depot, asked.line, status, says)?;
+    let mut depot = failing_after(rt.alloc(), &seen, asked, portion, calls, op)?;
+    ends_so(rt, &mut depot, asked, calls, end)
+}
+
+fn ends_so<R: Threads + Wait + Sync + AllocGlobal + Abort>(
+    rt: &R,
+    depot: &mut SeeingDepot<'_>,
+    asked: &Asked,
+    calls: &[Call],
+    end: End<'_>,
+) -> Result<(), AllocError> {
+    ends(rt, depot, asked.line, Holds::Nobody, end)?;
     hold(rt, rt.alloc(), &depot.memory, asked.files, calls)
 }
 
-fn end_of(op: Op) -> End {
+fn end_of(op: Op) -> End<'static> {
     match op {
-        Op::Find | Op::Read => (op, 6, "read fault\n"),
-        _ => (op, 7, "write fault\n"),
+        Op::Find | Op::Read => End::of(6, b"read fault\n"),
+        _ => End::of(7, b"write fault\n"),
     }
 }
 
@@ -314,7 +331,8 @@ fn each_fails<R: Threads + Wait + Sync + AllocGlobal + Abort>(
     requires { 0 < portion }
 {
     for (at, call) in calls.iter().enumerate() {
-        ends(rt, asked, portion, &calls[..at], end_of(call.op))?;
+        let op = call.op;
+        fails_after(rt, asked, portion, &calls[..at], op, end_of(op))?;
     }
     Ok(())
 }
@@ -328,10 +346,23 @@ fn all_are_made<R: Threads + Wait + Sync + AllocGlobal + Abort>(
 ) -> Result<(), AllocError>
     requires { 0 < portion }
 {
-    for op in [Op::Find, Op::Read, Op::Begin, Op::Append] {
-        ends(rt, asked, portion, calls, (op, 0, ""))?;
+    for op in &[Op::Find, Op::Read, Op::Begin, Op::Append] {
+        fails_after(rt, asked, portion, calls, *op, End::of(0, b""))?;
     }
     Ok(())
+}
+
+/// Each of these calls fails once, and no call comes after them.
+fn fails_at<R: Threads + Wait + Sync + AllocGlobal + Abort>(
+    rt: &R,
+    asked: &Asked,
+    portion: u64,
+    calls: &[Call],
+) -> Result<(), AllocError>
+    requires { 0 < portion }
+{
+    each_fails(rt, asked, portion, calls)?;
+    all_are_made(rt, asked, portion, calls)
 }
 
 fn fails_in_portions<R: Threads + Wait + Sync + AllocGlobal + Abort>(
@@ -342,16 +373,15 @@ fn fails_in_portions<R: Threads + Wait + Sync + AllocGlobal + Abort>(
     requires { 0 < portion }
 {
     let calls = calls_of(rt.alloc(), portion, asked.files)?;
-    each_fails(rt, asked, portion as u64, calls.as_slice())?;
-    all_are_made(rt, asked, portion as u64, calls.as_slice())
+    fails_at(rt, asked, portion as u64, calls.as_slice())
 }
 
 #[test]
 fn failing_calls(rt: HostRuntime) -> Result<(), AllocError> {
     for asked in &LINES {
-        for portion in [1, 7, 64] {
-            fails_in_portions(&rt, asked, portion)?;
-        }
+        fails_in_portions(&rt, asked, 1)?;
+        fails_in_portions(&rt, asked, 7)?;
+        fails_in_portions(&rt, asked, 64)?;
     }
     Ok(())
 }
@@ -360,50 +390,29 @@ fn failing_calls(rt: HostRuntime) -> Result<(), AllocError> {
 fn finds<R: Threads + Wait + Sync + AllocGlobal + Abort>(
     rt: &R,
     nth: u64,
-    status: u8,
-    says: &str,
+    end: End<'_>,
 ) -> Result<(), AllocError> {
     let seen = Seen::nothing();
-    let mut depot = SeeingDepot {
-        memory: files(rt.alloc(), b"x")?,
-        seen: &seen,
-    };
-    depot.memory.fail(Op::Find, nth)?;
-    ends_with(rt, &mut depot, Q1, status, says)
+    let mut depot = failing_files(rt.alloc(), &seen, b"x", Op::Find, nth)?;
+    ends(rt, &mut depot, Q1, Holds::Nobody, end)
 }
 
 #[test]
 fn faults_and_bad_lines(rt: HostRuntime) -> Result<(), AllocError> {
-    finds(&rt, 1, 6, "read fault\n")?;
-    finds(&rt, 2, 3, "events line 1: kind\n")
+    finds(&rt, 1, End::of(6, b"read fault\n"))?;
+    finds(&rt, 2, End::of(3, b"events line 1: kind\n"))
 }
 
-/// An output that takes so many bytes one by one and then fails.
-fn failing_output(alloc: Global, taken: u64) -> Result<MemSink, AllocError> {
-    let mut said = MemSink::new(alloc);
-    said.take_at_most(1);
-    said.fail(Op::Write, taken.saturating_add(1))?;
-    Ok(said)
-}
-
-/// Runs a line with such an output, and compares its end.
+/// Does what a line says on these events, and compares its end.
 fn says_first<R: Threads + Wait + Sync + AllocGlobal + Abort>(
     rt: &R,
     line: &str,
     events: &[u8],
-    says: &[u8],
-    status: u8,
+    end: End<'_>,
 ) -> Result<(), AllocError> {
     let seen = Seen::nothing();
-    let mut depot = SeeingDepot {
-        memory: files(rt.alloc(), events)?,
-        seen: &seen,
-    };
-    let mut said = failing_output(rt.alloc(), says.len() as u64)?;
-    let code = code_of(rt, &mut depot, &mut said, line, Holds::Nobody)?;
-    assert!(rt; code == status, "{line}");
-    assert!(rt; said.bytes() == says, "{line}");
-    Ok(())
+    let mut depot = files(rt.alloc(), &seen, events)?;
+    ends(rt, &mut depot, line, Holds::Nobody, end)
 }
 
 /// The output fails at each of the bytes, and at none.
@@ -411,18 +420,22 @@ fn fails_at_each<R: Threads + Wait + Sync + AllocGlobal + Abort>(
     rt: &R,
     said: &Said,
 ) -> Result<(), AllocError> {
-    let says = said.says.as_bytes();
-    for taken in 0..says.len() {
-        says_first(rt, said.line, said.events, &says[..taken], said.fault)?;
+    for taken in 0..said.says.len() {
+        let end = End {
+            status: said.fault,
+            says: &said.says[..taken],
+            taken: taken as u64,
+        };
+        says_first(rt, said.line, said.events, end)?;
     }
-    says_first(rt, said.line, said.events, says, said.whole)
+    says_first(rt, said.line, said.events, End::of(said.whole, said.says))
 }
 
 /// The words, the events, what is said, and the status where the output fails and where it doesn't.
 struct Said {
     line: &'static str,
     events: &'static [u8],
-    says: &'static str,
+    says: &'static [u8],
     fault: u8,
     whole: u8,
 }
@@ -431,14 +444,14 @@ const SAID: [Said; 2] = [
     Said {
         line: Q1,
         events: b"x",
-        says: "events line 1: kind\n",
+        says: b"events line 1: kind\n",
         fault: 3,
         whole: 3,
     },
     Said {
         line: CHECK,
         events: THREE_BIDS,
-        says: "ok 3 events 0 controls\n",
+        says: b"ok 3 events 0 controls\n",
         fault: 7,
         whole: 0,
     },

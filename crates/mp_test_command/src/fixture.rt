@@ -5,8 +5,9 @@ ghost use Rattle.mp_outside.specs.Memory.{depot_files, depot_read_faults, depot_
 use mp_cli::run;
 use mp_gate::{Gate, Kind};
 use mp_meet::Meet;
-use mp_outside::{Depot, Fault, MemDepot, MemSink};
+use mp_outside::{Depot, Fault, MemDepot, MemSink, Op};
 use std::alloc::{AllocError, Global};
+use std::process::Abort;
 use std::sync::Wait;
 use std::sync::atomic::{AtomicBool, Ordering};
 use std::thread;
@@ -141,25 +142,53 @@ impl<'s> Depot for SeeingDepot<'s> {
 }
 
 /// An event file `e` and an empty configuration `c`.
-pub fn files(alloc: Global, events: &[u8]) -> Result<MemDepot, AllocError> {
-    let mut depot = MemDepot::new(alloc);
-    depot.put("e", events)?;
-    depot.put("c", b"")?;
+fn put_files(memory: &mut MemDepot, events: &[u8]) -> Result<(), AllocError> {
+    memory.put("e", events)?;
+    memory.put("c", b"")
+}
+
+/// A depot with an event file `e` and an empty configuration `c`.
+pub fn files<'s>(
+    alloc: Global,
+    seen: &'s Seen,
+    events: &[u8],
+) -> Result<SeeingDepot<'s>, AllocError> {
+    let mut memory = MemDepot::new(alloc);
+    put_files(&mut memory, events)?;
+    Ok(SeeingDepot { memory, seen })
+}
+
+/// Such a depot, where one call fails.
+pub fn failing_files<'s>(
+    alloc: Global,
+    seen: &'s Seen,
+    events: &[u8],
+    op: Op,
+    nth: u64,
+) -> Result<SeeingDepot<'s>, AllocError> {
+    let mut depot = files(alloc, seen, events)?;
+    depot.memory.fail(op, nth)?;
     Ok(depot)
+}
+
+fn push(alloc: Global, words: &mut Vec<String>, word: &str) -> Result<(), AllocError> {
+    let word = String::from_str(alloc, word)?;
+    words.push(word)?;
+    Ok(())
 }
 
 /// The words of a line, cut at blanks.
 fn cut(alloc: Global, line: &str) -> Result<Vec<String>, AllocError> {
     let mut words = Vec::new(alloc);
     for word in line.split(' ') {
-        words.push(String::from_str(alloc, word)?)?;
+        push(alloc, &mut words, word)?;
     }
     Ok(words)
 }
 
 /// Does what a line says on the files of a depot, with a gate: the status. One kind of depot and one of gate serve all tests, so
 /// that the command is compiled once.
-pub fn code_of<R: Threads + Wait + Sync + AllocGlobal>(
+fn code_of<R: Threads + Wait + Sync + AllocGlobal>(
     rt: &R,
     depot: &mut SeeingDepot<'_>,
     said: &mut MemSink,
@@ -173,4 +202,45 @@ pub fn code_of<R: Threads + Wait + Sync + AllocGlobal>(
     };
     let ended = run(rt, words.as_slice(), depot, said, &gate);
     Ok(ended.code)
+}
+
+/// How a command ends: the status, and what it says, by an output that takes so many bytes one by one and then fails.
+#[derive(Clone, Copy)]
+pub struct End<'a> {
+    pub status: u8,
+    pub says: &'a [u8],
+    pub taken: u64,
+}
+
+impl<'a> End<'a> {
+    /// With an output that doesn't fail.
+    pub fn of(status: u8, says: &'a [u8]) -> End<'a> {
+        End {
+            status,
+            says,
+            taken: u64::MAX,
+        }
+    }
+}
+
+/// Does what a line says on the files of a depot, with a gate, and compares its end.
+pub fn ends<R: Threads + Wait + Sync + AllocGlobal + Abort>(
+    rt: &R,
+    depot: &mut SeeingDepot<'_>,
+    line: &str,
+    holds: Holds<'_>,
+    end: End<'_>,
+) -> Result<(), AllocError> {
+    let mut said = output(rt.alloc(), end.taken)?;
+    let code = code_of(rt, depot, &mut said, line, holds)?;
+    assert!(rt; code == end.status && said.bytes() == end.says, "{line}");
+    Ok(())
+}
+
+/// An output that takes so many bytes one by one and then fails.
+fn output(alloc: Global, taken: u64) -> Result<MemSink, AllocError> {
+    let mut said = MemSink::new(alloc);
+    said.take_at_most(1);
+    said.fail(Op::Write, taken.saturating_add(1))?;
+    Ok(said)
 }

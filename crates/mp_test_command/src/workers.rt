@@ -1,7 +1,6 @@
 //! That the answer comes of the workers: a gate and a depot see what they do.
-use crate::fixture::{Holds, SeeingDepot, Seen, code_of, files};
+use crate::fixture::{End, Holds, SeeingDepot, Seen, ends, files};
 use mp_meet::Meet;
-use mp_outside::MemSink;
 use std::alloc::AllocError;
 use std::process::Abort;
 use std::sync::Wait;
@@ -23,14 +22,21 @@ fn answers<R: Threads + Wait + Sync + AllocGlobal + Abort>(
     holds: Holds<'_>,
     seen: &Seen,
 ) -> Result<(), AllocError> {
-    let mut depot = SeeingDepot {
-        memory: files(rt.alloc(), TWO_BIDS)?,
-        seen,
-    };
-    let mut said = MemSink::new(rt.alloc());
-    let code = code_of(rt, &mut depot, &mut said, line, holds)?;
-    assert!(rt; code == 0, "{line}");
-    assert!(rt; depot.memory.get("o") == Some(b"5|1|1|178\n5|4|1|89\n".as_slice()));
+    let mut depot = files(rt.alloc(), seen, TWO_BIDS)?;
+    answers_in(rt, &mut depot, line, holds)
+}
+
+fn answers_in<R: Threads + Wait + Sync + AllocGlobal + Abort>(
+    rt: &R,
+    depot: &mut SeeingDepot<'_>,
+    line: &str,
+    holds: Holds<'_>,
+) -> Result<(), AllocError> {
+    ends(rt, depot, line, holds, End::of(0, b""))?;
+    assert!(rt;
+        depot.memory.get("o") == Some(b"5|1|1|178\n5|4|1|89\n".as_slice()),
+        "{line}"
+    );
     Ok(())
 }
 
@@ -50,14 +56,21 @@ fn worked(rt: &impl Abort, seen: &Seen) {
     assert!(rt; !seen.strayed.load(Ordering::SeqCst));
 }
 
+/// The workers answer, and their steps are seen.
+fn are_seen<R: Threads + Wait + Sync + AllocGlobal + Abort>(
+    rt: &R,
+    line: &str,
+) -> Result<(), AllocError> {
+    let seen = Seen::nothing();
+    answers(rt, line, Holds::Nobody, &seen)?;
+    worked(rt, &seen);
+    Ok(())
+}
+
 // An answer that is computed beside the workers is appended while worker 0 is at no write, and workers for show alone apply
 // no group.
 #[test]
 fn answers_without_workers(rt: HostRuntime) -> Result<(), AllocError> {
-    for line in [RUN, REPLAY] {
-        let seen = Seen::nothing();
-        answers(&rt, line, Holds::Nobody, &seen)?;
-        worked(&rt, &seen);
-    }
-    Ok(())
+    are_seen(&rt, RUN)?;
+    are_seen(&rt, REPLAY)
 }
