@@ -1,6 +1,7 @@
 pub mod Appended
 pub mod Ended
 pub mod Followed
+pub mod Glanced
 pub mod Journaled
 pub mod Keeping
 pub mod Leading

@@ -1,15 +1,20 @@
 -- The place of a number, and its kind.
-use Rattle.std.proofs.Common.{◌≡◌, ℕ, zero, suc, false, None, ◌+◌, ◌*◌, ◌/◌, ◌%◌, ◌<◌, List, [], ◌∷◌, ◌++◌, map, length, Some, ap, ◌∙◌, sym, subst, arith, ⊎_elim, ◌⊎◌, inl, inr}
+use Rattle.std.proofs.Common.{◌≡◌, ℕ, zero, suc, false, None, ◌+◌, ◌*◌, ◌/◌, ◌%◌, ◌<◌, ◌≤◌, List, [], ◌∷◌, ◌++◌, map, length, Some, ap, refl,  ◌∙◌, sym, subst, arith, ⊎_elim, ◌⊎◌, inl, inr}
 use Rattle.std.specs.List.{slice_get}
-use Rattle.std.proofs.Math.Nat.{div-lt_iff_lt-mul}
+use Rattle.std.proofs.Math.Nat.{div-lt_iff_lt-mul, mod-eq_of_lt, mod-lt, mod_self, suc-mod}
 use Rattle.std.proofs.lemmas.List.{length-map}
 use Rattle.std.proofs.lemmas.Nat.{mul-le}
+use Rattle.mp_names.specs.declared.controls.Shape.{Shape}
 use Rattle.mp_names.specs.declared.kinds.Kind.{Kind}
+use Rattle.mp_names.specs.declared.kinds.Kind.TheVariants.{Apply, Exchange, Extract, Ingest, Receive, Route, SendControl, SendRow, Settle, Write}
 use Rattle.mp_names.specs.Names.{joined_below}
 use Rattle.mp_names.specs.Outlines.{Outline}
-use Rattle.mp_machine.specs.Places.{kinds_of, places}
-use Rattle.mp_machine.proofs.Places.{length_joined, length_kinds, places_counted}
+use Rattle.mp_machine.specs.Places.{each_below, kinds_of, places}
+use Rattle.mp_machine.specs.Steps.{KindFits}
+use Rattle.mp_machine.proofs.Places.{length_joined, length_kinds, last_ones, places_counted, to_apply, to_extract, to_receive, to_route, to_settle}
 use Rattle.mp_worker.proofs.Numbered.{behind, in_front, last_or_not}
+use Rattle.mp_drive.specs.declared.places.Place.{Place}
+use Rattle.mp_drive.specs.Places.{IsPlaceIn, kind_count, place_number}
 
 at_map : {X Y : Type 0} (f : X → Y) (xs : List X) (i : ℕ) (x : X) → slice_get xs i ≡ Some x → slice_get (map f xs) i ≡ Some (f x)
 at_map f [] i x h = absurd (cc)
@@ -51,35 +56,131 @@ some_outline workers stages = record {
   until = None;
 }
 
-pub as_product : (o : Outline) (workers kinds : ℕ) → workers ≡ o.workers → kinds ≡ length (kinds_of o) → workers * kinds ≡ length (places o)
-as_product o workers kinds e f =
-    let n = length_kinds o in
-    let k : kinds ≡ 4 * o.stages + o.workers + 5 = omega arith in
-    both workers o.workers kinds (4 * o.stages + o.workers + 5) e k ∙ sym (places_counted o)
+-- what is counted for all outlines of a shape
+pub kinds_counted : (shape : Shape) (n : ℕ) → ((o : Outline) → o.workers ≡ shape.workers → o.stages ≡ shape.stages → n ≡ length (kinds_of o)) → n ≡ kind_count shape
+kinds_counted shape n h =
+    let o = some_outline shape.workers shape.stages in
+    let l = length_kinds o in
+    let m = h o refl refl in
+    omega arith
+
+pub same_product : (a b x y : ℕ) → a ≡ b → x ≡ y → a * x ≡ b * y
+same_product a b x y e f = cc
+
+pub as_many : (o : Outline) (shape : Shape) → o.workers ≡ shape.workers → o.stages ≡ shape.stages → length (places o) ≡ shape.workers * kind_count shape
+as_many o shape workers stages =
+    let same : 4 * o.stages + o.workers + 5 ≡ kind_count shape = omega (arith, workers, stages) in
+    places_counted o ∙ same_product o.workers shape.workers (4 * o.stages + o.workers + 5) (kind_count shape) workers same
+
+-- The place behind another
+
+inside : (w n k c : ℕ) → w < n → k < c → c * w + k < n * c
+inside w n k c l m =
+    let more : (w + 1) * c ≤ n * c = mul-le (w + 1) c n c (omega arith) (omega arith) in
+    grind arith
+
+-- it is of the same worker
+pub next_kind : (w n k c : ℕ) → w < n → k + 1 < c → c * w + (k + 1) ≡ (c * w + k + 1) % (n * c)
+next_kind w n k c l m =
+    let e : c * w + (k + 1) ≡ c * w + k + 1 = omega arith in
+    e ∙ sym (mod-eq_of_lt (subst (λ (x : ℕ). x < n * c) e (inside w n (k + 1) c l m)))
+
+-- it is of the next worker
+pub next_worker : (w n k c : ℕ) → w + 1 < n → k < c → c ≤ k + 1 → c * (w + 1) + 0 ≡ (c * w + k + 1) % (n * c)
+next_worker w n k c l m last =
+    let e : c * (w + 1) + 0 ≡ c * w + k + 1 = times w k c (omega arith) in
+    e ∙ sym (mod-eq_of_lt (subst (λ (x : ℕ). x < n * c) e (inside (w + 1) n 0 c l (omega arith))))
   where
-    both : (a b x y : ℕ) → a ≡ b → x ≡ y → a * x ≡ b * y
-    both a b x y e f = cc
+    times : (w k c : ℕ) → c ≡ k + 1 → c * (w + 1) + 0 ≡ c * w + k + 1
+    times w k c e = grind arith
 
-pub worker_below : (o : Outline) (place kinds : ℕ) → place < length (places o) → kinds ≡ length (kinds_of o) → place / kinds < o.workers
-worker_below o place kinds l e =
-    let n = length_kinds o in
-    let m = places_counted o in
-    let k : 4 * o.stages + o.workers + 5 ≡ kinds = omega arith in
-    let some : 0 < kinds = omega arith in
-    let below : place < o.workers * kinds = subst (λ (x : ℕ). place < o.workers * x) k (subst (λ (x : ℕ). place < x) m l) in
-    (div-lt_iff_lt-mul some).1 below
+-- it is the first of all
+pub first_again : (w n k c : ℕ) → w < n → n ≤ w + 1 → k < c → c ≤ k + 1 → c * 0 + 0 ≡ (c * w + k + 1) % (n * c)
+first_again w n k c l far m last =
+    let all : w + 1 ≡ n = omega arith in
+    let e : c * w + k + 1 ≡ n * c = times w k c (omega arith) ∙ ap (λ (x : ℕ). x * c) all in
+    let none : c * 0 + 0 ≡ 0 = grind arith in
+    none ∙ sym (mod_self (n * c)) ∙ sym (ap (λ (x : ℕ). x % (n * c)) e)
+  where
+    times : (w k c : ℕ) → c ≡ k + 1 → c * w + k + 1 ≡ (w + 1) * c
+    times w k c e = grind arith
 
-pub place_of_kind : (o : Outline) (kinds place : ℕ) (kind : Kind) → place < length (places o) → kinds ≡ length (kinds_of o) → (place % kinds < length (kinds_of o) → slice_get (kinds_of o) (place % kinds) ≡ Some kind) → slice_get (places o) place ≡ Some (place / kinds, kind)
-place_of_kind o kinds place kind l e h =
-    let n = length_kinds o in
-    let some : 0 < kinds = omega arith in
-    in_kind o (place / kinds) place (place % kinds) kind (worker_below o place kinds l e) (subst (λ (x : ℕ). place ≡ x * (place / kinds) + place % kinds) e (omega arith)) (h (omega arith))
+-- the first of a round
+pub first_of_round : (draw at n : ℕ) → 0 < n → at ≡ draw % n → at ≡ (draw % n + 0) % n
+first_of_round draw at n some e =
+    let same : draw % n + 0 ≡ draw % n = omega arith in
+    e ∙ sym (mod-eq_of_lt (mod-lt draw some)) ∙ sym (ap (λ (x : ℕ). x % n) same)
+
+-- from one place to the next, in a round from some place on
+pub goes_round : (start tried next at n : ℕ) → at ≡ (start + tried) % n → next ≡ (at + 1) % n → next ≡ (start + (tried + 1)) % n
+goes_round start tried next at n was e =
+    let one : at + 1 ≡ suc at = omega arith in
+    let more : suc (start + tried) ≡ start + (tried + 1) = omega arith in
+    e ∙ ap (λ (x : ℕ). x % n) one ∙ ap (λ (x : ℕ). suc x % n) was ∙ sym (suc-mod (start + tried) n) ∙ ap (λ (x : ℕ). x % n) more
+
+-- a place of a job's shape stands in the places of its outline
+pub kind_within : (o : Outline) (shape : Shape) (place : Place) → o.workers ≡ shape.workers → o.stages ≡ shape.stages → IsPlaceIn shape place → place.kind < length (kinds_of o)
+kind_within o shape place workers stages is =
+    let l = length_kinds o in
+    omega (arith, is.kind, workers, stages)
+
+pub stands : (o : Outline) (shape : Shape) (place : Place) (kind : Kind) → o.workers ≡ shape.workers → o.stages ≡ shape.stages → IsPlaceIn shape place → slice_get (kinds_of o) place.kind ≡ Some kind → slice_get (places o) (place_number shape place) ≡ Some (place.worker, kind)
+stands o shape place kind workers stages is h =
+    let l = length_kinds o in
+    let same : kind_count shape ≡ length (kinds_of o) = omega (arith, l, workers, stages) in
+    in_kind o place.worker (place_number shape place) place.kind kind (omega (arith, is.worker, workers)) (ap (λ (x : ℕ). x * place.worker + place.kind) same) h
 
 -- what stands in one list behind another stands in one of them
 in_either : {X : Type 0} (xs ys : List X) (i : ℕ) (x : X) → slice_get (xs ++ ys) i ≡ Some x → (slice_get xs i ≡ Some x) ⊎ ((k : ℕ) × (slice_get ys k ≡ Some x))
 in_either [] ys i x h = inr (i, h)
 in_either (y ∷ xs) ys zero x h = inl h
 in_either (y ∷ xs) ys (suc i) x h = in_either xs ys i x h
+
+-- The outline has what each of its kinds names
+
+each_is : (n : ℕ) (make : ℕ → Kind) (i : ℕ) (kind : Kind) → slice_get (each_below n make) i ≡ Some kind → (k : ℕ) × (k < n) × (make k ≡ kind)
+each_is zero make i kind h = absurd (cc)
+each_is (suc n) make i kind h =
+    ⊎_elim
+    (λ (b : slice_get (each_below n make) i ≡ Some kind). let r = each_is n make i kind b in let l = r.1 in (r.0, omega arith, r.2))
+    (λ (b : (k : ℕ) × (slice_get (make n ∷ []) k ≡ Some kind)). (n, omega arith, only b.0 b.1))
+    (in_either (each_below n make) (make n ∷ []) i kind h)
+  where
+    only : (k : ℕ) → slice_get (make n ∷ []) k ≡ Some kind → make n ≡ kind
+    only zero e = cc
+    only (suc k) e = absurd (cc)
+
+module _ (o : Outline) (kind : Kind) where
+  each_fits : (n : ℕ) (make : ℕ → Kind) → ((k : ℕ) → k < n → KindFits o (make k)) → (k : ℕ) → slice_get (each_below n make) k ≡ Some kind → KindFits o kind
+  each_fits n make fits k h = let r = each_is n make k kind h in subst (KindFits o) r.2 (fits r.0 r.1)
+
+  first_fits : (i : ℕ) → slice_get (Ingest ∷ SendControl ∷ []) i ≡ Some kind → KindFits o kind
+  first_fits zero h = let e : Ingest ≡ kind = cc in subst (KindFits o) e tt
+  first_fits (suc zero) h = let e : SendControl ≡ kind = cc in subst (KindFits o) e tt
+  first_fits (suc (suc i)) h = absurd (cc)
+
+  last_fits : (i : ℕ) → slice_get last_ones i ≡ Some kind → KindFits o kind
+  last_fits zero h = let e : SendRow ≡ kind = cc in subst (KindFits o) e tt
+  last_fits (suc zero) h = let e : Write ≡ kind = cc in subst (KindFits o) e tt
+  last_fits (suc (suc zero)) h = let e : Exchange ≡ kind = cc in subst (KindFits o) e tt
+  last_fits (suc (suc (suc i))) h = absurd (cc)
+
+  behind_fits : (xs ys : List Kind) → ((i : ℕ) → slice_get xs i ≡ Some kind → KindFits o kind) → ((i : ℕ) → slice_get ys i ≡ Some kind → KindFits o kind) → (i : ℕ) → slice_get (xs ++ ys) i ≡ Some kind → KindFits o kind
+  behind_fits xs ys first second i h = ⊎_elim (λ (b : slice_get xs i ≡ Some kind). first i b) (λ (b : (k : ℕ) × (slice_get ys k ≡ Some kind)). second b.0 b.1) (in_either xs ys i kind h)
+
+  pub kind_fits : (i : ℕ) → slice_get (kinds_of o) i ≡ Some kind → KindFits o kind
+  kind_fits =
+      behind_fits (to_apply o) last_ones
+      (behind_fits (to_settle o) (each_below o.stages Apply)
+      (behind_fits (to_extract o) (each_below o.stages Settle)
+      (behind_fits (to_receive o) (each_below o.stages Extract)
+      (behind_fits (to_route o) (each_below o.workers Receive)
+      (behind_fits (Ingest ∷ SendControl ∷ []) (each_below o.stages Route) first_fits (each_fits o.stages Route (λ k l. l)))
+      (each_fits o.workers Receive (λ k l. l)))
+      (each_fits o.stages Extract (λ k l. l)))
+      (each_fits o.stages Settle (λ k l. l)))
+      (each_fits o.stages Apply (λ k l. l)))
+      last_fits
 
 of_worker : (w : ℕ) (kinds : List Kind) (i : ℕ) (p : ℕ × Kind) → slice_get (map (λ kind. (w, kind)) kinds) i ≡ Some p → p.0 ≡ w
 of_worker w [] i p h = absurd (cc)

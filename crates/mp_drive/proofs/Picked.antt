@@ -16,7 +16,7 @@ use Rattle.mp_worker.proofs.Numbered.{behind, in_front}
 use Rattle.mp_drive.specs.Driven.{AreAfter}
 use Rattle.mp_drive.specs.Schedule.{AreFinished, AreScheduled, IsTried, can_make, pick, places_from}
 use Rattle.mp_tally.proofs.Lists.{push_all}
-use Rattle.mp_drive.proofs.Tried.{NoneOf}
+use Rattle.mp_drive.proofs.Tried.{ComesNext}
 
 -- Lists that are rotated
 
@@ -88,17 +88,20 @@ module _ (o : Outline) (t : SystemState) (draw tried : ℕ) (place : ℕ × Kind
   abbrev start : ℕ
   start = draw % length (places o)
 
-  module _ (some : 0 < length (places o)) (l : tried < length (places o)) (none : NoneOf o t start tried) (is : slice_get (places o) ((start + tried) % length (places o)) ≡ Some place)
-      (before : List (ℕ × Kind)) (are : AreAfter o before t) where
+  module _ (next : ComesNext o t draw tried place) (before : List (ℕ × Kind)) (are : AreAfter o before t) where
     abbrev world : World
     world = run_of_machine o t.post.depth before
 
+    within : start < length (places o)
+    within = mod-lt draw next.some
+
     stands : slice_get (places_from o draw) tried ≡ Some place
-    stands = rotated (places o) start tried place (mod-lt draw some) l is
+    stands = rotated (places o) start tried place within next.below next.is
 
     none_before : (i : ℕ) (p : ℕ × Kind) → i < tried → slice_get (places_from o draw) i ≡ Some p → can_make o t.post.depth world p ≡ false
     none_before i p m e =
-        ap is_made (none i m p (unrotated (places o) start i p (mod-lt draw some) (omega arith) e) before are)
+        let l = next.below in
+        ap is_made (next.none i m p (unrotated (places o) start i p within (omega arith) e) before are)
 
     -- its step is tried
     pub tries : IsTried o t.post.depth world draw place

@@ -19,20 +19,19 @@ use Rattle.mp_drive.specs.Refused.{IsWriteNext, IsWriteTried, KeepsSteps, Refuse
 use Rattle.mp_drive.specs.Schedule.{IsTried}
 use Rattle.mp_drive.proofs.Leading.{leads_further, still_there}
 use Rattle.mp_drive.proofs.Picked.{tries}
-use Rattle.mp_drive.proofs.Tried.{NoneOf}
+use Rattle.mp_drive.proofs.Tried.{ComesNext}
 
 -- what holds of a reason holds of it where it is handed on
 pub handed_on : {T E : Type 0} (K : E → Type 0) (r : Result T E) (x y : E) → r ≡ Err y → y ≡ x → K x → IfErr r K
 handed_on K r x y e f k = subst (λ (g : Result _ _). IfErr g K) (sym e) (subst K (sym f) k)
 
 -- a write that is tried for a draw
-pub write_tried : (o : Outline) (t : SystemState) (draw tried : ℕ) (place : ℕ × Kind) → 0 < length (places o) → tried < length (places o) → NoneOf o t (draw % length (places o)) tried → slice_get (places o) ((draw % length (places o) + tried) % length (places o)) ≡ Some place
-    → place.1 ≡ kind.Write → IsWriteTried o draw [] t
-write_tried o t draw tried place some l none is write = (
+pub write_tried : (o : Outline) (t : SystemState) (draw tried : ℕ) (place : ℕ × Kind) → ComesNext o t draw tried place → place.1 ≡ kind.Write → IsWriteTried o draw [] t
+write_tried o t draw tried place next write = (
   place.0,
   λ before are.
       subst (λ (steps : List (ℕ × Kind)). IsTried o t.post.depth (run_of_machine o t.post.depth steps) draw (place.0, kind.Write)) (sym (append-nil before))
-      (subst (λ (k : Kind). IsTried o t.post.depth (run_of_machine o t.post.depth before) draw (place.0, k)) write (tries o t draw tried place some l none is before are)),
+      (subst (λ (k : Kind). IsTried o t.post.depth (run_of_machine o t.post.depth before) draw (place.0, k)) write (tries o t draw tried place next before are)),
 )
 
 module _ {Cell : Type 0} (q : QueryFacts Cell) (job : JobFacts) where

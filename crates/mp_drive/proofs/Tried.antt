@@ -48,6 +48,13 @@ IsNotNow o t p = (before : List (ℕ × Kind)) → AreAfter o before t → turn_
 abbrev pub NoneOf : Outline → SystemState → (start tried : ℕ) → Type 0
 NoneOf o t start tried = (k : ℕ) → k < tried → (p : ℕ × Kind) → slice_get (places o) ((start + k) % length (places o)) ≡ Some p → IsNotNow o t p
 
+-- For a draw so many places were tried, and this one comes next
+pub record ComesNext (o : Outline) (t : SystemState) (draw tried : ℕ) (place : ℕ × Kind) : Type 0 where
+  pub some : 0 < length (places o)
+  pub below : tried < length (places o)
+  pub none : NoneOf o t (draw % length (places o)) tried
+  pub is : slice_get (places o) ((draw % length (places o) + tried) % length (places o)) ≡ Some place
+
 -- all places are tried, wherever that begins
 wraps_to : (start place n : ℕ) → start < n → place < n → (k : ℕ) × (k < n) × ((start + k) % n ≡ place)
 wraps_to start place n l m =
@@ -97,13 +104,13 @@ module _ (o : Outline) (t : SystemState) where
       know_where_finished reached.0 reached.1 over.1
 
   -- one place more was tried, in a state to which nothing has led on
-  pub none_more : (start tried : ℕ) (p : ℕ × Kind) (mid new : SystemState) → NoneOf o t start tried → LeadsOn o [] [] t mid → slice_get (places o) ((start + tried) % length (places o)) ≡ Some p → LeadsOn o (p ∷ []) (NotNow ∷ []) mid new → NoneOf o t start (tried + 1)
-  none_more start tried p mid new none still is lead =
+  pub none_more : (draw tried : ℕ) (p : ℕ × Kind) (mid new : SystemState) → ComesNext o t draw tried p → LeadsOn o [] [] t mid → LeadsOn o (p ∷ []) (NotNow ∷ []) mid new → NoneOf o t (draw % length (places o)) (tried + 1)
+  none_more draw tried p mid new next still lead =
       below_more
-      (λ (k : ℕ). (q : ℕ × Kind) → slice_get (places o) ((start + k) % length (places o)) ≡ Some q → IsNotNow o t q)
+      (λ (k : ℕ). (q : ℕ × Kind) → slice_get (places o) ((draw % length (places o) + k) % length (places o)) ≡ Some q → IsNotNow o t q)
       tried
-      none
-      (λ q e. let same : p ≡ q = some_same p q (sym is ∙ e) in subst (IsNotNow o t) same here)
+      next.none
+      (λ q e. let same : p ≡ q = some_same p q (sym next.is ∙ e) in subst (IsNotNow o t) same here)
     where
       some_same : (a b : ℕ × Kind) → Some a ≡ Some b → a ≡ b
       some_same a b e = cc

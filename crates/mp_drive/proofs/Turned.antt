@@ -116,17 +116,20 @@ unfolding turn_of_machine
 outside_not_now o depth world w kind ok past =
     not_now_from o depth world w ok kind (λ x can. let l = can.0.0 in absurd (omega arith)) (λ can. let l = exchange_place o world w kind can in absurd (omega arith))
 
+-- where a step can't be made, whatever led here, trying it changes nothing
+pub idle_leads_on : (o : Outline) (t : SystemState) (w : ℕ) (kind : Kind) → ((before : List (ℕ × Kind)) → AreAfter o before t → turn_of_machine o t.post.depth (run_of_machine o t.post.depth before) w kind ≡ NotNow) → LeadsOn o ((w, kind) ∷ []) (NotNow ∷ []) t t
+idle_leads_on o t w kind idle =
+    goes_on o t w kind NotNow t refl
+    (λ before are.
+    (idle before are, subst (Refines o t.post.depth t) (still o t.post.depth (run_of_machine o t.post.depth before) w kind (idle before are)) are))
+    (λ v. more_none (journal_at t v) ∙ ap (with_more (journal_at t v)) (sym (none_of (w == v))))
+
 -- of a worker that the outline hasn't, no step is made
 pub leads_on_outside : (o : Outline) (ok : OutlineIsSound o) (t : SystemState) (w : ℕ) (kind : Kind) → AreReached o t → length t.workers ≤ w → LeadsOn o ((w, kind) ∷ []) (NotNow ∷ []) t t
 leads_on_outside o ok t w kind reached l =
     let all = reached.1.all_workers in
     let past : o.workers ≤ w = omega arith in
-    goes_on o t w kind NotNow t refl
-    (λ before are.
-    let world = run_of_machine o t.post.depth before in
-    let turn = outside_not_now o t.post.depth world w kind ok past in
-    (turn, subst (Refines o t.post.depth t) (still o t.post.depth world w kind turn) are))
-    (λ v. more_none (journal_at t v) ∙ ap (with_more (journal_at t v)) (sym (none_of (w == v))))
+    idle_leads_on o t w kind (λ before are. outside_not_now o t.post.depth (run_of_machine o t.post.depth before) w kind ok past)
 
 module _ (o : Outline) (ok : OutlineIsSound o) (t : SystemState) (w : ℕ) (kind : Kind) (s new : WorkerState) (after : Posted) (left : Queues (List Name)) (was : slice_get t.workers w ≡ Some s) where
   abbrev Told : Result Answered Stop → ℕ → Type 0

@@ -4,5 +4,6 @@ pub mod Driven
 pub mod Kept
 pub mod Ownership
 pub mod Pacing
+pub mod Places
 pub mod Refused
 pub mod Schedule

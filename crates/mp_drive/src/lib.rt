@@ -15,6 +15,7 @@ mod run;
 mod seed;
 mod states;
 mod tallies;
+mod trying;
 
 pub use mp_draws::Draws;
 pub use mp_worker::RunPlan;

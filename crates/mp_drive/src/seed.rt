@@ -11,13 +11,13 @@ ghost use Rattle.mp_drive.specs.Driven.{AllAreFull, AllKnowTheEnd, HasWritten, L
 ghost use Rattle.mp_drive.specs.Refused.{KeepsSchedule, RefusesDraw};
 ghost use Rattle.mp_drive.specs.Schedule.{FollowsSchedule, MakesPick};
 
-use crate::places::{count_of_places, place_at};
+use crate::places::{count_of_places, place_after, place_at};
 use crate::{Draws, Plain};
 use mp_board::Cause;
 use mp_gate::Gate;
 use mp_model::{Naming, Query};
 use mp_outside::Sink;
-use mp_worker::Turn;
+use mp_worker::{Turn, kind_at};
 
 impl<'a, Q: Query, J: Naming> Plain<'a, Q, J> {
     /// Makes steps by the schedule of a seed (this project's profile) until each worker knows that all is
@@ -97,14 +97,15 @@ impl<'a, Q: Query, J: Naming> Plain<'a, Q, J> {
     {
         let shape = self.job.shape();
         let places = count_of_places(shape);
-        let start = draw % places;
-        for tried in 0..places {
-            let (worker, kind) = place_at(shape, (start + tried) % places);
-            gate.pass(worker, kind);
-            let turn = self.step(worker, kind, sink)?;
+        let mut place = place_at(shape, draw % places);
+        for _tried in 0..places {
+            let kind = kind_at(shape, place.kind);
+            gate.pass(place.worker, kind);
+            let turn = self.try_step(place.worker, kind, sink)?;
             if matches!(turn, Turn::Did(..) | Turn::Seen(_)) {
                 return Ok(());
             }
+            place = place_after(shape, place);
         }
         unreachable!()
     }
