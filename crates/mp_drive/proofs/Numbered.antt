@@ -105,6 +105,9 @@ first_again w n k c l far m last =
     times : (w k c : ℕ) → c ≡ k + 1 → c * w + k + 1 ≡ (w + 1) * c
     times w k c e = grind arith
 
+pub place_below : (o : Outline) (shape : Shape) (place : Place) → o.workers ≡ shape.workers → o.stages ≡ shape.stages → IsPlaceIn shape place → place_number shape place < length (places o)
+place_below o shape place workers stages is = subst (λ (n : ℕ). place_number shape place < n) (sym (as_many o shape workers stages)) (inside place.worker shape.workers place.kind (kind_count shape) is.worker is.kind)
+
 -- the first of a round
 pub first_of_round : (draw at n : ℕ) → 0 < n → at ≡ draw % n → at ≡ (draw % n + 0) % n
 first_of_round draw at n some e =

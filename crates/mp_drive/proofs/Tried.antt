@@ -1,9 +1,10 @@
 -- Places whose steps were tried, one after another from some place on.
-use Rattle.std.proofs.Common.{◌≡◌, ℕ, ◌+◌, ◌-◌, ◌%◌, ◌<◌, ◌≤◌, ◌⊎◌, true, List, [], ◌∷◌, length, Some, refl, sym, ◌∙◌, ap, subst, ⊎_elim, arith, slice_index_or, below_more}
+use Rattle.std.proofs.Common.{◌≡◌, ℕ, zero, suc, ◌+◌, ◌-◌, ◌%◌, ◌<◌, ◌≤◌, ◌⊎◌, true, List, [], ◌∷◌, length, Some, refl, sym, ◌∙◌, ap, subst, ⊎_elim, arith, slice_index_or, below_more}
 use Rattle.std.proofs.Math.Nat.{add-mod_right, mod-eq_of_lt}
 use Rattle.std.specs.List.{slice_get}
 use Rattle.std.proofs.lemmas.List.{append-nil}
-use Rattle.std.proofs.lemmas.Option.{slice_get-get_or}
+use Rattle.std.proofs.lemmas.Option.{slice_get-get_or, slice_get_cases}
+use Rattle.mp_names.specs.declared.controls.Shape.{Shape}
 use Rattle.mp_names.specs.declared.kinds.Kind.{Kind}
 use Rattle.mp_names.specs.declared.names.Name.{Name}
 use Rattle.mp_names.specs.declared.names.Name.TheVariants.{Row, Written}
@@ -11,7 +12,7 @@ use Rattle.mp_names.specs.Logs.{Log}
 use Rattle.mp_names.specs.Frontiers.{HasEnded}
 use Rattle.mp_names.specs.Names.{In}
 use Rattle.mp_names.specs.Outlines.{Outline, OutlineIsSound}
-use Rattle.mp_machine.specs.Places.{places}
+use Rattle.mp_machine.specs.Places.{kinds_of, places}
 use Rattle.mp_machine.specs.Runs.{NotNow, WorkerIsFinished, is_made, run_of_machine, turn_of_machine}
 use Rattle.mp_machine.specs.Steps.{IsPlace}
 use Rattle.mp_machine.specs.Worlds.{World}
@@ -21,7 +22,10 @@ use Rattle.mp_machine.proofs.Worlds.{run_right}
 use Rattle.mp_worker_refinement.specs.State.{WorkerState}
 use Rattle.mp_worker_refinement.specs.SystemState.{Refines, KnowsTheEnd, SystemState}
 use Rattle.mp_drive.specs.Driven.{AllKnowTheEnd, AreAfter, AreReached, LeadsOn, turn_in}
+use Rattle.mp_drive.specs.declared.places.Place.{Place}
+use Rattle.mp_drive.specs.Places.{IsPlaceIn, kind_count, place_number}
 use Rattle.mp_drive.specs.Schedule.{AreFinished}
+use Rattle.mp_drive.proofs.Numbered.{goes_round, kind_within, place_below, stands}
 use Rattle.mp_worker.specs.declared.turn.Turn.{Turn as Answered}
 use Rattle.mp_worker.specs.declared.turn.Turn.TheVariants as worker
 use Rattle.mp_drive.proofs.Leading.{was_not_now}
@@ -54,6 +58,16 @@ pub record ComesNext (o : Outline) (t : SystemState) (draw tried : ℕ) (place :
   pub below : tried < length (places o)
   pub none : NoneOf o t (draw % length (places o)) tried
   pub is : slice_get (places o) ((draw % length (places o) + tried) % length (places o)) ≡ Some place
+
+some_same : (a b : ℕ × Kind) → Some a ≡ Some b → a ≡ b
+some_same a b e = cc
+
+some_at : (xs : List Kind) (i : ℕ) → i < length xs → (x : Kind) × (slice_get xs i ≡ Some x)
+some_at xs i l =
+    ⊎_elim
+    (λ (h : (x : Kind) × (i < length xs) × (slice_get xs i ≡ Some x) × _). (h.0, h.2))
+    (λ (h : (length xs ≤ i) × _). absurd (omega (arith, h.0, l)))
+    (slice_get_cases xs i).1
 
 -- all places are tried, wherever that begins
 wraps_to : (start place n : ℕ) → start < n → place < n → (k : ℕ) × (k < n) × ((start + k) % n ≡ place)
@@ -103,19 +117,61 @@ module _ (o : Outline) (t : SystemState) where
       let over = all_over o ok depth deep world (run_right o ok depth reached.0) (λ w kind is. none_of_any start l none w kind is reached.0 reached.1) in
       know_where_finished reached.0 reached.1 over.1
 
-  -- one place more was tried, in a state to which nothing has led on
+  -- where a step can't be made in a state to which nothing has led on, it couldn't before
+  not_now_before : (p : ℕ × Kind) (mid new : SystemState) → LeadsOn o [] [] t mid → LeadsOn o (p ∷ []) (NotNow ∷ []) mid new → IsNotNow o t p
+  not_now_before p mid new still lead before are =
+      let there : AreAfter o before mid = subst (λ (steps : List (ℕ × Kind)). AreAfter o steps mid) (append-nil before) (still.state_is before are) in
+      subst (λ (d : ℕ). turn_of_machine o d (run_of_machine o d before) p.0 p.1 ≡ NotNow) still.depth (was_not_now o p mid new lead before there)
+
+  -- one place more was tried
   pub none_more : (draw tried : ℕ) (p : ℕ × Kind) (mid new : SystemState) → ComesNext o t draw tried p → LeadsOn o [] [] t mid → LeadsOn o (p ∷ []) (NotNow ∷ []) mid new → NoneOf o t (draw % length (places o)) (tried + 1)
   none_more draw tried p mid new next still lead =
       below_more
       (λ (k : ℕ). (q : ℕ × Kind) → slice_get (places o) ((draw % length (places o) + k) % length (places o)) ≡ Some q → IsNotNow o t q)
       tried
       next.none
-      (λ q e. let same : p ≡ q = some_same p q (sym next.is ∙ e) in subst (IsNotNow o t) same here)
-    where
-      some_same : (a b : ℕ × Kind) → Some a ≡ Some b → a ≡ b
-      some_same a b e = cc
+      (λ q e. let same : p ≡ q = some_same p q (sym next.is ∙ e) in subst (IsNotNow o t) same (not_now_before p mid new still lead))
 
-      here : IsNotNow o t p
-      here before are =
-          let there : AreAfter o before mid = subst (λ (steps : List (ℕ × Kind)). AreAfter o steps mid) (append-nil before) (still.state_is before are) in
-          subst (λ (d : ℕ). turn_of_machine o d (run_of_machine o d before) p.0 p.1 ≡ NotNow) still.depth (was_not_now o p mid new lead before there)
+  -- several places more were, of one worker
+  module _ (draw tried more : ℕ) (shape : Shape) (place : Place) (mid : SystemState) (workers : o.workers ≡ shape.workers) (stages : o.stages ≡ shape.stages) (is : IsPlaceIn shape place) (inside : place.kind + more < kind_count shape)
+      (at : place_number shape place ≡ (draw % length (places o) + tried) % length (places o)) where
+    abbrev n : ℕ
+    n = length (places o)
+
+    abbrev ahead : ℕ → Place
+    ahead j = record { worker = place.worker; kind = place.kind + j }
+
+    within : (j : ℕ) → j ≤ more → IsPlaceIn shape (ahead j)
+    within j l = record { worker = is.worker; kind = omega arith }
+
+    -- the place so far ahead
+    pub at_ahead : (j : ℕ) → j ≤ more → place_number shape (ahead j) ≡ (draw % n + (tried + j)) % n
+    at_ahead zero l =
+        let whole : place_number shape (ahead 0) ≡ place_number shape place = omega arith in
+        let same : draw % n + tried ≡ draw % n + (tried + 0) = omega arith in
+        whole ∙ at ∙ ap (λ (x : ℕ). x % n) same
+    at_ahead (suc j) l =
+        let whole : place_number shape (ahead (suc j)) ≡ place_number shape (ahead j) + 1 = omega arith in
+        let more : draw % n + (tried + j + 1) ≡ draw % n + (tried + suc j) = omega arith in
+        let below = place_below o shape (ahead (suc j)) workers stages (within (suc j) l) in
+        goes_round (draw % n) (tried + j) (place_number shape (ahead (suc j))) (place_number shape (ahead j)) n (at_ahead j (omega arith)) (sym (mod-eq_of_lt below) ∙ ap (λ (x : ℕ). x % n) whole)
+        ∙ ap (λ (x : ℕ). x % n) more
+
+    pub none_in_row : NoneOf o t (draw % n) tried → LeadsOn o [] [] t mid → ((i : ℕ) (kind : Kind) → place.kind ≤ i → i < place.kind + more → slice_get (kinds_of o) i ≡ Some kind → LeadsOn o ((place.worker, kind) ∷ []) (NotNow ∷ []) mid mid) → NoneOf o t (draw % n) (tried + more)
+    none_in_row none still idle k l p e =
+        ⊎_elim
+        (λ (b : k < tried). none k b p e)
+        (λ (b : tried ≤ k).
+        let j = k - tried in
+        let same : tried + j ≡ k = omega arith in
+        let below : j < more = omega arith in
+        let there = kind_within o shape (ahead j) workers stages (within j (omega arith)) in
+        let kind = some_at (kinds_of o) (place.kind + j) there in
+        let stands_there = stands o shape (ahead j) kind.0 workers stages (within j (omega arith)) kind.1 in
+        let number : place_number shape (ahead j) ≡ (draw % n + k) % n = at_ahead j (omega arith) ∙ ap (λ (x : ℕ). (draw % n + x) % n) same in
+        let is_p : (place.worker, kind.0) ≡ p = some_same (place.worker, kind.0) p (sym stands_there ∙ ap (slice_get (places o)) number ∙ e) in
+        subst (IsNotNow o t) is_p (not_now_before (place.worker, kind.0) mid mid still (idle (place.kind + j) kind.0 (omega arith) (omega arith) kind.1)))
+        (either k tried)
+      where
+        either : (a b : ℕ) → (a < b) ⊎ (b ≤ a)
+        either a b = grind arith

@@ -98,13 +98,21 @@ impl<'a, Q: Query, J: Naming> Plain<'a, Q, J> {
         let shape = self.job.shape();
         let places = count_of_places(shape);
         let mut place = place_at(shape, draw % places);
-        for _tried in 0..places {
+        let mut tried = 0;
+        while tried < places {
+            let empty = self.pass_empty(shape, place, gate);
+            if empty > 0 {
+                tried += empty;
+                place.kind += empty;
+                continue;
+            }
             let kind = kind_at(shape, place.kind);
             gate.pass(place.worker, kind);
             let turn = self.try_step(place.worker, kind, sink)?;
             if matches!(turn, Turn::Did(..) | Turn::Seen(_)) {
                 return Ok(());
             }
+            tried += 1;
             place = place_after(shape, place);
         }
         unreachable!()

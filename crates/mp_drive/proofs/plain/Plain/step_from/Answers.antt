@@ -1,4 +1,4 @@
-use Rattle.std.proofs.Common.{◌≡◌, ◌<◌, ◌+◌, ◌*◌, ◌%◌, ◌∙◌, ◌∷◌, ◌++◌, [], ℕ, true, length, refl, sym, arith, subst, Err, Some, ap, slice_get}
+use Rattle.std.proofs.Common.{◌≡◌, ◌<◌, ◌+◌, ◌*◌, ◌%◌, ◌∙◌, ◌∷◌, ◌++◌, [], ℕ, List, Option, true, length, refl, sym, arith, subst, Err, Some, ap, slice_get}
 use Rattle.std.proofs.Math.Nat.{mod-lt}
 use Rattle.std.proofs.lemmas.Result.{err_from_is_err_and}
 use Rattle.mp_names.specs.declared.controls.Shape.{Shape}
@@ -13,7 +13,7 @@ use Rattle.mp_outline.proofs.Soundness.{outline_is_sound}
 use Rattle.mp_machine.specs.Places.{kinds_of, places}
 use Rattle.mp_machine.specs.Runs.{Turn, is_made, made_count}
 use Rattle.mp_board.specs.declared.causes.Cause.TheVariants.{Write}
-use Rattle.mp_drive.specs.Driven.{AreReached, Driven, LeadsOn, turn_in}
+use Rattle.mp_drive.specs.Driven.{AreReached, Driven, HasWritten, LeadsOn, turn_in}
 use Rattle.mp_drive.specs.Places.{IsPlaceIn, kind_count, place_number}
 use Rattle.mp_drive.specs.Refused.{RefusesDraw}
 use Rattle.mp_drive.proofs.Appended.{appends_further, appends_none}
@@ -23,10 +23,10 @@ use Rattle.mp_drive.proofs.Made.{one_made}
 use Rattle.mp_drive.proofs.Numbered.{as_many, first_of_round, goes_round, kind_fits, kind_within, some_places, stands}
 use Rattle.mp_drive.proofs.Picked.{picks}
 use Rattle.mp_drive.proofs.Refusing.{handed_on, refuses_draw, write_tried}
-use Rattle.mp_drive.proofs.Tried.{ComesNext, all_know, idle_turn, made_turn, none_more}
+use Rattle.mp_drive.proofs.Tried.{ComesNext, all_know, at_ahead, idle_turn, made_turn, none_in_row, none_more}
 use Rattle.mp_drive.proofs.plain.Plain.step_from.Given as given
 use Rattle.mp_drive.proofs.plain.Plain.step_from.Goals as goal
-use Rattle.mp_drive.proofs.plain.Plain.step_from.Goals.{After-count_of_places-places, After-kind_at-kind, After-shape-shape, in-Did, in_default}
+use Rattle.mp_drive.proofs.plain.Plain.step_from.Goals.{After-count_of_places-places, After-kind_at-kind, After-pass_empty-empty, After-shape-shape, in-Did, in_default}
 
 sound : (g : given.Over) → let job = g.J.Naming.job in let q = table_of g.Q.Query.facts job in JobIsLegal q job → OutlineIsSound (outline_of q job)
 sound g legal =
@@ -84,7 +84,7 @@ kind_is g c =
     c.kind_at-kind.ensures o (ap (λ (s : Shape). s.workers) (sym shape)) (ap (λ (s : Shape). s.stages) (sym shape)) (kind_within o job.shape c.loop-tried.place refl refl c.loop-tried.invariant.place)
 
 -- and its place
-comes_next : (g : given.Over) (c : After-kind_at-kind g) → ComesNext (outline_of (table_of g.Q.Query.facts g.J.Naming.job) g.J.Naming.job) c.args.self.now.state c.args.draw c.loop-tried._tried (c.loop-tried.place.worker, c.kind_at-kind.result)
+comes_next : (g : given.Over) (c : After-kind_at-kind g) → ComesNext (outline_of (table_of g.Q.Query.facts g.J.Naming.job) g.J.Naming.job) c.args.self.now.state c.args.draw c.loop-tried.tried (c.loop-tried.place.worker, c.kind_at-kind.result)
 comes_next g c =
     let job = g.J.Naming.job in
     let o = outline_of (table_of g.Q.Query.facts job) job in
@@ -109,11 +109,27 @@ place_after-place-requires g c =
     let shape : c.shape-shape.result ≡ g.J.Naming.job.shape = c.shape-shape.ensures.shape ∙ ap (λ (its : JobFacts). its.shape) c.self.invariant.run in
     subst (λ (s : Shape). IsPlaceIn s c.loop-tried.place) (sym shape) c.loop-tried.invariant.place
 
+-- looks into mailboxes change nothing
+
+still_here : (g : given.Over) (c : After-pass_empty-empty g) → LeadsOn (outline_of (table_of g.Q.Query.facts g.J.Naming.job) g.J.Naming.job) [] [] c.args.self.now.state c.pass_empty-empty.new.self.state
+still_here g c =
+    let o = outline_of (table_of g.Q.Query.facts g.J.Naming.job) g.J.Naming.job in
+    subst (λ (u : Driven). LeadsOn o [] [] c.args.self.now.state u.state) (sym c.pass_empty-empty.ensures.same) c.loop-tried.invariant.still
+
+made_here : (g : given.Over) (c : After-pass_empty-empty g) → c.pass_empty-empty.new.self.made ≡ c.args.self.now.made
+made_here g c = ap (λ (u : Driven). u.made) c.pass_empty-empty.ensures.same ∙ c.loop-tried.invariant.made
+
+written_here : (g : given.Over) (c : After-pass_empty-empty g) → let q = table_of g.Q.Query.facts g.J.Naming.job in let events = g.J.Naming.job.events in
+    (before : Option (List ℕ)) → HasWritten q events before c.args.self.now.state (g.S.Sink.written c.args.sink.now) → HasWritten q events before c.pass_empty-empty.new.self.state (g.S.Sink.written c.loop-tried.sink)
+written_here g c = λ before had.
+    let q = table_of g.Q.Query.facts g.J.Naming.job in
+    subst (λ (u : Driven). HasWritten q g.J.Naming.job.events before u.state (g.S.Sink.written c.loop-tried.sink)) (sym c.pass_empty-empty.ensures.same) (c.loop-tried.invariant.written before had)
+
 pub returns-in_err-turn-clause-still : goal.returns-in_err-turn-clause-still
 returns-in_err-turn-clause-still g c =
     let o = outline_of (table_of g.Q.Query.facts g.J.Naming.job) g.J.Naming.job in
     let p = err_from_is_err_and c.from_residual.result c.from_residual.ensures.1 in
-    rw p.1 (leads_further o [] [] [] [] c.args.self.now.state c.loop-tried.self.state c.try_step.new.self.state c.loop-tried.invariant.still c.in_err-turn.ensures.unchanged)
+    rw p.1 (leads_further o [] [] [] [] c.args.self.now.state c.pass_empty-empty.new.self.state c.try_step.new.self.state (still_here g (goal.at.returns-in_err-turn-clause-still g c).After-pass_empty-empty) c.in_err-turn.ensures.unchanged)
 
 pub returns-in_err-turn-clause-refused : goal.returns-in_err-turn-clause-refused
 returns-in_err-turn-clause-refused g c =
@@ -128,9 +144,9 @@ returns-in_err-turn-clause-refused g c =
     let next = comes_next g (goal.at.returns-in_err-turn-clause-refused g c).After-kind_at-kind in
     let p = err_from_is_err_and c.from_residual.result c.from_residual.ensures.1 in
     handed_on (λ why. RefusesDraw q job c.args.draw why [] c.args.self.now.state c.try_step.new.self.state had has) c.from_residual.result why p.0 p.1 p.2
-    (refuses_draw q job c.args.draw place.1 why c.args.self.now.state c.try_step.new.self.state had has (write_tried o c.args.self.now.state c.args.draw c.loop-tried._tried place next)
+    (refuses_draw q job c.args.draw place.1 why c.args.self.now.state c.try_step.new.self.state had has (write_tried o c.args.self.now.state c.args.draw c.loop-tried.tried place next)
     (λ f. (e.failed (ap Err f)).0)
-    (λ before h. e.part before (c.loop-tried.invariant.written before h)))
+    (λ before h. e.part before (written_here g (goal.at.returns-in_err-turn-clause-refused g c).After-pass_empty-empty before h)))
 
 pub returns-in_err-turn-clause-part : goal.returns-in_err-turn-clause-part
 returns-in_err-turn-clause-part g c = λ before had.
@@ -138,9 +154,10 @@ returns-in_err-turn-clause-part g c = λ before had.
     let q = table_of g.Q.Query.facts job in
     let p = err_from_is_err_and c.from_residual.result c.from_residual.ensures.1 in
     let e = c.in_err-turn.ensures in
+    let here_at = (goal.at.returns-in_err-turn-clause-part g c).After-pass_empty-empty in
     let reached = subst (λ (u : Driven). AreReached (outline_of q job) u.state) c.self.view_is c.self.invariant.reached in
-    let here : AreReached (outline_of q job) c.try_step.new.self.state = ((reached.0 ++ []) ++ [], e.unchanged.state_is (reached.0 ++ []) (c.loop-tried.invariant.still.state_is reached.0 reached.1)) in
-    rw p.1 (kept_has_begun q job (sound g c.self.invariant.legal) c.try_step.new.self.state here c.kind_at-kind.result before (g.S.Sink.written c.try_step.new.sink) (e.part before (c.loop-tried.invariant.written before had)))
+    let here : AreReached (outline_of q job) c.try_step.new.self.state = ((reached.0 ++ []) ++ [], e.unchanged.state_is (reached.0 ++ []) ((still_here g here_at).state_is reached.0 reached.1)) in
+    rw p.1 (kept_has_begun q job (sound g c.self.invariant.legal) c.try_step.new.self.state here c.kind_at-kind.result before (g.S.Sink.written c.try_step.new.sink) (e.part before (written_here g here_at before had)))
 
 pub returns-in_err-turn-clause-failed : goal.returns-in_err-turn-clause-failed
 returns-in_err-turn-clause-failed g c = λ e.
@@ -155,12 +172,12 @@ returns-then-matches-clause-made g c =
     let place : ℕ × Kind = (c.loop-tried.place.worker, c.kind_at-kind.result) in
     let next = comes_next g (goal.at.returns-then-matches-clause-made g c).After-kind_at-kind in
     let turn = turn_in c.in_ok-turn.turn in
-    let lead = leads_further o [] (place ∷ []) [] (turn ∷ []) t c.loop-tried.self.state c.try_step.new.self.state c.loop-tried.invariant.still c.in_ok-turn.ensures.turn in
+    let lead = leads_further o [] (place ∷ []) [] (turn ∷ []) t c.pass_empty-empty.new.self.state c.try_step.new.self.state (still_here g (goal.at.returns-then-matches-clause-made g c).After-pass_empty-empty) c.in_ok-turn.ensures.turn in
     let made : is_made turn ≡ true = elim c.match-matches.branch [ in-Did w ↦ made_turn c.in_ok-turn.turn w.in-Did.is | in_default w ↦ absurd (cc) ] in
     record {
       step = place;
       turn = turn;
-      picked = λ before are. picks o t c.args.draw c.loop-tried._tried place next before are turn (turn_is o place turn t c.try_step.new.self.state lead before are) made;
+      picked = λ before are. picks o t c.args.draw c.loop-tried.tried place next before are turn (turn_is o place turn t c.try_step.new.self.state lead before are) made;
       lead = lead;
       made = made;
     }
@@ -171,18 +188,18 @@ returns-then-matches-clause-one g c =
     let made : is_made turn ≡ true = elim c.match-matches.branch [ in-Did w ↦ made_turn c.in_ok-turn.turn w.in-Did.is | in_default w ↦ absurd (cc) ] in
     let one = one_made turn made in
     let grown = c.in_ok-turn.ensures.counted in
-    let before = c.loop-tried.invariant.made in
+    let before = made_here g (goal.at.returns-then-matches-clause-one g c).After-pass_empty-empty in
     omega arith
 
 pub returns-in_err-turn-clause-none : goal.returns-in_err-turn-clause-none
 returns-in_err-turn-clause-none g c =
     let p = err_from_is_err_and c.from_residual.result c.from_residual.ensures.1 in
     let same = c.in_err-turn.ensures.counted in
-    let before = c.loop-tried.invariant.made in
+    let before = made_here g (goal.at.returns-in_err-turn-clause-none g c).After-pass_empty-empty in
     rw p.1 (omega arith)
 
 pub returns-then-matches-clause-written : goal.returns-then-matches-clause-written
-returns-then-matches-clause-written g c = λ before had. c.in_ok-turn.ensures.written before (c.loop-tried.invariant.written before had)
+returns-then-matches-clause-written g c = λ before had. c.in_ok-turn.ensures.written before (written_here g (goal.at.returns-then-matches-clause-written g c).After-pass_empty-empty before had)
 
 pub returns-in_err-turn-clause-no_fault : goal.returns-in_err-turn-clause-no_fault
 returns-in_err-turn-clause-no_fault g c = λ not_failed.
@@ -197,6 +214,30 @@ returns-then-matches-clause-no_fault g c = λ not_failed. c.in_ok-turn.ensures.n
 
 pub returns-then-matches-clause-appends_only : goal.returns-then-matches-clause-appends_only
 returns-then-matches-clause-appends_only g c = appends_further g.S.Sink.frame g.S.Sink.faults c.args.sink.now c.loop-tried.sink c.try_step.new.sink c.loop-tried.invariant.appends c.in_ok-turn.ensures.appends_only
+
+pub loop-tried-preserved-then-empty-gt0 : goal.loop-tried-preserved-then-empty-gt0
+loop-tried-preserved-then-empty-gt0 g c =
+    let job = g.J.Naming.job in
+    let o = outline_of (table_of g.Q.Query.facts job) job in
+    let t = c.args.self.now.state in
+    let here_at = (goal.at.loop-tried-preserved-then-empty-gt0 g c).After-pass_empty-empty in
+    let shape : c.shape-shape.result ≡ job.shape = c.shape-shape.ensures.shape ∙ ap (λ (its : JobFacts). its.shape) c.self.invariant.run in
+    let was = c.loop-tried.invariant in
+    let place = c.loop-tried.place in
+    let empty = c.pass_empty-empty.result in
+    let tried = c.loop-tried.tried in
+    let mid = c.loop-tried.self.state in
+    let inside : place.kind + empty < kind_count job.shape = subst (λ (s : Shape). place.kind + empty < kind_count s) shape c.pass_empty-empty.ensures.inside in
+    record {
+      still = still_here g here_at;
+      made = made_here g here_at;
+      place = record { worker = was.place.worker; kind = inside };
+      at = at_ahead o t c.args.draw tried empty job.shape place mid refl refl was.place inside was.at empty (omega arith);
+      none = none_in_row o t c.args.draw tried empty job.shape place mid refl refl was.place inside was.at was.none was.still c.pass_empty-empty.ensures.none;
+      written = written_here g here_at;
+      quiet = was.quiet;
+      appends = was.appends;
+    }
 
 pub loop-tried-preserved : goal.loop-tried-preserved
 loop-tried-preserved g c =
@@ -214,7 +255,9 @@ loop-tried-preserved g c =
               subst (λ (s : Shape). place_number s behind ≡ (place_number s here + 1) % (s.workers * kind_count s)) shape c.place_after-place.ensures.number in
           let idle = idle_turn c.in_ok-turn.turn w.in_default.not-Did w.in_default.not-Seen in
           let place : ℕ × Kind = (here.worker, c.kind_at-kind.result) in
-          let mid = c.loop-tried.self.state in
+          let mid = c.pass_empty-empty.new.self.state in
+          let here_at = (goal.at.loop-tried-preserved g c).After-pass_empty-empty in
+          let still = still_here g here_at in
           let new = c.try_step.new.self.state in
           let lead = subst (λ (t : Turn). LeadsOn o (place ∷ []) (t ∷ []) mid new) idle c.in_ok-turn.ensures.turn in
           let was = c.loop-tried.invariant in
@@ -222,13 +265,13 @@ loop-tried-preserved g c =
             made =
                 let none : made_count (turn_in c.in_ok-turn.turn ∷ []) ≡ 0 = subst (λ (t : Turn). made_count (t ∷ []) ≡ 0) (sym idle) refl in
                 let grown = c.in_ok-turn.ensures.counted in
-                let before = was.made in
+                let before = made_here g here_at in
                 omega arith;
-            still = leads_further o [] [] [] [] c.args.self.now.state mid new was.still (leads_nowhere o place mid new lead);
+            still = leads_further o [] [] [] [] c.args.self.now.state mid new still (leads_nowhere o place mid new lead);
             place = subst (λ (s : Shape). IsPlaceIn s behind) shape c.place_after-place.ensures.place;
-            at = goes_round (c.args.draw % n) c.loop-tried._tried (place_number job.shape behind) (place_number job.shape here) n was.at (subst (λ (m : ℕ). place_number job.shape behind ≡ (place_number job.shape here + 1) % m) (sym (as_many o job.shape refl refl)) number);
-            none = none_more o c.args.self.now.state c.args.draw c.loop-tried._tried place mid new next was.still lead;
-            written = λ before had. c.in_ok-turn.ensures.written before (was.written before had);
+            at = goes_round (c.args.draw % n) c.loop-tried.tried (place_number job.shape behind) (place_number job.shape here) n was.at (subst (λ (m : ℕ). place_number job.shape behind ≡ (place_number job.shape here + 1) % m) (sym (as_many o job.shape refl refl)) number);
+            none = none_more o c.args.self.now.state c.args.draw c.loop-tried.tried place mid new next still lead;
+            written = λ before had. c.in_ok-turn.ensures.written before (written_here g here_at before had);
             quiet = c.in_ok-turn.ensures.no_fault (λ e. cc) ∙ was.quiet;
             appends = appends_further g.S.Sink.frame g.S.Sink.faults c.args.sink.now c.loop-tried.sink c.try_step.new.sink was.appends c.in_ok-turn.ensures.appends_only;
           }

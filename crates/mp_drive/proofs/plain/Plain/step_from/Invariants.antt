@@ -1,4 +1,4 @@
-use Rattle.std.proofs.Common.{◌≡◌, ◌%◌, ◌+◌, ℕ, List, [], Option, length}
+use Rattle.std.proofs.Common.{◌≡◌, ◌%◌, ◌+◌, ◌-◌, ℕ, List, [], Option, length}
 use Rattle.mp_outside.specs.Sink.{OnlyAppends}
 use Rattle.mp_outline.specs.JobOutline.{outline_of}
 use Rattle.mp_machine.specs.Places.{places}
@@ -16,9 +16,12 @@ invariant-loop-tried g l =
       still : LeadsOn o [] [] l.fn.self.state l.self.state;
       made : l.self.made ≡ l.fn.self.made;
       place : IsPlaceIn g.J.Naming.job.shape l.place;
-      at : place_number g.J.Naming.job.shape l.place ≡ (l.draw % length (places o) + l._tried) % length (places o);
-      none : NoneOf o l.fn.self.state (l.draw % length (places o)) l._tried;
+      at : place_number g.J.Naming.job.shape l.place ≡ (l.draw % length (places o) + l.tried) % length (places o);
+      none : NoneOf o l.fn.self.state (l.draw % length (places o)) l.tried;
       written : (before : Option (List ℕ)) → HasWritten q g.J.Naming.job.events before l.fn.self.state (g.S.Sink.written l.fn.sink) → HasWritten q g.J.Naming.job.events before l.self.state (g.S.Sink.written l.sink);
       quiet : g.S.Sink.faults l.sink ≡ g.S.Sink.faults l.fn.sink;
       appends : OnlyAppends g.S.Sink.frame g.S.Sink.faults l.fn.sink l.sink;
     }
+
+abbrev pub decreases-loop-tried : goal.decreases-loop-tried
+decreases-loop-tried g l = l.places - l.tried

@@ -1,18 +1,26 @@
-use Rattle.std.proofs.Common.{◌∷◌, [], sym, subst}
-use Rattle.std.specs.Prelude.{OnErr}
+use Rattle.std.proofs.Common.{◌∷◌, [], subst}
+use Rattle.mp_names.specs.Outlines.{OutlineIsSound}
+use Rattle.mp_job.specs.Legal.{JobIsLegal}
 use Rattle.mp_model.specs.Tables.{table_of}
 use Rattle.mp_outline.specs.JobOutline.{outline_of}
+use Rattle.mp_outline.proofs.Soundness.{outline_is_sound}
 use Rattle.mp_machine.specs.Runs.{NotNow}
 use Rattle.mp_drive.specs.Driven.{Driven, LeadsOn}
+use Rattle.mp_drive.specs.Kept.{together}
+use Rattle.mp_drive.proofs.Glanced.{of_the_first}
+use Rattle.mp_drive.proofs.plain.Plain.try_step.Given as given
 use Rattle.mp_drive.proofs.plain.Plain.try_step.Goals as goal
 
-pub returns-then-cannot_step-clause-turn : goal.returns-then-cannot_step-clause-turn
-returns-then-cannot_step-clause-turn g c =
-    let o = outline_of (table_of g.Q.Query.facts g.J.Naming.job) g.J.Naming.job in
-    let e = c.cannot_step.ensures in
-    subst (λ (u : Driven). LeadsOn o ((c.args.worker, c.args.kind) ∷ []) (NotNow ∷ []) c.args.self.now.state u.state) (sym e.same) (e.not_now c.if-cannot_step.true)
+sound : (g : given.Over) → let job = g.J.Naming.job in let q = table_of g.Q.Query.facts job in JobIsLegal q job → OutlineIsSound (outline_of q job)
+sound g legal =
+    let laws = g.met.Q.Query g.world.𝓛 g.world.𝓜 g.world.𝓡 ((λ s x. x), (λ x. x), (λ x. x), λ x. x) in
+    let job = g.J.Naming.job in
+    outline_is_sound (table_of g.Q.Query.facts job) (laws.has_stages job.values) (laws.posts_are_later job.values) (laws.later_stages_post_nothing job.values) job legal
 
-pub returns-clause-unchanged : goal.returns-clause-unchanged
-returns-clause-unchanged g c =
+pub returns-then-worker-ne0-clause-turn : goal.returns-then-worker-ne0-clause-turn
+returns-then-worker-ne0-clause-turn g c =
     let o = outline_of (table_of g.Q.Query.facts g.J.Naming.job) g.J.Naming.job in
-    subst (λ (u : Driven). OnErr c.step.result (LeadsOn o [] [] u.state c.step.new.self.state)) c.cannot_step.ensures.same c.step.ensures.unchanged
+    let kept = c.self.invariant in
+    let t = together c.self.inside.workers.items c.self.inside.board c.self.inside.post in
+    let idle = of_the_first o (sound g kept.legal) t kept.reached c.args.worker c.requires.place.0 c.args.kind (c.is_of_the_first.ensures c.if-is_of_the_first.true) (λ e. c.if-worker-ne0.true e) in
+    subst (λ (u : Driven). LeadsOn o ((c.args.worker, c.args.kind) ∷ []) (NotNow ∷ []) u.state u.state) c.self.view_is idle
