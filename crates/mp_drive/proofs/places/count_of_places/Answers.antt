@@ -1,6 +1,5 @@
-use Rattle.std.proofs.Common.{◌≡◌, ◌+◌, ◌*◌, ◌^◌, length, sym, ◌∙◌, arith}
+use Rattle.std.proofs.Common.{◌+◌, ◌^◌, sym, ◌∙◌, arith}
 use Rattle.std.proofs.lemmas.Nat.{mul-le}
-use Rattle.mp_machine.specs.Places.{places}
 use Rattle.mp_drive.specs.Places.{kind_count}
 use Rattle.mp_drive.proofs.Numbered.{as_many, kinds_counted, same_product}
 use Rattle.mp_drive.proofs.places.count_of_places.Goals as goal

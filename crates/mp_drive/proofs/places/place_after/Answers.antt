@@ -1,5 +1,5 @@
-use Rattle.std.proofs.Common.{◌≡◌, ◌+◌, ◌*◌, ◌%◌, arith}
-use Rattle.mp_drive.specs.Places.{IsPlaceIn, kind_count, place_number}
+use Rattle.std.proofs.Common.{arith}
+use Rattle.mp_drive.specs.Places.{kind_count}
 use Rattle.mp_drive.proofs.Numbered.{first_again, kinds_counted, next_kind, next_worker}
 use Rattle.mp_drive.proofs.places.place_after.Goals as goal
 

@@ -1,5 +1,4 @@
-use Rattle.std.proofs.Common.{◌≡◌, ◌∷◌, ◌<◌, ◌≤◌, ◌+◌, ◌-◌, ℕ, [], Some, ap, arith, sym, subst, ◌∙◌}
-use Rattle.std.specs.Prelude.{slice_get}
+use Rattle.std.proofs.Common.{◌≡◌, ◌∷◌, ◌<◌, ◌+◌, ◌-◌, [], Some, ap, arith, sym, subst, ◌∙◌}
 use Rattle.mp_names.specs.declared.controls.Shape.{Shape}
 use Rattle.mp_names.specs.declared.kinds.Kind.{Kind}
 use Rattle.mp_names.specs.declared.kinds.Kind.TheVariants.{Receive}
@@ -8,7 +7,6 @@ use Rattle.mp_job.specs.Legal.{JobIsLegal}
 use Rattle.mp_model.specs.Tables.{table_of}
 use Rattle.mp_outline.specs.JobOutline.{outline_of}
 use Rattle.mp_outline.proofs.Soundness.{outline_is_sound}
-use Rattle.mp_machine.specs.Places.{kinds_of}
 use Rattle.mp_machine.specs.Runs.{NotNow}
 use Rattle.mp_worker.proofs.Numbered.{receive_at}
 use Rattle.mp_drive.specs.Driven.{Driven, LeadsOn}

@@ -3,7 +3,7 @@ use Rattle.std.proofs.Math.Nat.{mod-lt}
 use Rattle.std.proofs.lemmas.Result.{err_from_is_err_and}
 use Rattle.mp_names.specs.declared.controls.Shape.{Shape}
 use Rattle.mp_names.specs.declared.kinds.Kind.{Kind}
-use Rattle.mp_names.specs.Outlines.{Outline, OutlineIsSound}
+use Rattle.mp_names.specs.Outlines.{OutlineIsSound}
 use Rattle.mp_outside.proofs.SinkLemmas.{rose_later}
 use Rattle.mp_job.specs.Legal.{JobIsLegal}
 use Rattle.mp_model.specs.Facts.{JobFacts}
@@ -252,7 +252,7 @@ loop-tried-preserved g c =
           let here = c.loop-tried.place in
           let behind = c.place_after-place.result in
           let number : place_number job.shape behind ≡ (place_number job.shape here + 1) % (job.shape.workers * kind_count job.shape) =
-              subst (λ (s : Shape). place_number s behind ≡ (place_number s here + 1) % (s.workers * kind_count s)) shape c.place_after-place.ensures.number in
+          subst (λ (s : Shape). place_number s behind ≡ (place_number s here + 1) % (s.workers * kind_count s)) shape c.place_after-place.ensures.number in
           let idle = idle_turn c.in_ok-turn.turn w.in_default.not-Did w.in_default.not-Seen in
           let place : ℕ × Kind = (here.worker, c.kind_at-kind.result) in
           let mid = c.pass_empty-empty.new.self.state in
