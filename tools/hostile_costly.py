@@ -1,4 +1,6 @@
 """The fixed cases: the costliest legal inputs that are known."""
+import itertools
+
 from hostile_readers import MOST_CONTROLS
 from megaphone_tools import OLD
 
@@ -6,6 +8,8 @@ from megaphone_tools import OLD
 COUNT = 250_000
 # How many bytes a file may have.
 MOST = 1 << 28
+# So many lines of a file are made at a time, since what this script holds counts as memory of the runs that it begins.
+LINES = 10_000
 
 
 def bids(count, when, auction):
@@ -110,45 +114,74 @@ def audits():
     yield f"an audit of {2**20:,} lines of one kind, half as many bids", "audit --query q1 --journal j", files | {"j": b"s|0|I\n" * 2**20}, 13
     turns = "each bid is posted before the next, the last worker first"
     yield f"an audit of {2**20:,} lines, {turns}, --workers 64", "audit --query q1 --workers 64 --journal j", files | {"j": in_turn(2**13, 64)}, 13
-    most = MOST // len(b"s|0|I\n")
-    yield f"an audit of {most:,} lines of one kind, no event", "audit --query q1 --journal j", {"e": b"", "c": b"", "o": b"", "j": b"s|0|I\n" * most}, 13
+    most = MOST // len(b"s|0|I\n") // LINES * LINES
+    yield f"an audit of {most:,} lines of one kind, no event", "audit --query q1 --journal j", {"e": b"", "c": b"", "o": b"", "j": itertools.repeat(b"s|0|I\n" * LINES, most // LINES)}, 13
 
 
-def full(first, line, most=MOST):
-    """A checkpoint of so many bytes: its first line, as many lines by their number as fit in, and its last line."""
-    text, count = bytearray(first), 0
-    while len(text) < most - 100:
-        text += line(count)
-        count += 1
-    return bytes(text) + b"E|%d\n" % count
+def in_parts(lines):
+    """These lines, some at a time."""
+    lines = iter(lines)
+    while part := b"".join(itertools.islice(lines, LINES)):
+        yield part
+
+
+def full(first, line, most=MOST, last=b"E|%d\n"):
+    """The parts of a checkpoint of about so many bytes: its first line, as many lines by their number as fit in, and its last line."""
+    yield first
+    left, count = most - len(first) - 100, 0
+    while left > 0:
+        part = b"".join(map(line, range(count, count + LINES)))
+        left, count = left - len(part), count + LINES
+        yield part
+    yield last % count
 
 
 def open_auctions(count):
     """As many auctions, which end in no order after all have begun, each at a time of its own."""
-    return b"".join(b"A|%d|%d|%d|10|0|%d\n" % (i, i, i % 1000, 2 * count + i * 7919 % count) for i in range(count))
+    return in_parts(b"A|%d|%d|%d|10|0|%d\n" % (i, i, i % 1000, 2 * count + i * 7919 % count) for i in range(count))
+
+
+def closing_at_once(count):
+    """As many auctions, which end at one time after all have begun."""
+    return in_parts(b"A|%d|%d|7|10|0|%d\n" % (i, i, 2 * count) for i in range(count))
+
+
+def keys_waking(last=b"E|%d\n"):
+    """A checkpoint of nearly the greatest size, of wakes of as many keys at one time."""
+    return full(b"K|1|q4|50\n", lambda i: b"w|0|%d|50\n" % i, MOST - 200_000, last)
+
+
+def long_cells(count, times):
+    """A checkpoint of so many cells that each hold so many times."""
+    yield b"K|1|q5|50|600|6\n"
+    for key in range(count):
+        yield b"c|0|%d|49" % key + b"|49" * (times - 1) + b"\n"
+    yield b"E|%d\n" % count
+
+
+def too_many_ids():
+    """A checkpoint of nearly the greatest size with one cell, which has more ids than a cell may."""
+    yield b"K|1|q3|50|10\nc|0|7|0"
+    yield from itertools.repeat(b"|5" * LINES, MOST // (2 * LINES) - 1)
+    yield b"\nE|1\n"
 
 
 def restarts():
     """The fixed cases of runs that stop and go on: what each is, its words, its files, or None where those of the case before stay, and its status."""
     count, stop = 1_000_000, "--until 1000000 --save s"
     moves = b"".join(b"M|%d|0|0|%d\n" % (2 * count + i * 50_000, i % 2) for i in range(16))
-    for what, events in (
-        ("1,000,000 auctions are open", open_auctions(count)),
-        ("1,000,000 auctions end at one time", b"".join(b"A|%d|%d|7|10|0|%d\n" % (i, i, 2 * count) for i in range(count))),
-    ):
+    for what, events in (("1,000,000 auctions are open", open_auctions(count)), ("1,000,000 auctions end at one time", closing_at_once(count))):
         yield f"{what}, stop, q4", f"run --query q4 --workers 2 --bins 1 {stop}", {"e": events, "c": moves, "o": OLD}, 0
         yield "going on, their bin moves 16 times", "replay --query q4 --workers 2 --bins 1 --from s", None, 0
         yield "going on, --workers 4 --bins 4096", "replay --query q4 --workers 4 --bins 4096 --from s", None, 0
     yield "1,000,000 bids, stop, q5", f"run --query q5 {stop}", {"e": bids(count, lambda i: i, lambda i: i % 100_003), "c": b"", "o": OLD}, 0
     yield "going on", "run --query q5 --from s", None, 0
     none = {"e": b"", "c": b"", "o": b""}
-    wakes = full(b"K|1|q4|50\n", lambda i: b"w|0|%d|50\n" % i)
     lots = full(b"K|1|q4|50\n", lambda i: b"c|0|%d|0|1|7\n" % i, MOST // 2)
     later = full(b"K|1|q4|50\n", lambda i: b"w|0|7|%d\n" % (50 + i), MOST // 2)
-    yield "a checkpoint of 2^28 bytes, wakes of as many keys at one time, q4", "run --query q4 --bins 1 --from s", none | {"s": wakes}, 0
-    yield "one of 2^27 bytes, all lines cells, q4", "run --query q4 --from s", none | {"s": lots}, 0
-    yield "one of 2^27 bytes, wakes of one key, q4", "run --query q4 --from s", none | {"s": later}, 0
-    yield "one whose last line lacks its end, q4", "run --query q4 --from s", none | {"s": wakes[:-1]}, 11
-    yield "one of one cell with too many ids, q3", "run --query q3 --from s", none | {"s": b"K|1|q3|50|10\nc|0|7|0" + b"|5" * (MOST // 2 - 20) + b"\nE|1\n"}, 11
-    lists = b"".join(b"c|0|%d|49" % key + b"|49" * 999_999 + b"\n" for key in range(80))
-    yield "80 cells of 1,000,000 times, q5", "run --query q5 --from s", none | {"s": b"K|1|q5|50|600|6\n" + lists + b"E|80\n"}, 0
+    yield "a checkpoint of nearly 2^28 bytes, wakes of as many keys at one time, q4", "run --query q4 --bins 1 --from s", none | {"s": keys_waking()}, 0
+    yield "one whose last line lacks its end, q4", "run --query q4 --from s", none | {"s": keys_waking(b"E|%d")}, 11
+    yield "one of some 2^27 bytes, all lines cells, q4", "run --query q4 --from s", none | {"s": lots}, 0
+    yield "one of some 2^27 bytes, wakes of one key, q4", "run --query q4 --from s", none | {"s": later}, 0
+    yield "one of one cell with too many ids, q3", "run --query q3 --from s", none | {"s": too_many_ids()}, 11
+    yield "80 cells of 1,000,000 times, q5", "run --query q5 --from s", none | {"s": long_cells(80, 1_000_000)}, 0

@@ -27,8 +27,9 @@ def read(name):
 
 
 def write(name, held):
+    """Has a file hold these bytes, which may come in parts."""
     with open(name, "wb") as file:
-        file.write(held)
+        file.writelines([held] if isinstance(held, bytes) else held)
 
 
 @dataclass
