@@ -17,15 +17,15 @@ use Rattle.mp_model.specs.declared.record.Rec.{Rec}
 use Rattle.mp_model.specs.Facts.{JobFacts, QueryFacts}
 use Rattle.mp_model.specs.QueryLaws.{LaterStagesPostNothing}
 use Rattle.mp_model.specs.Stages.{input_records}
-use Rattle.mp_job.specs.Laws.{HasTime}
-use Rattle.mp_job.specs.Legal.{JobIsLegal}
-use Rattle.mp_job.specs.Times.{times_of}
-use Rattle.mp_job.proofs.Gathering.{times_have}
-use Rattle.mp_job.proofs.Members.{map-Contains}
-use Rattle.mp_outline.specs.JobOutline.{opening_names, outline_of, record_names}
-use Rattle.mp_outline.proofs.Found.{found_there}
-use Rattle.mp_outline.proofs.Stages.{post_named, record_named}
-use Rattle.mp_outline.proofs.Waking.{wake_named, wakes_are_first}
+use Rattle.mp_rows.specs.Below.{HasTime}
+use Rattle.mp_rows.specs.Below.{JobIsLegal}
+use Rattle.mp_rows.specs.Below.{times_of}
+use Rattle.mp_rows.specs.Below.{times_have}
+use Rattle.mp_rows.specs.Below.{map-Contains}
+use Rattle.mp_rows.specs.Below.{opening_names, outline_of, record_names}
+use Rattle.mp_rows.specs.Below.{found_there}
+use Rattle.mp_rows.specs.Below.{post_named, record_named}
+use Rattle.mp_rows.specs.Below.{wake_named, wakes_are_first}
 use Rattle.mp_board.specs.Soundness.{HoldsAllTimes}
 
 module _ {Cell : Type 0} (q : QueryFacts Cell) (nothing : LaterStagesPostNothing q) (job : JobFacts) (ok : OutlineIsSound (outline_of q job)) (legal : JobIsLegal q job) where

@@ -5,7 +5,7 @@ ghost use Rattle.mp_names.specs.Frontiers.{log_at};
 ghost use Rattle.mp_names.specs.Laws.{names_in};
 ghost use Rattle.mp_names.specs.Logs.{LogIsLegal, empty_log};
 ghost use Rattle.mp_stamps.specs.Seen.{SeenIsDone};
-ghost use Rattle.mp_job.specs.Runs.{IsRunOf};
+ghost use Rattle.mp_rows.specs.Below.{IsRunOf};
 ghost use Rattle.mp_board.specs.Boards.{ShowsFrontiers, version_with};
 
 use crate::causes::Cause;

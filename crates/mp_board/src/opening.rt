@@ -1,9 +1,9 @@
 //! What stands on a board at first.
 ghost use Rattle.std.specs.Prelude.{◌≡◌, ◌≤◌, ◌^◌, IfOk, length, map, replicate};
 ghost use Rattle.mp_names.specs.Logs.{empty_log};
-ghost use Rattle.mp_job.specs.Runs.{IsRunOf};
-ghost use Rattle.mp_job.specs.Times.{times_of};
-ghost use Rattle.mp_outline.specs.JobOutline.{outline_of};
+ghost use Rattle.mp_rows.specs.Below.{IsRunOf};
+ghost use Rattle.mp_rows.specs.Below.{times_of};
+ghost use Rattle.mp_rows.specs.Below.{outline_of};
 ghost use Rattle.mp_board.specs.Opening.{AreOpened};
 ghost use Rattle.mp_model.specs.Tables.{table_of};
 

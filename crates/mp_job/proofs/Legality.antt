@@ -8,7 +8,7 @@ use Rattle.mp_model.specs.Facts.{JobFacts, QueryFacts, SavedState}
 use Rattle.mp_model.specs.Legal.{EventIsLegal, EventsAreLegal}
 use Rattle.mp_model.specs.QueryLaws.{HasStages, RecordIsLegal}
 use Rattle.mp_model.specs.Stages.{record_of}
-use Rattle.mp_bins.specs.Notes.{IsShape}
+use Rattle.mp_opening.specs.Below.{IsShape}
 use Rattle.mp_model.specs.Tables.{opening_wakes}
 use Rattle.mp_job.specs.Legal.{JobIsLegal, KeepsToJob}
 use Rattle.mp_job.specs.Records.{record_at}

@@ -3,12 +3,12 @@ use Rattle.std.proofs.Common.{◌≡◌, ◌≢◌, ◌<◌, ◌==◌, ◌&&◌,
 use Rattle.std.specs.Prelude.{All}
 use Rattle.std.proofs.lemmas.Bool.{and_from, and_parts, cases_Bool, eq-eqb, eqb-true}
 use Rattle.std.proofs.lemmas.List.Elements.{All-contains, All-head, All-tail, All-weaker}
-use Rattle.mp_bins.specs.Bins.{bin_of_key}
+use Rattle.mp_opening.specs.Below.{bin_of_key}
 use Rattle.mp_model.specs.Facts.{QueryFacts, SavedCell, SavedState, SavedWake}
 use Rattle.mp_model.specs.QueryLaws.{TextsTellCells}
 use Rattle.mp_model.specs.Tables.{cell_among, opening_wakes}
-use Rattle.mp_saved.specs.declared.checkpoint.KeyCell.{KeyCell}
-use Rattle.mp_saved.specs.Checkpoints.{KeyIsBefore, saved_in}
+use Rattle.mp_opening.specs.Below.{KeyCell}
+use Rattle.mp_opening.specs.Below.{KeyIsBefore, saved_in}
 use Rattle.mp_opening.specs.Openings.{AreCellsOf, AreWakesOf, CellMayOpen, MayOpen, OpeningOf}
 use Rattle.mp_job.specs.Openings.{AreOpeningCells, AreOpeningWakes}
 use Rattle.mp_job.specs.Parts.{OpeningFits, table_in}

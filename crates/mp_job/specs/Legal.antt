@@ -11,8 +11,8 @@ use Rattle.mp_model.specs.Facts.{QueryFacts, JobFacts}
 use Rattle.mp_model.specs.Legal.{EventsAreLegal}
 use Rattle.mp_model.specs.QueryLaws.{SavedFits}
 use Rattle.mp_model.specs.Tables.{counts, opening_cell, opening_wakes}
-use Rattle.mp_bins.specs.Bins.{IsBinCount}
-use Rattle.mp_bins.specs.Notes.{FirstFits, IsWithin}
+use Rattle.mp_opening.specs.Below.{IsBinCount}
+use Rattle.mp_opening.specs.Below.{FirstFits, IsWithin}
 
 -- there is a worker, the bins are a power of two, and there are not too many of either
 pub record ShapeIsLegal (shape : Shape) : Type 0 where

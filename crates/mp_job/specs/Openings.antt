@@ -1,6 +1,6 @@
 -- The cells and the wakes that a bin begins with.
 use Rattle.std.specs.Prelude.{◌≡◌, ◌≢◌, ◌↔◌, ℕ, List, All, AllPairs, Contains}
-use Rattle.mp_bins.specs.Bins.{bin_of_key}
+use Rattle.mp_opening.specs.Below.{bin_of_key}
 use Rattle.mp_model.specs.Facts.{QueryFacts}
 use Rattle.mp_opening.specs.Openings.{ComesEarlier}
 

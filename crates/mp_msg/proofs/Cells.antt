@@ -11,7 +11,7 @@ use Rattle.std.specs.Map.{lookup}
 use Rattle.std.specs.Option.{unwrap_or}
 use Rattle.std.specs.Ordering.{eq_by_cmp, is_eq, nat_cmp}
 use Rattle.std.specs.declared.cmp.Ordering.TheVariants.{Less}
-use Rattle.mp_job.proofs.Members.{nothing_in_nil, Contains-cases}
+use Rattle.mp_outline.specs.Below.{nothing_in_nil, Contains-cases}
 use Rattle.mp_outline.proofs.Pairs.{Pairs}
 use Rattle.mp_msg.proofs.Ordered.{same_ordered}
 use Rattle.mp_msg.specs.States.{cell_in}

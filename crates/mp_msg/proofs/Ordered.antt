@@ -1,6 +1,6 @@
 -- Lists in an order are told by their elements.
 use Rattle.std.proofs.Common.{◌≡◌, List, [], ◌∷◌, Contains, refl, sym, ◌∙◌, subst, ⊎_elim}
-use Rattle.mp_job.proofs.Members.{nothing_in_nil, Contains-here, Contains-later, Contains-cases}
+use Rattle.mp_outline.specs.Below.{nothing_in_nil, Contains-here, Contains-later, Contains-cases}
 use Rattle.mp_outline.proofs.Pairs.{Pairs}
 
 module _ {X : Type 0} (R : X → X → Type 0) (apart : (x y : X) → R x y → R y x → ⊥) where

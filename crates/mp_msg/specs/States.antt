@@ -7,7 +7,7 @@ use Rattle.mp_names.specs.declared.names.Name.TheVariants.{Rec}
 use Rattle.mp_names.specs.declared.names.Tag.{Tag}
 use Rattle.mp_names.specs.Names.{In}
 use Rattle.mp_names.specs.Outlines.{is_posted}
-use Rattle.mp_bins.specs.Bins.{bin_of_key}
+use Rattle.mp_outline.specs.Below.{bin_of_key}
 use Rattle.mp_model.specs.Facts.{JobFacts, QueryFacts}
 use Rattle.mp_model.specs.Folds.{cell_before}
 use Rattle.mp_model.specs.Stages.{stage_records}

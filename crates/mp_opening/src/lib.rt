@@ -7,6 +7,7 @@ mod opening;
 mod places;
 mod wakes;
 
+pub use mp_bins::FirstOwners;
 pub use mp_model::{Query, Time};
 pub use mp_saved::{Checkpoint, KeyCell, KeyWake};
 pub use opening::Opening;

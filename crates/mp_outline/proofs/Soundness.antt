@@ -10,8 +10,8 @@ use Rattle.mp_names.specs.Controls.{no_control}
 use Rattle.mp_names.specs.Outlines.{control_at, groups_of, is_before_stop, is_posted, IsBeforeStop, IsInShape, OutlineIsSound, StandByIndex, time_of}
 use Rattle.mp_names.proofs.Listed.{before_stop}
 use Rattle.mp_names.proofs.NameParts.{same_parts, same_row}
-use Rattle.mp_bins.specs.Bins.{bin_of_key, hash_of, IsBinCount}
-use Rattle.mp_bins.proofs.FirstTable.{among_is_worker}
+use Rattle.mp_job.specs.Below.{bin_of_key, hash_of, IsBinCount}
+use Rattle.mp_job.specs.Below.{among_is_worker}
 use Rattle.mp_model.specs.declared.record.Output.{Output}
 use Rattle.mp_model.specs.declared.record.Rec.{Rec}
 use Rattle.mp_model.specs.Facts.{JobFacts, QueryFacts}

@@ -5,8 +5,8 @@ use Rattle.mp_names.specs.declared.names.Name.{Name}
 use Rattle.mp_names.specs.declared.names.Name.TheVariants.{Group, Rec as RecName, Row as RowName}
 use Rattle.mp_names.specs.Limits.{most_in_bundle}
 use Rattle.mp_names.specs.Outlines.{Outline}
-use Rattle.mp_bins.specs.Bins.{bin_of_key}
-use Rattle.mp_bins.specs.Notes.{Layout, first_owner}
+use Rattle.mp_job.specs.Below.{bin_of_key}
+use Rattle.mp_job.specs.Below.{Layout, first_owner}
 use Rattle.mp_model.specs.declared.record.Event.{Event}
 use Rattle.mp_model.specs.declared.record.Output.{Output}
 use Rattle.mp_model.specs.declared.record.Rec.{Rec}

@@ -9,9 +9,9 @@ use Rattle.mp_model.specs.declared.record.Output.{Output}
 use Rattle.mp_model.specs.declared.record.Place.{Place}
 use Rattle.mp_model.specs.declared.value.Value.{Value}
 use Rattle.mp_model.specs.Answers.{in_order, line_of, place_cmp, with_row}
-use Rattle.mp_job.proofs.Members.{nothing_in_nil, Contains-cases, Contains-here, Contains-later}
-use Rattle.mp_outline.specs.Laws.{OutputsInOrder, TagIsBefore}
-use Rattle.mp_outline.proofs.Pairs.{Pairs}
+use Rattle.mp_msg.specs.Below.{nothing_in_nil, Contains-cases, Contains-here, Contains-later}
+use Rattle.mp_msg.specs.Below.{OutputsInOrder, TagIsBefore}
+use Rattle.mp_msg.specs.Below.{Pairs}
 use Rattle.mp_output.specs.Unwritten.{lines_of, place_of, rows_at}
 use Rattle.mp_output.proofs.ByTime.{IsByTime, Rows, TimesTold, earlier_place, later_place, later_tag, put_by_time, put_places, times_told}
 

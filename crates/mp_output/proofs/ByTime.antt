@@ -9,9 +9,9 @@ use Rattle.std.proofs.lemmas.Bool.{cases_order}
 use Rattle.mp_model.specs.declared.record.Place.{Place}
 use Rattle.mp_model.specs.declared.value.Value.{Value}
 use Rattle.mp_model.specs.Answers.{place_cmp}
-use Rattle.mp_job.proofs.Members.{nothing_in_nil, Contains-cases, Contains-here, Contains-later}
-use Rattle.mp_outline.specs.Laws.{TagIsBefore}
-use Rattle.mp_outline.proofs.Pairs.{Pairs}
+use Rattle.mp_msg.specs.Below.{nothing_in_nil, Contains-cases, Contains-here, Contains-later}
+use Rattle.mp_msg.specs.Below.{TagIsBefore}
+use Rattle.mp_msg.specs.Below.{Pairs}
 
 -- How places compare
 

@@ -10,9 +10,9 @@ use Rattle.mp_names.specs.Names.{Distinct, In, has, is_before}
 use Rattle.mp_names.proofs.Lists.{In_here, In_later, In_cases, In_left, In_push, In_right}
 use Rattle.mp_names.proofs.NameParts.{same_row, same_written}
 use Rattle.mp_model.specs.declared.record.Output.{Output}
-use Rattle.mp_job.proofs.Members.{Contains-filter, filter-Contains}
-use Rattle.mp_outline.specs.JobOutline.{name_of_row}
-use Rattle.mp_outline.proofs.Named.{In_named, named_In}
+use Rattle.mp_msg.specs.Below.{Contains-filter, filter-Contains}
+use Rattle.mp_msg.specs.Below.{name_of_row}
+use Rattle.mp_msg.specs.Below.{In_named, named_In}
 use Rattle.mp_ordered.specs.InOrder.{put_in_order}
 use Rattle.mp_ordered.proofs.Placing.{put_all}
 use Rattle.mp_output.specs.Holding.{HoldsUnwritten}

@@ -7,8 +7,8 @@ use Rattle.std.proofs.lemmas.List.Elements.{All-contains, Contains-get_or}
 use Rattle.mp_names.specs.Names.{is_before}
 use Rattle.mp_names.proofs.Orders.{is_before-from}
 use Rattle.mp_model.specs.declared.record.Output.{Output}
-use Rattle.mp_job.proofs.Members.{Contains-cases, Contains-here, Contains-later}
-use Rattle.mp_outline.proofs.Pairs.{Pairs}
+use Rattle.mp_msg.specs.Below.{Contains-cases, Contains-here, Contains-later}
+use Rattle.mp_msg.specs.Below.{Pairs}
 use Rattle.mp_ordered.specs.InOrder.{IsInOrder}
 use Rattle.mp_ordered.proofs.Placing.{pairs_head, pairs_tail}
 use Rattle.mp_output.specs.Unwritten.{place_rank, rows_at, rows_beside}

@@ -16,12 +16,12 @@ use Rattle.mp_names.proofs.Orders.{is_before-from}
 use Rattle.mp_model.specs.declared.record.Output.{Output}
 use Rattle.mp_model.specs.Facts.{JobFacts, QueryFacts}
 use Rattle.mp_model.specs.Stages.{answer_rows, stage_records}
-use Rattle.mp_job.proofs.Members.{Contains-filter, filter-Contains}
-use Rattle.mp_outline.specs.JobOutline.{name_of_row, outline_of}
-use Rattle.mp_outline.specs.Laws.{OutputsInOrder, TagIsBefore}
-use Rattle.mp_outline.proofs.Named.{In_named, named_In}
-use Rattle.mp_outline.proofs.Outputs.{stage_outputs_in_order}
-use Rattle.mp_outline.proofs.Pairs.{Pairs, Pairs-filter, Pairs-within}
+use Rattle.mp_msg.specs.Below.{Contains-filter, filter-Contains}
+use Rattle.mp_msg.specs.Below.{name_of_row, outline_of}
+use Rattle.mp_msg.specs.Below.{OutputsInOrder, TagIsBefore}
+use Rattle.mp_msg.specs.Below.{In_named, named_In}
+use Rattle.mp_msg.specs.Below.{stage_outputs_in_order}
+use Rattle.mp_msg.specs.Below.{Pairs, Pairs-filter, Pairs-within}
 use Rattle.mp_ordered.specs.InOrder.{IsInOrder}
 use Rattle.mp_ordered.proofs.Placing.{pairs_head, pairs_tail}
 use Rattle.mp_msg.proofs.Telling.{same_output}

@@ -10,9 +10,9 @@ use Rattle.mp_names.specs.Keeping.{IsUnwritten}
 use Rattle.mp_names.specs.Logs.{Log}
 use Rattle.mp_names.specs.Names.{In, IsLeast, Less, has}
 use Rattle.mp_model.specs.declared.record.Output.{Output}
-use Rattle.mp_job.proofs.Members.{Contains-here, nothing_in_nil}
-use Rattle.mp_outline.specs.JobOutline.{name_of_row}
-use Rattle.mp_outline.proofs.Named.{In_named, named_In}
+use Rattle.mp_msg.specs.Below.{Contains-here, nothing_in_nil}
+use Rattle.mp_msg.specs.Below.{name_of_row}
+use Rattle.mp_msg.specs.Below.{In_named, named_In}
 use Rattle.mp_ordered.specs.InOrder.{IsInOrder}
 use Rattle.mp_output.specs.Holding.{HoldsUnwritten}
 use Rattle.mp_output.specs.Unwritten.{IsDue, place_rank}

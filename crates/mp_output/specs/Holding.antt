@@ -10,7 +10,7 @@ use Rattle.mp_model.specs.declared.record.Output.{Output}
 use Rattle.mp_model.specs.Answers.{in_order, line_of}
 use Rattle.mp_model.specs.Facts.{QueryFacts}
 use Rattle.mp_model.specs.Stages.{answer_rows}
-use Rattle.mp_outline.specs.JobOutline.{name_of_row}
+use Rattle.mp_msg.specs.Below.{name_of_row}
 
 -- The rows are those that the log has taken and of whose times it has written none, each once
 pub record HoldsUnwritten (log : Log) (rows : List Output) : Type 0 where

@@ -12,7 +12,7 @@ ghost use Rattle.mp_model.specs.declared.value.Value.TheVariants.{Row};
 ghost use Rattle.mp_model.specs.Tables.{table_of};
 ghost use Rattle.mp_outside.specs.Fault.{Rose};
 ghost use Rattle.mp_outside.specs.Sink.{OnlyAppends, grown};
-ghost use Rattle.mp_outline.specs.JobOutline.{outline_of};
+ghost use Rattle.mp_msg.specs.Below.{outline_of};
 ghost use Rattle.mp_ordered.specs.InOrder.{IsInOrder, put_in_order};
 ghost use Rattle.mp_msg.specs.Contents.{IsRowOf};
 ghost use Rattle.mp_output.specs.declared.refused.OutRefused.TheVariants.{WriteFault};

@@ -6,7 +6,7 @@ use Rattle.mp_names.specs.Outlines.{Outline}
 use Rattle.mp_names.specs.declared.kinds.Kept.{Kept}
 use Rattle.mp_journal_laws.specs.Telling.{KeptTellFullLog}
 use Rattle.mp_worker_refinement.specs.State.{WorkerState}
-use Rattle.mp_worker.specs.Keeping.{no_steps}
+use Rattle.mp_threads_member.specs.Below.{no_steps}
 use Rattle.mp_threads_member.specs.Members.{MemberState}
 use Rattle.mp_threads.specs.Places.{mark_of}
 use Rattle.mp_threads.specs.declared.back.Marked.{Marked}

@@ -18,8 +18,8 @@ use Rattle.mp_answer_laws.proofs.Written.{written_lines_begin}
 use Rattle.mp_board.specs.declared.causes.Cause.{Cause}
 use Rattle.mp_board.specs.declared.causes.Cause.TheVariants as cause
 use Rattle.mp_worker_refinement.specs.State.{WorkerState}
-use Rattle.mp_worker.specs.declared.turn.Stop.{Stop}
-use Rattle.mp_worker.specs.declared.turn.Stop.TheVariants.{Write, Memory, Other}
+use Rattle.mp_threads_member.specs.Below.{Stop}
+use Rattle.mp_threads_member.specs.Below.{Write, Memory, Other}
 use Rattle.mp_threads_hub.specs.Hubs.{SeesStop}
 use Rattle.mp_answer_laws.specs.Lines.{HasBegun, HasWritten}
 use Rattle.mp_threads_member.specs.Members.{MemberState}

@@ -4,7 +4,7 @@ use Rattle.std.specs.declared.result.Result.{Result}
 use Rattle.mp_names.specs.Outlines.{Outline}
 use Rattle.mp_threads_hub.specs.Hubs.{SeesStop}
 use Rattle.mp_worker_refinement.specs.State.{WorkerState}
-use Rattle.mp_worker.specs.declared.turn.Stop.{Stop}
+use Rattle.mp_threads_member.specs.Below.{Stop}
 use Rattle.mp_threads_member.specs.Driving.{IsFinished, IsTold}
 use Rattle.mp_threads_member.specs.Members.{MemberState}
 use Rattle.mp_threads.specs.Crews.{HasDoneNothing}

@@ -9,7 +9,7 @@ ghost use Rattle.mp_worker_refinement.specs.Laws.{IsNewWorker};
 ghost use Rattle.mp_worker_refinement.specs.State.{WorkerState};
 ghost use Rattle.mp_ruled.specs.Posts.{AreLinked, AreNewPosts, StandForNone};
 ghost use Rattle.mp_threads_hub.specs.Hubs.{AreNewHubs, AreOfOneLock};
-ghost use Rattle.mp_worker.specs.Keeping.{no_steps};
+ghost use Rattle.mp_threads_member.specs.Below.{no_steps};
 ghost use Rattle.mp_threads.specs.Crews.{AreByNumber, HasDoneNothing, posts_of, seats_of};
 
 use mp_board::{Board, OutlineOf};
@@ -18,8 +18,7 @@ use mp_model::{Naming, Query};
 use mp_msg::Msg;
 use mp_ruled::{RuledPost, ruled_posts};
 use mp_threads_hub::{SeatHub, open_hubs};
-use mp_threads_member::Member;
-use mp_worker::{RunPlan, Worker, new_workers};
+use mp_threads_member::{Member, RunPlan, Worker, new_workers};
 use std::alloc::{AllocError, Global};
 use std::collections::VecDeque;
 use std::marker::Model;
@@ -34,7 +33,7 @@ pub struct Crew<'a, Q: Query, J: Naming, R> {
 impl<'a, Q: Query, J: Naming, R> Model for Crew<'a, Q, J, R> {
     ghost use Rattle.std.specs.Prelude.{List, ◌<◌};
     ghost use Rattle.mp_threads_member.specs.Members.{MemberState};
-    ghost use Rattle.mp_worker.specs.Keeping.{no_steps};
+    ghost use Rattle.mp_threads_member.specs.Below.{no_steps};
     ghost use Rattle.mp_threads.specs.Crews.{AreByNumber};
 
     ghost Value = { List MemberState };

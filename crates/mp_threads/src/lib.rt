@@ -13,7 +13,7 @@ mod states;
 mod tallies;
 
 pub use crew::Crew;
-pub use mp_worker::RunPlan;
+pub use mp_threads_member::RunPlan;
 pub use run::run_workers;
 pub use states::{EndedStates, run_with_states};
 pub use tallies::{Ended, run_with_tallies};

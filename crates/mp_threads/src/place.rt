@@ -9,8 +9,7 @@ use crate::handle::Handle;
 use mp_gate::Gate;
 use mp_model::{Naming, Query};
 use mp_outside::NoSink;
-use mp_threads_member::{Member, Round};
-use mp_worker::Stop;
+use mp_threads_member::{Member, Round, Stop};
 use std::sync::Wait;
 use std::thread::Threads;
 

@@ -19,7 +19,7 @@ use mp_model::{Naming, Query};
 use mp_msg::BinState;
 use mp_outside::Sink;
 use mp_tally::Tally;
-use mp_worker::{RunPlan, Worker, last_states};
+use mp_threads_member::{RunPlan, Worker, last_states};
 use std::alloc::{AllocError, Global};
 use std::sync::Wait;
 use std::thread::Threads;

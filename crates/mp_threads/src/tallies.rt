@@ -20,7 +20,7 @@ use mp_model::{Naming, Query};
 use mp_names::Kept;
 use mp_outside::Sink;
 use mp_tally::Tally;
-use mp_worker::{RunPlan, Worker};
+use mp_threads_member::{RunPlan, Worker};
 use std::alloc::{AllocError, Global};
 use std::sync::Wait;
 use std::thread::Threads;

@@ -10,3 +10,4 @@ mod step;
 
 pub use drive::Round;
 pub use member::Member;
+pub use mp_worker::{RunPlan, Stop, Worker, last_states, new_workers};

@@ -17,7 +17,7 @@ use Rattle.mp_worker_refinement.specs.Served.{IsAtHub, PostFollows}
 use Rattle.mp_worker_refinement.specs.State.{WorkerState}
 use Rattle.mp_worker_refinement.specs.Steps.{StepsAlone, StepsByMail}
 use Rattle.mp_worker_refinement.proofs.Alone.{alone_by_mail, post_kept, post_same}
-use Rattle.mp_worker_steps.specs.Writing.{Writes}
+use Rattle.mp_worker_sends.specs.Below.{Writes}
 use Rattle.mp_worker.specs.declared.turn.Stop.{Stop}
 use Rattle.mp_worker.specs.declared.turn.Stop.TheVariants as stop
 use Rattle.mp_worker.specs.declared.turn.Turn.{Turn}

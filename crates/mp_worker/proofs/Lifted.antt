@@ -18,7 +18,7 @@ use Rattle.mp_worker_refinement.specs.Served.{IsAtHub}
 use Rattle.mp_worker_refinement.specs.State.{CanMake, Makes, WorkerState, kept_with}
 use Rattle.mp_worker_refinement.specs.Steps.{Sees}
 use Rattle.mp_worker_refinement.proofs.Alone.{post_same}
-use Rattle.mp_worker_steps.specs.Writing.{WritesNoMore}
+use Rattle.mp_worker_sends.specs.Below.{WritesNoMore}
 use Rattle.mp_worker.specs.declared.turn.Stop.{Stop}
 use Rattle.mp_worker.specs.declared.turn.Stop.TheVariants as stop
 use Rattle.mp_worker.specs.declared.turn.Turn.{Turn}

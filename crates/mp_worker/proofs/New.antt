@@ -7,7 +7,7 @@ use Rattle.mp_stamps.specs.declared.seen.Seen.{Seen}
 use Rattle.mp_board.specs.Boards.{ShowsFrontiers}
 use Rattle.mp_worker_refinement.specs.Laws.{IsNewWorker}
 use Rattle.mp_worker_refinement.specs.State.{WorkerState}
-use Rattle.mp_tally.proofs.Lists.{push_all}
+use Rattle.mp_worker_sends.specs.Below.{push_all}
 
 -- a worker that has done nothing, by its parts
 pub is_new : (o : Outline) (w : ℕ) (s : WorkerState) (seen : Seen) → s.number ≡ w → s.log ≡ empty_log → s.posted ≡ empty_log → s.seen ≡ seen → seen.version ≡ 0 → ShowsFrontiers o (replicate o.workers empty_log) seen → IsNewWorker o w s

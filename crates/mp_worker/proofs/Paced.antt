@@ -4,9 +4,9 @@ use Rattle.mp_names.specs.Outlines.{groups_of, owner_before}
 use Rattle.mp_model.specs.Facts.{JobFacts, QueryFacts}
 use Rattle.mp_model.specs.Tables.{table_of}
 use Rattle.mp_job.specs.Runs.{IsRunOf}
-use Rattle.mp_tally.specs.declared.tally.Tally.{Tally}
-use Rattle.mp_tally.specs.declared.tally.Moved.{Moved}
-use Rattle.mp_tally.specs.Tallies.{IsTallyOf, MovedHasKeys}
+use Rattle.mp_worker_sends.specs.Below.{Tally}
+use Rattle.mp_worker_sends.specs.Below.{Moved}
+use Rattle.mp_worker_sends.specs.Below.{IsTallyOf, MovedHasKeys}
 
 module _ {Cell : Type 0} where
   same_keys : (q : QueryFacts Cell) (job : JobFacts) (paced : Bool) (m : Moved) → MovedHasKeys q (record job { paced = paced }) m → MovedHasKeys q job m

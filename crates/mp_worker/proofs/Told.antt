@@ -11,8 +11,8 @@ use Rattle.mp_machine.specs.Worlds.{Worker}
 use Rattle.mp_model.specs.Facts.{JobFacts, QueryFacts}
 use Rattle.mp_outline.specs.JobOutline.{outline_of}
 use Rattle.mp_msg.specs.declared.names.Names.{Names}
-use Rattle.mp_answer_laws.specs.Lines.{written_lines}
-use Rattle.mp_answer_laws.proofs.Written.{others_write_nothing}
+use Rattle.mp_worker_sends.specs.Below.{written_lines}
+use Rattle.mp_worker_sends.specs.Below.{others_write_nothing}
 use Rattle.mp_worker_refinement.specs.State.{CanMake, Makes, WorkerState}
 use Rattle.mp_worker_refinement.specs.Steps.{Tells}
 use Rattle.mp_worker_refinement.proofs.Lists.{some_is}

@@ -19,7 +19,7 @@ use Rattle.mp_output.specs.declared.refused.OutRefused.TheVariants.{WriteFault, 
 use Rattle.mp_worker_refinement.specs.Served.{IsAtHub}
 use Rattle.mp_worker_refinement.specs.State.{CanMake, WorkerState}
 use Rattle.mp_worker_refinement.specs.Steps.{StepsByMail}
-use Rattle.mp_worker_steps.specs.Writing.{Writes}
+use Rattle.mp_worker_sends.specs.Below.{Writes}
 use Rattle.mp_worker.specs.declared.turn.Stop.{Stop}
 use Rattle.mp_worker.specs.declared.turn.Stop.TheVariants as stop
 use Rattle.mp_worker.specs.declared.turn.Turn.{Turn}

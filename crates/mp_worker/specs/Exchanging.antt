@@ -6,7 +6,7 @@ use Rattle.mp_stamps.specs.declared.seen.Seen.{Seen}
 use Rattle.mp_board.specs.declared.causes.Cause.{Cause}
 use Rattle.mp_worker_refinement.specs.State.{WorkerState}
 use Rattle.mp_worker_refinement.specs.Steps.{Sees}
-pub use Rattle.mp_worker_steps.specs.Exchanging.{IsPosted, ShowsNothingNew}
+pub use Rattle.mp_worker_sends.specs.Below.{IsPosted, ShowsNothingNew}
 use Rattle.mp_worker.specs.declared.turn.Turn.{Turn}
 use Rattle.mp_worker.specs.declared.turn.Turn.TheVariants as turn
 use Rattle.mp_worker.specs.declared.turn.Stop.{Stop}

@@ -4,7 +4,7 @@ use Rattle.std.specs.declared.result.Result.{Result}
 use Rattle.mp_outside.specs.Fault.{Rose}
 use Rattle.mp_model.specs.Facts.{JobFacts, QueryFacts}
 use Rattle.mp_worker_refinement.specs.State.{WorkerState}
-pub use Rattle.mp_worker_steps.specs.Writing.{WritesNoMore, WritesPart, WritesTime}
+pub use Rattle.mp_worker_sends.specs.Below.{WritesNoMore, WritesPart, WritesTime}
 use Rattle.mp_worker.specs.declared.turn.Turn.{Turn}
 use Rattle.mp_worker.specs.declared.turn.Turn.TheVariants as turn
 use Rattle.mp_worker.specs.declared.turn.Stop.{Stop}

@@ -7,7 +7,7 @@ ghost use Rattle.mp_worker.specs.Exchanging.{Exchanges};
 use crate::{Stop, Turn};
 use mp_board::{Hub, OutlineOf};
 use mp_model::{Naming, Query};
-use mp_worker_steps::{Exchanged, Parts};
+use mp_worker_sends::{Exchanged, Parts};
 
 // Posts the log, and sees what all posted logs show then. `Seen`: the version of the board, which is later than the one that
 // was seen before. `NotNow`: it is the same, so nothing had changed, and the log that was posted is what was posted last.

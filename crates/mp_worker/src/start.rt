@@ -13,7 +13,7 @@ use crate::keeping::kept_at_first;
 use mp_job::Job;
 use mp_model::{Naming, Query};
 use mp_stamps::Seen;
-use mp_worker_steps::Parts;
+use mp_worker_sends::Parts;
 use std::alloc::{AllocError, Global};
 
 impl<'a, Q: Query, J: Naming> Worker<'a, Q, J> {

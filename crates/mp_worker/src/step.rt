@@ -25,8 +25,7 @@ use mp_model::{Naming, Query};
 use mp_msg::{Msg, Names};
 use mp_names::{Kept, Kind, Shape};
 use mp_outside::Sink;
-use mp_worker_sends::{extract, route, send_control, send_row};
-use mp_worker_steps::Parts;
+use mp_worker_sends::{Parts, extract, route, send_control, send_row};
 use std::alloc::AllocError;
 
 impl<'a, Q: Query, J: Naming> Worker<'a, Q, J> {

@@ -1,11 +1,11 @@
 //! What a worker tells of what it has done.
 ghost use Rattle.std.specs.Prelude.{◌≡◌, All, IfOk, length, map};
 ghost use Rattle.mp_model.specs.Tables.{table_of};
-ghost use Rattle.mp_tally.specs.Tallies.{MovedHasKeys, name_of_moved, sent_packets};
+ghost use Rattle.mp_worker_sends.specs.Below.{MovedHasKeys, name_of_moved, sent_packets};
 
 use crate::Worker;
 use mp_model::{Naming, Query};
-use mp_tally::Tally;
+use mp_worker_sends::Tally;
 use std::alloc::{AllocError, Global};
 
 impl<'a, Q: Query, J: Naming> Worker<'a, Q, J> {

@@ -1,7 +1,7 @@
 //! A worker.
 use mp_model::{Naming, Query};
 use mp_names::Kept;
-use mp_worker_steps::Parts;
+use mp_worker_sends::Parts;
 use std::marker::Model;
 
 /// One worker of the job J of the query Q. Contracts see a `WorkerState`: its number, its log, the log that it posted last,

@@ -23,11 +23,11 @@ use Rattle.mp_route.specs.Routed.{Routed}
 use Rattle.mp_route.specs.Sending.{IsBundleOf}
 use Rattle.mp_route.specs.Unsent.{HoldsUnsent, MayGo}
 use Rattle.mp_worker_refinement.specs.Sending.{MaySend, with_all_sent}
-use Rattle.mp_worker_invariant.specs.Machine.{machine_worker}
-use Rattle.mp_worker_invariant.specs.Parts.{IsRouterAt, Parts}
-use Rattle.mp_worker_invariant.proofs.Legal.{route_legal}
-use Rattle.mp_worker_invariant.proofs.Routers.{first_is, goes, owner_is}
-use Rattle.mp_worker_invariant.proofs.Standing.{router_at}
+use Rattle.mp_worker_steps.specs.Below.{machine_worker}
+use Rattle.mp_worker_steps.specs.Below.{IsRouterAt, Parts}
+use Rattle.mp_worker_steps.specs.Below.{route_legal}
+use Rattle.mp_worker_steps.specs.Below.{first_is, goes, owner_is}
+use Rattle.mp_worker_steps.specs.Below.{router_at}
 use Rattle.mp_worker_steps.specs.Kept.{IsKept}
 
 -- What is known of records that the router of a stage gave up: they are of its stage, and go with the first of them, which may go

@@ -1,6 +1,7 @@
 -- What the contracts of this crate cite.
 pub mod Applied
 pub mod Applying
+pub mod Below
 pub mod Contents
 pub mod Exchanging
 pub mod Ingesting

@@ -22,4 +22,5 @@ mod write;
 pub use changes::{many_less, many_more, one_less, one_more};
 pub use exchange::Exchanged;
 pub use lists::ChangeLists;
+pub use mp_tally::Tally;
 pub use parts::Parts;

@@ -1,16 +1,16 @@
 use Rattle.std.proofs.Common.{◌≡◌, ◌≤◌, ◌^◌, ◌∙◌, ℕ, List, ◌++◌, ap, length, rules, subst, sym}
 use Rattle.mp_names.specs.declared.pointstamps.Change.{Change}
 use Rattle.mp_names.specs.Logs.{empty_log}
-use Rattle.mp_outline.specs.JobOutline.{outline_of}
+use Rattle.mp_rows.specs.Below.{outline_of}
 use Rattle.mp_rows.specs.Entries.{AreContributions}
 use Rattle.mp_board.specs.Opening.{AreOpened}
 use Rattle.mp_board.proofs.Opened.{opened_next}
 use Rattle.mp_model.specs.Folds.{times_in}
 use Rattle.mp_model.specs.Stages.{input_records}
 use Rattle.mp_model.specs.Tables.{table_of}
-use Rattle.mp_job.specs.Times.{control_times, wake_times}
-use Rattle.mp_job.proofs.Runs.{run_shape}
-use Rattle.mp_job.proofs.Ascents.{IsStrictlyIncreasing-ascending}
+use Rattle.mp_rows.specs.Below.{control_times, wake_times}
+use Rattle.mp_rows.specs.Below.{run_shape}
+use Rattle.mp_rows.specs.Below.{IsStrictlyIncreasing-ascending}
 use Rattle.mp_board.proofs.opening.opening_counts.Goals as goal
 
 pub over-requires-clause-rising : goal.over-requires-clause-rising

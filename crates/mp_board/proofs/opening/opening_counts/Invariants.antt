@@ -1,5 +1,5 @@
 -- The empty logs of the workers so far are counted.
-use Rattle.mp_outline.specs.JobOutline.{outline_of}
+use Rattle.mp_rows.specs.Below.{outline_of}
 use Rattle.mp_stamps.specs.Counts.{SamePlaces}
 use Rattle.mp_board.specs.Opening.{AreOpened}
 use Rattle.mp_board.proofs.opening.opening_counts.Given as goal

@@ -1,8 +1,8 @@
 use Rattle.std.proofs.Common.{map, refl}
 use Rattle.mp_model.specs.Tables.{table_of}
 use Rattle.mp_answer_laws.proofs.Runs.{nothing_begun, untold}
-use Rattle.mp_worker.proofs.LastStates.{states_of_job}
-use Rattle.mp_worker.proofs.Paced.{tally_of_job}
+use Rattle.mp_threads_member.specs.Below.{states_of_job}
+use Rattle.mp_threads_member.specs.Below.{tally_of_job}
 use Rattle.mp_threads.proofs.states.run_with_states.Goals as goal
 
 pub returns-in_default-clause-leaves : goal.returns-in_default-clause-leaves

@@ -3,7 +3,7 @@ use Rattle.std.proofs.lemmas.List.{get_or_default}
 use Rattle.std.proofs.Common.{get_or}
 use Rattle.mp_model.specs.Tables.{table_of}
 use Rattle.mp_outline.specs.JobOutline.{outline_of}
-use Rattle.mp_worker.proofs.LastStates.{all_states}
+use Rattle.mp_threads_member.specs.Below.{all_states}
 use Rattle.mp_threads.specs.Crews.{AreFinished}
 use Rattle.mp_threads.proofs.Tallied.{stands_at}
 use Rattle.mp_threads.proofs.states.states_told_by.Goals as goal

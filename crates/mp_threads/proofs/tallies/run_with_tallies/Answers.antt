@@ -1,7 +1,7 @@
 use Rattle.std.proofs.Common.{refl}
 use Rattle.mp_model.specs.Tables.{table_of}
 use Rattle.mp_answer_laws.proofs.Runs.{nothing_begun, untold}
-use Rattle.mp_worker.proofs.Paced.{tally_of_job}
+use Rattle.mp_threads_member.specs.Below.{tally_of_job}
 use Rattle.mp_threads.proofs.Keeping.{still_keep}
 use Rattle.mp_threads.proofs.tallies.run_with_tallies.Goals as goal
 

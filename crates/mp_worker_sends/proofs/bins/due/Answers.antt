@@ -1,6 +1,6 @@
 use Rattle.std.proofs.Common.{Option, None, Some, IfSome}
 use Rattle.mp_names.specs.declared.kinds.Kind.TheVariants.{Extract}
-use Rattle.mp_worker_invariant.proofs.Standing.{movers_at}
+use Rattle.mp_worker_steps.specs.Below.{movers_at}
 use Rattle.mp_worker_sends.proofs.Extracting.{due_now, none_to_extract}
 use Rattle.mp_worker_steps.proofs.Keeping.{can_do, on_none}
 use Rattle.mp_worker_sends.proofs.bins.due.Goals as goal

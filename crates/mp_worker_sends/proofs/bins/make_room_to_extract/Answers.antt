@@ -3,10 +3,10 @@ use Rattle.std.proofs.lemmas.List.{get_or-set_same, length-set}
 use Rattle.mp_rows_laws.specs.Changes.{packet_sent_at}
 use Rattle.mp_handoff.specs.MoversState.{MoversState}
 use Rattle.mp_host_laws.specs.Hosted.{Hosted}
-use Rattle.mp_worker_invariant.specs.Parts.{AreMoversAt}
-use Rattle.mp_worker_invariant.proofs.Items.{again_there, put_at}
-use Rattle.mp_worker_invariant.proofs.Others.{other_movers}
-use Rattle.mp_worker_invariant.proofs.Standing.{host_at, movers_at}
+use Rattle.mp_worker_steps.specs.Below.{AreMoversAt}
+use Rattle.mp_worker_steps.specs.Below.{again_there, put_at}
+use Rattle.mp_worker_steps.specs.Below.{other_movers}
+use Rattle.mp_worker_steps.specs.Below.{host_at, movers_at}
 use Rattle.mp_worker_sends.specs.Leaving.{AreChangesOfLeaving}
 use Rattle.mp_worker_steps.proofs.Applied.{same_host_there}
 use Rattle.mp_worker_sends.proofs.Extracting.{changes_of_packet, with_room}

@@ -7,7 +7,7 @@ use Rattle.mp_names.specs.Controls.{control_of}
 use Rattle.mp_names.specs.Names.{is_ctrl}
 use Rattle.mp_model.specs.Facts.{JobFacts, QueryFacts}
 use Rattle.mp_controller.specs.Controlling.{GoesNow}
-use Rattle.mp_worker_invariant.specs.Parts.{Parts}
+use Rattle.mp_worker_steps.specs.Below.{Parts}
 use Rattle.mp_worker_steps.proofs.Controls.{can_send_control, control_counted, control_kept, control_owed, no_control_goes, one_control}
 use Rattle.mp_worker_refinement.proofs.Alone.{post_same}
 use Rattle.mp_worker_refinement.proofs.Pushed.{held_may}

@@ -4,9 +4,9 @@ use Rattle.mp_names.specs.declared.controls.Shape.{Shape}
 use Rattle.mp_names.specs.Limits.{most_stages}
 use Rattle.mp_names.specs.Logs.{empty_log}
 use Rattle.mp_model.specs.Tables.{table_of}
-use Rattle.mp_job.proofs.Runs.{run_is_legal, run_shape}
-use Rattle.mp_outline.specs.JobOutline.{outline_of}
-use Rattle.mp_outline.proofs.Soundness.{outline_is_sound}
+use Rattle.mp_rows.specs.Below.{run_is_legal, run_shape}
+use Rattle.mp_rows.specs.Below.{outline_of}
+use Rattle.mp_rows.specs.Below.{outline_is_sound}
 use Rattle.mp_board.specs.Soundness.{HoldsAllTimes}
 use Rattle.mp_board.proofs.Opened.{empty_sound}
 use Rattle.mp_board.proofs.Timed.{holds_all_times}

@@ -5,7 +5,7 @@ use Rattle.mp_model.specs.Folds.{times_in}
 use Rattle.mp_model.specs.Stages.{input_records}
 use Rattle.std.specs.List.{flat_map}
 use Rattle.mp_names.specs.declared.controls.First.{First}
-use Rattle.mp_bins.specs.Notes.{Layout}
+use Rattle.mp_opening.specs.Below.{Layout}
 use Rattle.mp_job.specs.Parts.{HoldsParts, job_in, saved_of, shares_of, table_in}
 use Rattle.mp_job.specs.Times.{HoldSame, control_times, post_times_of, times_of, wake_times}
 use Rattle.mp_job.proofs.Same.{ascending-same, opened_too, same_before, same_list, same_then}

@@ -10,7 +10,7 @@ use Rattle.mp_ruled.specs.Posts.{AreLinked, AreNewPosts, PostState}
 use Rattle.mp_seat.specs.Seats.{SeatState}
 use Rattle.mp_threads_hub.specs.Hubs.{AreNewHubs, AreOfOneLock, shared_version}
 use Rattle.mp_worker_refinement.specs.State.{WorkerState}
-use Rattle.mp_worker.specs.Keeping.{no_steps}
+use Rattle.mp_threads_member.specs.Below.{no_steps}
 use Rattle.mp_threads_member.specs.Members.{MemberState}
 use Rattle.mp_threads.proofs.Lists.{all_of_map}
 use Rattle.mp_threads.proofs.crew.Crew.open_by.Goals as goal
