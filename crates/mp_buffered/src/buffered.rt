@@ -1,5 +1,5 @@
 // A sink in front of another one, with a buffer between.
-ghost use Rattle.std.specs.Prelude.{◌≡◌, ◌≤◌, ◌<◌, ◌^◌, ℕ, [], take, vec_len, OnErr, OnOk, IfOk};
+ghost use Rattle.std.specs.Prelude.{◌≡◌, ◌≤◌, ◌<◌, ◌^◌, ℕ, [], length, take, true, vec_len, OnErr, OnOk, IfOk};
 ghost use Rattle.mp_outside.specs.Fault.{HasCause};
 ghost use Rattle.mp_outside.specs.Sink.{OnlyAppends, grown};
 
@@ -9,6 +9,9 @@ use std::alloc::{AllocError, Global};
 // How many bytes wait at most.
 const ROOM: usize = 65_536;
 
+// How many bytes go straight on before the first one waits: a short text reaches the other sink piece by piece.
+const STRAIGHT: usize = 4_096;
+
 /// The room for what waits, 64 KiB, to be lent to a `Buffered`. `AllocError`: no memory.
 pub fn room(alloc: Global) -> Result<Vec<u8>, AllocError>
     ensures { IfOk result (λ v. v.items ≡ []) }
@@ -16,14 +19,16 @@ pub fn room(alloc: Global) -> Result<Vec<u8>, AllocError>
     Vec::with_capacity(alloc, ROOM)
 }
 
-/// A sink in front of another one: what is written waits, and is handed on where a piece no longer fits, or by `flush`. A
-/// piece that is longer than the whole room goes straight on. Its count is that of the other. What waits when it is dropped
-/// is lost.
+/// A sink in front of another one: what is written waits, and is handed on where a piece no longer fits, or by `flush`. The
+/// first pieces, of 4 KiB in all, go straight on, and so does a piece that is longer than the whole room. Its count is that of
+/// the other. What waits when it is dropped is lost.
 #[derive(Drop)]
 pub struct Buffered<'a, S> {
     sink: &'a mut S,
     gathered: &'a mut Vec<u8>,
     handed: usize,
+    // How many bytes are still to go straight on.
+    straight: usize,
     ghost within: { handed ≤ vec_len gathered.now },
 }
 
@@ -41,6 +46,7 @@ impl<'a, S: Sink> Buffered<'a, S> {
             sink,
             gathered: room,
             handed: 0,
+            straight: STRAIGHT,
         }
     }
 
@@ -82,6 +88,32 @@ impl<'a, S: Sink> Buffered<'a, S> {
         }
         Ok(())
     }
+
+    // Whether the next piece goes straight on.
+    fn goes_straight(&self) -> bool
+        ensures { result ≡ true → waiting self.now ≡ [] }
+    {
+        self.straight > 0 && self.gathered.is_empty()
+    }
+
+    // Writes a part of the piece straight on, and answers its length. Nothing waits.
+    fn hand_on(&mut self, piece: &[u8]) -> Result<usize, Fault>
+        requires none_waits { waiting self.old ≡ [] }
+        ensures within { IfOk result (λ n. n ≤ length piece.now) }
+        ensures some { IfOk result (λ n. 0 < length piece.now → 0 < n) }
+        ensures grew { IfOk result (λ n. grown (S.written self.new.sink.now) (waiting self.new)
+            ≡ grown (grown (S.written self.old.sink.now) (waiting self.old)) (take n piece.now)) }
+        ensures unchanged { OnErr result (grown (S.written self.new.sink.now) (waiting self.new)
+            ≡ grown (S.written self.old.sink.now) (waiting self.old)) }
+
+        ensures same_reference { self.new.sink.ghost_name ≡ self.old.sink.ghost_name }
+        ensures appends_only { OnlyAppends S.frame S.faults self.old.sink.now self.new.sink.now }
+        ensures cause { HasCause (S.faults self.old.sink.now) (S.faults self.new.sink.now) result }
+    {
+        let taken = self.sink.write(piece)?;
+        self.straight = self.straight.saturating_sub(taken);
+        Ok(taken)
+    }
 }
 
 impl<'a, S: Sink> Sink for Buffered<'a, S> {
@@ -95,10 +127,12 @@ impl<'a, S: Sink> Sink for Buffered<'a, S> {
     ghost frame = { λ b. in_front b.sink.ghost_name (S.frame b.sink.now) };
 
     fn write(&mut self, piece: &[u8]) -> Result<usize, Fault> {
+        if self.goes_straight() {
+            return self.hand_on(piece);
+        }
         self.make_room(piece.len())?;
         if piece.len() > ROOM {
-            let taken = self.sink.write(piece)?;
-            return Ok(taken);
+            return self.hand_on(piece);
         }
         self.gathered.extend_from_slice(piece)?;
         Ok(piece.len())

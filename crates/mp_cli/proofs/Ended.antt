@@ -1,5 +1,5 @@
 -- How a run ends, by the span that is asked for.
-use Rattle.std.proofs.Common.{◌≡◌, ◌⊎◌, inl, inr, ◌∙◌, ℕ, Bool, List, Option, Some, Result, Ok, Err, ap, arith, subst, sym}
+use Rattle.std.proofs.Common.{◌≡◌, ◌⊎◌, inl, inr, ℕ, Bool, List, Option, Some, Result, Ok, Err, arith, subst, sym}
 use Rattle.std.specs.Prelude.{IfErr}
 use Rattle.std.proofs.lemmas.Result.{on_err_weaker, on_ok_weaker}
 use Rattle.mp_checkpoint_laws.specs.Files.{IsFileOf}
@@ -20,7 +20,7 @@ use Rattle.mp_command.specs.Calls.{StopsAnswer}
 use Rattle.mp_command.specs.Config.{flow_of, flow_with, job_asked, outline_asked, run_of}
 use Rattle.mp_command.specs.Ends.{CameTo, Leaves, WritesFile}
 use Rattle.mp_command.specs.Inputs.{Found, inputs_of, nothing_found}
-use Rattle.mp_command.specs.Outcome.{Outcome, BadCheckpoint, NoMemory, status_of}
+use Rattle.mp_command.specs.Outcome.{Outcome, status_of}
 use Rattle.mp_command.specs.Queries.{SomeQuery, query_of}
 use Rattle.mp_command.specs.Reading.{ReadsAll}
 use Rattle.mp_command.specs.Refused.{outcome_of}
@@ -28,7 +28,7 @@ use Rattle.mp_command.specs.Spans.{IsConfirmedBy, IsRefutedBy, format_by, resume
 use Rattle.mp_command.specs.Writing.{Answer, IsTextInSpan, IsTextOf, IsTextOfJob, IsTextOfRest, IsTextOfStop, Keeping, Purpose, WritesAll, WritesSome, targets_of}
 use Rattle.mp_command.proofs.Came.{came_refuted, came_stopped}
 use Rattle.mp_command.proofs.Leaving.{leaves_alone, leaves_part, refuted_late}
-use Rattle.mp_command.proofs.Parted.{all_as, none_of, some_as}
+use Rattle.mp_command.proofs.Parted.{all_as, some_as}
 use Rattle.mp_cli.specs.Keeping.{IsKeptBy}
 use Rattle.mp_cli.specs.Wrote.{EndsRun, Wrote}
 

@@ -7,8 +7,7 @@ use Rattle.mp_pipeline.specs.Pipes.{PipeFacts}
 use Rattle.mp_words.specs.Values.{From, Named as NamedAsked, Options, Piped as PipedAsked, QueryAsked, SpanAsked, Until, Whole, is_named, is_whole, span_is_allowed}
 use Rattle.mp_words.specs.Words.{Run}
 use Rattle.mp_command.specs.declared.flow.Flow.{Flow}
-use Rattle.mp_command.specs.declared.flow.FlowQuery.{FlowQuery}
-use Rattle.mp_command.specs.declared.flow.FlowQuery.TheVariants.{Named, Piped}
+use Rattle.mp_command.specs.declared.flow.FlowQuery.TheVariants.{Piped}
 use Rattle.mp_command.specs.Config.{flow_of, flow_with}
 use Rattle.mp_command.specs.Queries.{query_with}
 use Rattle.mp_command.specs.Writing.{Journal, Purpose, Report, Save, WritesAll, WritesSome, answer_at, save_at, save_target, target_in, targets_of}

@@ -1,4 +1,6 @@
 -- What the contracts of this crate cite.
+pub mod Answered
+pub mod Flushed
 pub mod Keeping
 pub mod Running
 pub mod Stopped

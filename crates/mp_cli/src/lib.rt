@@ -5,6 +5,7 @@
 
 mod causes;
 mod demo;
+mod flushed;
 mod resuming;
 mod running;
 mod serve;

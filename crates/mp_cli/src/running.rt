@@ -1,23 +1,25 @@
 //! The run of a job, and the answer's way into its file.
 ghost use Rattle.std.specs.Prelude.{◌≡◌, ◌<◌, ◌≤◌, ◌∷◌, [], IfErr, IfOk, IsSome, OnErr, OnOk, length, map};
+ghost use Rattle.std.specs.Option.{ForSome};
 ghost use Rattle.mp_model.specs.Answers.{one_thread_answer};
 ghost use Rattle.mp_model.specs.Tables.{table_of};
 ghost use Rattle.mp_outline.specs.JobOutline.{outline_of};
 ghost use Rattle.mp_output.specs.Rows.{GivesRows};
 ghost use Rattle.mp_outside.specs.Fault.{Rose};
 ghost use Rattle.mp_outside.specs.Files.{with_file};
-ghost use Rattle.mp_outside.specs.Sink.{OnlyAppends, grown};
-ghost use Rattle.mp_answer_laws.specs.Lines.{HasBegun};
 ghost use Rattle.mp_report.specs.Report.{AreTalliesOf};
 ghost use Rattle.mp_words.specs.Limits.{AreWithinLimits};
 ghost use Rattle.mp_command.specs.Calls.{StopsAnswer};
 ghost use Rattle.mp_command.specs.Refused.{EndsAs, outcome_of};
 ghost use Rattle.mp_command.specs.Config.{run_of};
 ghost use Rattle.mp_command.specs.Writing.{WritesSome, answer_at};
+ghost use Rattle.mp_cli.specs.Answered.{Answers};
 ghost use Rattle.mp_cli.specs.Keeping.{IsKeptBy};
 ghost use Rattle.mp_cli.specs.Running.{TellsSteps};
 
 use crate::causes::refused_after;
+use crate::flushed::once_flushed;
+use mp_buffered::{Buffered, room};
 use mp_command::Refusal;
 use mp_drive::{Replayed, RunPlan, replay_with_tallies};
 use mp_gate::Gate;
@@ -82,7 +84,43 @@ pub fn answer_to<
 {
     depot.begin(options.out)?;
     let mut sink = DepotSink::new(depot, options.out);
-    run_into(rt, options, job, gate, &mut sink)
+    run_gathered(rt, options, job, gate, &mut sink)
+}
+
+/// The same as [`run_into`], of a sink to which nothing was written, but that the answer is gathered before it is written: what
+/// waits at the run's end is written then.
+fn run_gathered<
+    'a,
+    Q: Query + Send,
+    G: Gate + Sync,
+    S: Sink,
+    R: Threads + Wait + Sync + AllocGlobal,
+>(
+    rt: &R,
+    options: &RunOptions<'a>,
+    job: &Job<Q>,
+    gate: &G,
+    sink: &mut S,
+) -> Result<Ran, Refusal<'a>>
+    requires depth { 0 < options.now.depth }
+    requires rows { GivesRows (table_of Q.facts job.now) }
+    requires begun { ForSome (S.written sink.old) (λ bytes. bytes ≡ []) }
+    ensures made { let o = outline_of (table_of Q.facts job.now) (run_of options.now.paced job.now) in
+        IfOk result (λ run. TellsSteps o options.now.depth options.now.schedule run.steps) }
+    ensures tallies { IfOk result (λ run.
+        AreTalliesOf (table_of Q.facts job.now) job.now run.tallies.items) }
+    ensures kept { let o = outline_of (table_of Q.facts job.now) (run_of options.now.paced job.now) in
+        IfOk result (λ run. IsSome options.now.journal
+        → IsKeptBy o options.now.depth options.now.schedule (map (λ v. v.items) run.kept.items)) }
+    ensures lists { IfOk result (λ run. length run.kept.items ≤ job.now.shape.workers) }
+    ensures leaves { Answers (table_of Q.facts job.now) job.now.events S.written S.faults S.frame
+        result sink.old sink.new }
+{
+    let mut waits = room(rt.alloc())?;
+    let mut front = Buffered::new(sink, &mut waits);
+    let ran = run_into(rt, options, job, gate, &mut front);
+    let flushed = front.flush();
+    once_flushed(ran, flushed)
 }
 
 /// Runs a job as the command asks, at its depth, paced or not, and writes the answer: what the run came to. `WriteFault`: a write
@@ -104,14 +142,8 @@ fn run_into<'a, Q: Query + Send, G: Gate + Sync, S: Sink, R: Threads + Wait + Sy
         IfOk result (λ run. IsSome options.now.journal
         → IsKeptBy o options.now.depth options.now.schedule (map (λ v. v.items) run.kept.items)) }
     ensures lists { IfOk result (λ run. length run.kept.items ≤ job.now.shape.workers) }
-    ensures answer { let answer = one_thread_answer (table_of Q.facts job.now) job.now.events in
-        OnOk result (S.written sink.new ≡ grown (S.written sink.old) answer) }
-    ensures part { OnErr result
-        (HasBegun (table_of Q.facts job.now) job.now.events (S.written sink.old) (S.written sink.new)) }
-    ensures refused { IfErr result (λ r. StopsAnswer (outcome_of r)) }
-
-    ensures failed { IfErr result (λ r. EndsAs r 7 → Rose (S.faults sink.old) (S.faults sink.new)) }
-    ensures appends_only { OnlyAppends S.frame S.faults sink.old sink.new }
+    ensures leaves { Answers (table_of Q.facts job.now) job.now.events S.written S.faults S.frame
+        result sink.old sink.new }
 {
     let plan = RunPlan {
         depth: options.depth,

@@ -1,6 +1,6 @@
 //! A run that stops at a time, and what it leaves.
 ghost use Rattle.std.specs.Prelude.{◌≡◌, ◌<◌, ◌≤◌, ◌∷◌, [], IfErr, IfOk, None, OnErr, OnOk, Some, map};
-ghost use Rattle.mp_answer_laws.specs.Lines.{HasBegun};
+ghost use Rattle.std.specs.Option.{ForSome};
 ghost use Rattle.mp_model.specs.Answers.{one_thread_answer};
 ghost use Rattle.mp_model.specs.Legal.{EventsAreLegal};
 ghost use Rattle.mp_model.specs.Plain.{EventsArePlain};
@@ -9,7 +9,6 @@ ghost use Rattle.mp_msg.specs.LastStates.{AreAllStates};
 ghost use Rattle.mp_output.specs.Rows.{GivesRows};
 ghost use Rattle.mp_outside.specs.Fault.{Rose};
 ghost use Rattle.mp_outside.specs.Files.{with_file};
-ghost use Rattle.mp_outside.specs.Sink.{OnlyAppends, grown};
 ghost use Rattle.mp_report.specs.Report.{AreTalliesOf};
 ghost use Rattle.mp_words.specs.Limits.{AreWithinLimits};
 ghost use Rattle.mp_words.specs.Values.{Until, options_in};
@@ -17,9 +16,12 @@ ghost use Rattle.mp_words.specs.Words.{Run};
 ghost use Rattle.mp_command.specs.Calls.{StopsAnswer};
 ghost use Rattle.mp_command.specs.Refused.{EndsAs, outcome_of};
 ghost use Rattle.mp_command.specs.Writing.{IsTextOfStop, WritesSome, answer_at, targets_of};
+ghost use Rattle.mp_cli.specs.Answered.{Answers};
 ghost use Rattle.mp_cli.specs.Wrote.{Wrote};
 
 use crate::causes::refused_after;
+use crate::flushed::once_flushed;
+use mp_buffered::{Buffered, room};
 use mp_command::{Refusal, SavePlan, report_to, save_to};
 use mp_drive::{RunPlan, replay_with_states};
 use mp_gate::Gate;
@@ -119,7 +121,39 @@ fn answer_stopped<
 {
     depot.begin(options.out)?;
     let mut sink = DepotSink::new(depot, options.out);
-    stop_into(rt, options, job, gate, &mut sink)
+    stop_gathered(rt, options, job, gate, &mut sink)
+}
+
+/// The same as [`stop_into`], of a sink to which nothing was written, but that the answer is gathered before it is written: what
+/// waits at the run's end is written then.
+fn stop_gathered<
+    'a,
+    Q: Query + Send,
+    G: Gate + Sync,
+    S: Sink,
+    R: Threads + Wait + Sync + AllocGlobal,
+>(
+    rt: &R,
+    options: &RunOptions<'a>,
+    job: &Job<Q>,
+    gate: &G,
+    sink: &mut S,
+) -> Result<Stopped<Q::Cell>, Refusal<'a>>
+    requires depth { 0 < options.now.depth }
+    requires rows { GivesRows (table_of Q.facts job.now) }
+    requires begun { ForSome (S.written sink.old) (λ bytes. bytes ≡ []) }
+    ensures tallies { IfOk result (λ run.
+        AreTalliesOf (table_of Q.facts job.now) job.now run.tallies.items) }
+    ensures states { IfOk result (λ run.
+        AreAllStates (table_of Q.facts job.now) job.now (map (λ own. own.items) run.states.items)) }
+    ensures leaves { Answers (table_of Q.facts job.now) job.now.events S.written S.faults S.frame
+        result sink.old sink.new }
+{
+    let mut waits = room(rt.alloc())?;
+    let mut front = Buffered::new(sink, &mut waits);
+    let ran = stop_into(rt, options, job, gate, &mut front);
+    let flushed = front.flush();
+    once_flushed(ran, flushed)
 }
 
 /// Runs a job as the command asks, at its depth, paced or not, and writes the answer: what the run came to, with what the bins have at
@@ -137,14 +171,8 @@ fn stop_into<'a, Q: Query + Send, G: Gate + Sync, S: Sink, R: Threads + Wait + S
         AreTalliesOf (table_of Q.facts job.now) job.now run.tallies.items) }
     ensures states { IfOk result (λ run.
         AreAllStates (table_of Q.facts job.now) job.now (map (λ own. own.items) run.states.items)) }
-    ensures answer { let answer = one_thread_answer (table_of Q.facts job.now) job.now.events in
-        OnOk result (S.written sink.new ≡ grown (S.written sink.old) answer) }
-    ensures part { OnErr result
-        (HasBegun (table_of Q.facts job.now) job.now.events (S.written sink.old) (S.written sink.new)) }
-    ensures refused { IfErr result (λ r. StopsAnswer (outcome_of r)) }
-
-    ensures failed { IfErr result (λ r. EndsAs r 7 → Rose (S.faults sink.old) (S.faults sink.new)) }
-    ensures appends_only { OnlyAppends S.frame S.faults sink.old sink.new }
+    ensures leaves { Answers (table_of Q.facts job.now) job.now.events S.written S.faults S.frame
+        result sink.old sink.new }
 {
     let plan = RunPlan {
         depth: options.depth,

@@ -91,10 +91,10 @@ fn files_missing_or_unreadable(rt: HostRuntime) -> Result<(), AllocError> {
     Ok(())
 }
 
-/// A sink whose second write fails.
-fn faulty_sink(alloc: Global) -> Result<MemSink, AllocError> {
+/// A sink of which one write fails.
+fn faulty_sink(alloc: Global, write: u64) -> Result<MemSink, AllocError> {
     let mut sink = MemSink::new(alloc);
-    sink.fail(Op::Write, 2)?;
+    sink.fail(Op::Write, write)?;
     Ok(sink)
 }
 
@@ -104,7 +104,7 @@ fn takes<S: Sink>(rt: &impl Abort, sink: &mut S, piece: &[u8], is_taken: bool) {
 
 #[test]
 fn sinks_in_memory(rt: HostRuntime) -> Result<(), AllocError> {
-    let mut sink = faulty_sink(rt.alloc())?;
+    let mut sink = faulty_sink(rt.alloc(), 2)?;
     takes(&rt, &mut sink, b"first", true);
     takes(&rt, &mut sink, b"lost", false);
     takes(&rt, &mut sink, b", last", true);
@@ -112,21 +112,25 @@ fn sinks_in_memory(rt: HostRuntime) -> Result<(), AllocError> {
     Ok(())
 }
 
-/// The first write takes two bytes of what waits and the second fails, so a long piece is refused. All others arrive, in order.
+/// 4 KiB go straight on, two bytes a write, and the next pieces wait. A long piece hands them on: two bytes are taken, and the
+/// write behind these fails, so it is refused. All others arrive, in order.
 #[test]
 fn sink_behind_a_buffer(rt: HostRuntime) -> Result<(), AllocError> {
-    let mut sink = faulty_sink(rt.alloc())?;
+    let mut sink = faulty_sink(rt.alloc(), 2_050)?;
     sink.take_at_most(2);
     let mut room = room(rt.alloc())?;
+    let mut all = vec![in rt.alloc(); b'.'; 4_096]?;
     let long = vec![in rt.alloc(); b'-'; 65_537]?;
     let mut buffered = Buffered::new(&mut sink, &mut room);
-    takes(&rt, &mut buffered, b"first", true);
+    takes(&rt, &mut buffered, all.as_slice(), true);
+    takes(&rt, &mut buffered, b"waits", true);
     takes(&rt, &mut buffered, long.as_slice(), false);
     takes(&rt, &mut buffered, b", last", true);
     takes(&rt, &mut buffered, long.as_slice(), true);
     assert!(rt; buffered.flush().is_ok());
-    assert!(rt; sink.bytes().starts_with(b"first, last-"));
-    assert!(rt; sink.bytes().len() == 11 + long.len());
+    all.extend_from_slice(b"waits, last")?;
+    all.extend_from_slice(long.as_slice())?;
+    assert!(rt; sink.bytes() == all.as_slice());
     Ok(())
 }
 

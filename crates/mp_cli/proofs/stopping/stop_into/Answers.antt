@@ -1,4 +1,5 @@
 -- Both ways to run a job say the same of the sink, of the tallies and of the states.
+use Rattle.mp_cli.proofs.Handed.{ran_on, was_stopped}
 use Rattle.mp_cli.proofs.stopping.stop_into.Goals as goal
 
 pub returns-in-Ok-clause-tallies : goal.returns-in-Ok-clause-tallies
@@ -8,14 +9,14 @@ pub returns-in-Ok-replay_with_states-clause-tallies : goal.returns-in-Ok-replay_
 returns-in-Ok-replay_with_states-clause-tallies g c =
     record { all = c.in-Ok-replay_with_states.ensures.all; each = c.in-Ok-replay_with_states.ensures.tallies }
 
-pub returns-in-Ok-clause-answer : goal.returns-in-Ok-clause-answer
-returns-in-Ok-clause-answer g c = c.in-Ok.ensures.leaves.whole
+pub returns-in-Ok-clause-leaves : goal.returns-in-Ok-clause-leaves
+returns-in-Ok-clause-leaves g c = ran_on _ _ _ _ _ _ _ _ _ c.in-Ok.ensures.leaves
 
-pub returns-in-Ok-clause-appends_only : goal.returns-in-Ok-clause-appends_only
-returns-in-Ok-clause-appends_only g c = c.in-Ok.ensures.leaves.appends
+pub returns-in-Ok-replay_with_states-clause-leaves : goal.returns-in-Ok-replay_with_states-clause-leaves
+returns-in-Ok-replay_with_states-clause-leaves g c = ran_on _ _ _ _ _ _ _ _ _ c.in-Ok-replay_with_states.ensures.leaves
 
-pub returns-in-Err-clause-part : goal.returns-in-Err-clause-part
-returns-in-Err-clause-part g c = c.in-Err.ensures.leaves.part
+pub returns-in-Err-clause-leaves : goal.returns-in-Err-clause-leaves
+returns-in-Err-clause-leaves g c = rw c.refused_after.ensures (was_stopped _ _ _ _ _ _ _ _ c.in-Err.ensures.leaves)
 
-pub returns-in-Err-clause-appends_only : goal.returns-in-Err-clause-appends_only
-returns-in-Err-clause-appends_only g c = c.in-Err.ensures.leaves.appends
+pub returns-in-Err-replay_with_states-clause-leaves : goal.returns-in-Err-replay_with_states-clause-leaves
+returns-in-Err-replay_with_states-clause-leaves g c = rw c.refused_after-in-Err-replay_with_states.ensures (was_stopped _ _ _ _ _ _ _ _ c.in-Err-replay_with_states.ensures.leaves)

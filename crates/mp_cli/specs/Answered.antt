@@ -1,0 +1,19 @@
+-- What a run leaves in the sink of its answer.
+use Rattle.std.specs.Prelude.{◌≡◌, ℕ, IfErr, List, OnErr, OnOk, Option, Result}
+use Rattle.mp_answer_laws.specs.Lines.{HasBegun}
+use Rattle.mp_command.specs.declared.refusal.Refusal.{Refusal}
+use Rattle.mp_command.specs.Calls.{StopsAnswer}
+use Rattle.mp_command.specs.Refused.{EndsAs, outcome_of}
+use Rattle.mp_model.specs.declared.record.Event.{Event}
+use Rattle.mp_model.specs.Answers.{one_thread_answer}
+use Rattle.mp_model.specs.Facts.{QueryFacts}
+use Rattle.mp_outside.specs.Fault.{Rose}
+use Rattle.mp_outside.specs.Sink.{Beside, OnlyAppends, grown}
+
+-- The one-thread answer, or a beginning of it where the run was stopped: for want of memory, or by a write, and then the sink's count of faults rose
+pub record Answers {Cell S : Type 0} (q : QueryFacts Cell) (events : List Event) (written : S → Option (List ℕ)) (faults : S → ℕ) (frame : S → Beside) {T : Type 0} (end : Result T Refusal) (had has : S) : Type 0 where
+  pub whole : OnOk end (written has ≡ grown (written had) (one_thread_answer q events))
+  pub part : OnErr end (HasBegun q events (written had) (written has))
+  pub refused : IfErr end (λ r. StopsAnswer (outcome_of r))
+  pub failed : IfErr end (λ r. EndsAs r 7 → Rose (faults had) (faults has))
+  pub appends : OnlyAppends frame faults had has

@@ -1,0 +1,17 @@
+//! What a run came to whose answer waits in a buffer.
+ghost use Rattle.mp_cli.specs.Flushed.{EndsFlushed};
+
+use mp_command::Refusal;
+use mp_outside::Fault;
+
+/// What a run came to, once what waited of its answer was handed on, or wasn't. The run's own refusal comes first.
+pub fn once_flushed<'a, T: Drop>(
+    ran: Result<T, Refusal<'a>>,
+    flushed: Result<(), Fault>,
+) -> Result<T, Refusal<'a>>
+    ensures { EndsFlushed ran.entry flushed result }
+{
+    let run = ran?;
+    flushed?;
+    Ok(run)
+}
