@@ -66,6 +66,11 @@ module _ {T : Type 0} (p : T → Bool) where
   begins_if_all [] l h = absurd (omega arith)
   begins_if_all (x ∷ xs) l h = All-head Passes x xs h
 
+  -- where some are in front, the first is
+  pub begins_if_some : (xs : List T) → 0 < prefix_len p xs → begins p xs ≡ true
+  begins_if_some [] l = absurd (omega arith)
+  begins_if_some (x ∷ xs) l = ⊎_elim (λ (e : p x ≡ true). e) (λ (e : p x ≡ false). let none : 0 < 0 = rw e at l in absurd (omega arith)) (cases_Bool (p x))
+
   -- how many are in front, by parts
   pub count_behind : (xs ys : List T) → All Passes xs → prefix_len p (xs ++ ys) ≡ length xs + prefix_len p ys
   count_behind [] ys h = omega arith

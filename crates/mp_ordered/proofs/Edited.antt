@@ -3,7 +3,7 @@ use Rattle.std.proofs.Common.{◌≡◌, ◌≢◌, ℕ, Bool, ◌+◌, ◌*◌,
 use Rattle.std.specs.declared.vec.Vec.{Vec}
 use Rattle.std.specs.declared.collections.VecDeque.{VecDeque}
 use Rattle.std.specs.Prelude.{slice_get}
-use Rattle.std.specs.List.{prefix_len, remove}
+use Rattle.std.specs.List.{insert, prefix_len, remove}
 use Rattle.std.specs.List.Sorted.{IsPartitionedBy}
 use Rattle.std.specs.Vec.{vec_capacity}
 use Rattle.std.specs.VecDeque.{deque_capacity}
@@ -18,10 +18,11 @@ use Rattle.mp_ordered.proofs.Changed.{half_past, items_without, less_items, past
 
 module _ {T Z : Type 0} (rank : T → List ℕ) {blocks spare : Vec (VecDeque T Z) Z} {len past room : ℕ} (are : AreBlocks rank blocks spare len past room) where
   -- An item was put in a block, which has `n` items by that
-  module _ (x : T) {at : ℕ} (b : VecDeque T Z) {d : VecDeque T Z} (some : 0 < room) (here : at < length blocks.items) (place : IsBlockFor rank x blocks.items at) (was : d ≡ get_or blocks.items at d) (is : b.items ≡ put_in_order rank x d.items)
-      (memory : deque_capacity d ≤ deque_capacity b) {n before after : ℕ} (count : n ≡ length b.items) (after_is : after ≡ n - 64) (before_is : before ≡ n - 1 - 64) where
+  module _ (x : T) {at : ℕ} (index : ℕ) (b : VecDeque T Z) {d : VecDeque T Z} (some : 0 < room) (here : at < length blocks.items) (place : IsBlockFor rank x blocks.items at) (was : d ≡ get_or blocks.items at d)
+      (put : insert (get_or blocks.items at d).items index x ≡ put_in_order rank x (get_or blocks.items at d).items) (is : b.items ≡ insert d.items index x) (memory : deque_capacity d ≤ deque_capacity b)
+      {n before after : ℕ} (count : n ≡ length b.items) (after_is : after ≡ n - 64) (before_is : before ≡ n - 1 - 64) where
     is_there : b.items ≡ put_in_order rank x (get_or blocks.items at d).items
-    is_there = is ∙ ap (λ v. put_in_order rank x v.items) was
+    is_there = is ∙ ap (λ v. insert v.items index x) was ∙ put
 
     memory_there : deque_capacity (get_or blocks.items at d) ≤ deque_capacity b
     memory_there = omega (arith, memory, ap (λ v. deque_capacity v) was)

@@ -5,6 +5,7 @@ ghost use Rattle.std.specs.List.Sorted.{IsPartitionedBy};
 ghost use Rattle.mp_ordered.specs.Blocks.{items_of};
 ghost use Rattle.mp_ordered.specs.InOrder.{GoesBack, IsInOrder, first_from, put_in_order};
 
+use crate::among::spot_of;
 use crate::block::{
     FULL, block_of, copied, cut_block, cut_in, have_blocks, item_at, item_from, past_half,
     place_in, put_in, retire, split, take_at, take_first,
@@ -126,9 +127,8 @@ impl<T: Drop, O: Order<T>> OrderedBlocks<T, O> {
         ensures put { self.new.items ≡ put_in_order O.rank item self.old.items }
         ensures room { self.old.room ≡ self.new.room + 1 }
     {
-        let at = block_of::<T, O>(&self.blocks, &item);
+        let Spot { block: at, place } = spot_of::<T, O>(&self.blocks, &item);
         let block = &mut self.blocks[at];
-        let place = place_in::<T, O>(block, &item);
         put_in(block, place, item);
         let count = block.len();
         self.len += 1;

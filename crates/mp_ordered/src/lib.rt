@@ -3,6 +3,7 @@
 //! Items kept in the order of their ranks.
 #![tactic(auto)]
 
+mod among;
 mod block;
 mod blocks;
 mod cut;
