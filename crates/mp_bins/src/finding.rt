@@ -22,9 +22,6 @@ pub fn owner_below(
     requires { AreInOrder notes.now.items }
     ensures { result ≡ owner_below (controls_in notes.now.items) of.first of.stage of.bin limit }
 {
-    if notes.is_empty() {
-        return of.first;
-    }
     let cut = BelowLimit { of, limit };
     let Some(note) = last_below(notes, &cut, hint) else {
         return of.first;

@@ -172,13 +172,30 @@ impl Owners {
         first_from(&self.changes, stage, worker, after)
     }
 
-    // By the records of times below `limit`.
+    // By the records of times below `limit`. Mostly no record is noted at all.
     fn worker_below(&self, stage: u32, bin: u32, limit: u128) -> u32
         ensures owner { result ≡ owner_before self.now stage bin limit }
         ensures worker { result < self.now.layout.shape.workers }
     {
-        let hint = self.hints.get(bin_index(self.first.shape(), stage, bin));
-        owner_below(&self.notes, self.stage_bin(stage, bin), limit, hint)
+        let of = self.stage_bin(stage, bin);
+        if self.notes.is_empty() {
+            return of.first;
+        }
+        self.noted_below(of, limit)
+    }
+
+    // The same where some are noted.
+    #[inline(never)]
+    fn noted_below(&self, of: StageBin, limit: u128) -> u32
+        requires first { of.first ≡ first_owner self.now.layout of.stage of.bin }
+        requires worker { of.first < self.now.layout.shape.workers }
+        ensures owner { result ≡ owner_before self.now of.stage of.bin limit }
+        ensures worker { result < self.now.layout.shape.workers }
+    {
+        let hint = self
+            .hints
+            .get(bin_index(self.first.shape(), of.stage, of.bin));
+        owner_below(&self.notes, of, limit, hint)
     }
 
     fn stage_bin(&self, stage: u32, bin: u32) -> StageBin

@@ -7,14 +7,8 @@ use Rattle.mp_names.specs.Names.{is_before}
 use Rattle.mp_ordered.proofs.Placing.{read_at}
 use Rattle.mp_bins.specs.declared.owners.Note.{Note}
 use Rattle.mp_bins.specs.Notes.{no_note, note_at, rank_of_note}
-use Rattle.mp_bins.proofs.Searching.{first_owns, last_owns, limit_parts, of_test, not_of_test, owner_is_first}
+use Rattle.mp_bins.proofs.Searching.{first_owns, last_owns, limit_parts, of_test, not_of_test}
 use Rattle.mp_bins.proofs.finding.owner_below.Goals as goal
-
-pub returns-then-is_empty : goal.returns-then-is_empty
-returns-then-is_empty c =
-    let none = c.is_empty.ensures.0 c.if-is_empty.true in
-    let of = c.args.of in
-    rw none (sym (owner_is_first [] of.first of.stage of.bin c.args.limit (λ i l. absurd (omega arith))))
 
 pub returns-in_default : goal.returns-in_default
 returns-in_default c =
