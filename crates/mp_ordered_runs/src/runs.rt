@@ -239,8 +239,7 @@ fn take_run<T: Drop, O: Order<T> + Kinds<T>>(run: &mut Vec<T>, rest: &mut Ordere
         let Some(item) = rest.pop_first() else {
             unreachable!()
         };
-        let at = run.len();
-        put(run, at, item);
+        run.push_reserved(item);
     }
 }
 
