@@ -7,10 +7,12 @@ ghost use Rattle.mp_names.specs.Names.{is_before};
 ghost use Rattle.mp_ordered.specs.Blocks.{IsBlockFor, items_of};
 ghost use Rattle.mp_ordered.specs.InOrder.{IsInOrder, put_in_order};
 
-use crate::block::{block_of, place_in};
+use crate::block::{begins_in_front, cut_block, place_in};
+use crate::cut::Before;
 use crate::hinted::Spot;
 use crate::order::Order;
 use std::collections::VecDeque;
+use std::marker::PhantomData;
 
 /// Where an item has its place: in which block, and how many of its items come before it. The last item of all is asked
 /// first: most items go behind it.
@@ -46,4 +48,21 @@ fn ends_before<T, O: Order<T>>(block: &VecDeque<T>, item: &T) -> bool
         Some(last) => O::is_before(last, item),
         None => false,
     }
+}
+
+/// The block in which an item has its place. The last one is asked first.
+pub fn block_of<T, O: Order<T>>(blocks: &[VecDeque<T>], item: &T) -> usize
+    requires { 0 < length blocks.now }
+    ensures inside { result < length blocks.now }
+    ensures place { IsBlockFor O.rank item.now blocks.now result }
+{
+    let before: Before<T, O> = Before {
+        item,
+        of: PhantomData,
+    };
+    let last = blocks.len() - 1;
+    if last > 0 && begins_in_front(&blocks[last], &before) {
+        return last;
+    }
+    cut_block(blocks, &before)
 }

@@ -7,7 +7,7 @@ ghost use Rattle.std.specs.Vec.{vec_capacity};
 ghost use Rattle.std.specs.VecDeque.{deque_capacity};
 ghost use Rattle.std.specs.declared.alloc.Global.{Global};
 ghost use Rattle.mp_names.specs.Names.{is_before};
-ghost use Rattle.mp_ordered.specs.Blocks.{AreFilled, HasMemory, IsBlockFor, IsCutIn, IsSpare, IsSplit, begins_before, items_of};
+ghost use Rattle.mp_ordered.specs.Blocks.{AreFilled, HasMemory, IsCutIn, IsSpare, IsSplit, begins_before, items_of};
 ghost use Rattle.mp_ordered.specs.InOrder.{IsInOrder, begins, put_in_order};
 
 use crate::cut::{Before, Cut};
@@ -46,34 +46,18 @@ pub fn cut_in<T, C: Cut<T>>(block: &VecDeque<T>, cut: &C) -> usize
     cut_in_slice(first, cut)
 }
 
-/// The block in which an item has its place. The first and the last one are asked first: most items go to them.
-pub fn block_of<T, O: Order<T>>(blocks: &[VecDeque<T>], item: &T) -> usize
-    requires { 0 < length blocks.now }
-    ensures inside { result < length blocks.now }
-    ensures place { IsBlockFor O.rank item.now blocks.now result }
-{
-    let before: Before<T, O> = Before {
-        item,
-        of: PhantomData,
-    };
-    let last = blocks.len() - 1;
-    if last == 0 || !begins_in_front(&blocks[1], &before) {
-        return 0;
-    }
-    if begins_in_front(&blocks[last], &before) {
-        return last;
-    }
-    cut_block(blocks, &before)
-}
-
-/// The block in which a cut is: the last one that begins in front of it, or the first one, found by halving.
+/// The block in which a cut is: the last one that begins in front of it, or the first one. Where that isn't the first it is
+/// found by halving.
 pub fn cut_block<T, C: Cut<T>>(blocks: &[VecDeque<T>], cut: &C) -> usize
     requires { 0 < length blocks.now }
     ensures inside { result < length blocks.now }
     ensures cut { IsCutIn (C.front cut.now) blocks.now result }
 {
-    let mut at = 0;
-    let mut count = blocks.len();
+    if blocks.len() == 1 || !begins_in_front(&blocks[1], cut) {
+        return 0;
+    }
+    let mut at = 1;
+    let mut count = blocks.len() - 1;
     while count > 1 {
         let half = count / 2;
         if begins_in_front(&blocks[at + half], cut) {
@@ -86,8 +70,8 @@ pub fn cut_block<T, C: Cut<T>>(blocks: &[VecDeque<T>], cut: &C) -> usize
     at
 }
 
-// Whether a block begins with an item in front of the cut.
-fn begins_in_front<T, C: Cut<T>>(block: &VecDeque<T>, cut: &C) -> bool
+/// Whether a block begins with an item in front of the cut.
+pub fn begins_in_front<T, C: Cut<T>>(block: &VecDeque<T>, cut: &C) -> bool
     ensures { result ≡ begins (C.front cut.now) block.now.items }
 {
     match block.front() {

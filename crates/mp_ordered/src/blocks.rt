@@ -5,13 +5,13 @@ ghost use Rattle.std.specs.List.Sorted.{IsPartitionedBy};
 ghost use Rattle.mp_ordered.specs.Blocks.{items_of};
 ghost use Rattle.mp_ordered.specs.InOrder.{GoesBack, IsInOrder, first_from, put_in_order};
 
-use crate::among::spot_of;
+use crate::among::{block_of, spot_of};
 use crate::block::{
-    FULL, block_of, copied, cut_block, cut_in, have_blocks, item_at, item_from, past_half,
-    place_in, put_in, retire, split, take_at, take_first,
+    FULL, copied, cut_block, cut_in, have_blocks, item_at, item_from, past_half, place_in, put_in,
+    retire, split, take_at, take_first,
 };
 use crate::cut::Cut;
-use crate::front::{count_of, drop_front, end_of, retire_first};
+use crate::front::{count_of, cut_near, drop_front, end_of, retire_first};
 use crate::hinted::{Spot, last_hinted, last_searched};
 use crate::order::Order;
 use std::alloc::{AllocError, Global};
@@ -221,7 +221,7 @@ impl<T: Drop, O: Order<T>> OrderedBlocks<T, O> {
         &self.blocks
     }
 
-    /// How many items stand in front of a cut. Goes from block to block.
+    /// How many items stand in front of a cut. Goes from block to block: the first ones are asked first.
     pub fn count_in_front<C: Cut<T>>(&self, cut: &C) -> usize
         requires { IsPartitionedBy (C.front cut.now) self.now.items }
         ensures { result ≡ prefix_len (C.front cut.now) self.now.items }
@@ -230,7 +230,7 @@ impl<T: Drop, O: Order<T>> OrderedBlocks<T, O> {
             return 0;
         }
         let at = cut_block(&self.blocks, cut);
-        count_of(&self.blocks[..at]) + cut_in(&self.blocks[at], cut)
+        count_of(&self.blocks[..at]) + cut_near(&self.blocks[at], cut)
     }
 
     /// The last item in front of a cut; `None` exactly where there is none.

@@ -1,13 +1,19 @@
 //! The first items of blocks: how many they are, where they end, and how they are dropped.
 ghost use Rattle.std.specs.Prelude.{◌≡◌, ◌≤◌, ◌<◌, ◌+◌, ◌^◌, suc, All, drop, get_or, length, take};
+ghost use Rattle.std.specs.List.{prefix_len};
+ghost use Rattle.std.specs.List.Sorted.{IsPartitionedBy};
 ghost use Rattle.std.specs.declared.alloc.Global.{Global};
 ghost use Rattle.std.specs.declared.collections.VecDeque.{VecDeque};
 ghost use Rattle.std.specs.Vec.{vec_capacity};
 ghost use Rattle.std.specs.VecDeque.{deque_capacity};
 ghost use Rattle.mp_ordered.specs.Blocks.{IsBlock, IsSpare, items_of, past_halves};
 
-use crate::block::past_half;
+use crate::block::{cut_in, past_half};
+use crate::cut::Cut;
 use std::collections::VecDeque;
+
+// So many items are asked before others are searched.
+const NEAR: usize = 4;
 
 /// How many items all blocks have.
 pub fn count_of<T>(blocks: &[VecDeque<T>]) -> usize
@@ -19,6 +25,19 @@ pub fn count_of<T>(blocks: &[VecDeque<T>]) -> usize
         count += block.len();
     }
     count
+}
+
+/// How many items of a block stand in front of a cut, where that is likely to be few: the first ones are asked one by one.
+pub fn cut_near<T, C: Cut<T>>(block: &VecDeque<T>, cut: &C) -> usize
+    requires { IsPartitionedBy (C.front cut.now) block.now.items }
+    ensures { result ≡ prefix_len (C.front cut.now) block.now.items }
+{
+    for place in 0..block.len().min(NEAR) {
+        if !cut.is_in_front(&block[place]) {
+            return place;
+        }
+    }
+    cut_in(block, cut)
 }
 
 /// Where the first `count` items end: in which block, and how many of them it has. Those are all of its items only where no

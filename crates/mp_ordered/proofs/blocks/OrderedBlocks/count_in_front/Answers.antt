@@ -13,8 +13,8 @@ count_of-requires g c =
     let at = c.cut_block-at.result in
     rw c.deref-2.ensures.value (omega (arith, front_within bs at, c.self.invariant.count, c.self.invariant.few))
 
-pub cut_in-requires : goal.cut_in-requires
-cut_in-requires g c =
+pub cut_near-requires : goal.cut_near-requires
+cut_near-requires g c =
     let p = g.C.Cut.front c.args.cut.now in
     let bs = c.self.inside.blocks.items in
     let at = c.cut_block-at.result in
@@ -32,7 +32,7 @@ overflow_add-result g c =
     let parted = rw (← c.self.view_is) at c.requires in
     let total = in_front_of p bs at c.index.result.now parted c.self.invariant.filled here cut in
     let counted = rw c.deref-2.ensures.value at c.count_of.ensures in
-    let in_block = c.cut_in.ensures ∙ ap (λ v. prefix_len p v.items) c.index.ensures in
+    let in_block = c.cut_near.ensures ∙ ap (λ v. prefix_len p v.items) c.index.ensures in
     omega (arith, total, counted, in_block, prefix_len-le-length p (items_of bs), c.self.invariant.count, c.self.invariant.few)
 
 pub returns : goal.returns
@@ -45,5 +45,5 @@ returns g c =
     let parted = rw (← c.self.view_is) at c.requires in
     let total = in_front_of p bs at c.index.result.now parted c.self.invariant.filled here cut in
     let counted = rw c.deref-2.ensures.value at c.count_of.ensures in
-    let in_block = c.cut_in.ensures ∙ ap (λ v. prefix_len p v.items) c.index.ensures in
+    let in_block = c.cut_near.ensures ∙ ap (λ v. prefix_len p v.items) c.index.ensures in
     rw (← c.self.view_is) (omega (arith, total, counted, in_block))
