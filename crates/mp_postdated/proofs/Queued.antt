@@ -1,5 +1,5 @@
 -- The queue of a set of wakes: what a removal of its first leaves, and that its first is the least.
-use Rattle.std.proofs.Common.{◌≡◌, ◌⊎◌, ℕ, zero, suc, ◌<◌, ◌≤◌, ◌+◌, Bool, true, false, not, List, [], ◌∷◌, Option, None, Some, IfSome, IsSome, OnSome, IsPermutation, Contains, cond, drop, length, get_or, slice_get, slice_index_or, refl, sym, ap, ◌∙◌, subst, inl, inr, ⊎_elim, arith}
+use Rattle.std.proofs.Common.{◌≡◌, ◌⊎◌, ℕ, zero, suc, ◌<◌, ◌≤◌, ◌+◌, ◌/◌, Bool, true, false, not, List, [], ◌∷◌, Option, None, Some, IfSome, IsSome, OnSome, IsPermutation, Contains, cond, drop, length, get_or, slice_get, slice_index_or, refl, sym, ap, ◌∙◌, subst, inl, inr, ⊎_elim, arith}
 use Rattle.std.proofs.lemmas.Bool.{false≢true}
 use Rattle.std.proofs.lemmas.Cmp.{tied_itself}
 use Rattle.std.proofs.lemmas.List.Sorted.{Contains-permutation, IsPermutation-sym}
@@ -15,6 +15,13 @@ use Rattle.std.specs.declared.cmp.Reverse.{Reverse}
 use Rattle.mp_postdated.proofs.Membership.{remove_key-is_without_wake, wake_cmp-total}
 use Rattle.mp_postdated.proofs.Ordered.{Finds, has-ordered, has_found, has_in, is_ordered, same_pair}
 use Rattle.mp_postdated.specs.Wakes.{AreQueued, BeginsLive, ComesNoLater, Has, IsAscending, IsQueueOf, IsWake, ordered, queue_cmp, reversed, wake_cmp, without_wake}
+
+-- two neither of which comes later are the same
+pub neither_later : (v w : ℕ × ℕ) → ComesNoLater v w → ComesNoLater w v → v ≡ w
+neither_later v w l m =
+    let times : v.0 ≡ w.0 = grind arith in
+    let keys : v.1 ≡ w.1 = grind arith in
+    λ i. (times i, keys i)
 
 nothing_in_nil : {X : Type 0} (x : X) → Contains [] x → ⊥
 nothing_in_nil x h = let l : h.0 < 0 = h.1 in omega arith
@@ -88,6 +95,40 @@ module _ (live : List (ℕ × ℕ)) where
 
   no_later : (v w : ℕ × ℕ) → is_lt (wake_cmp w v) ≡ false → ComesNoLater v w
   no_later v w e = grind arith
+
+  no_later_yet : (u v w : ℕ × ℕ) → ComesNoLater u v → ComesNoLater v w → ComesNoLater u w
+  no_later_yet u v w a b = grind arith
+
+  -- no wake in a heap comes before its first
+  from_first : (queue : List (Reverse (ℕ × ℕ))) → IsHeap queue_cmp queue → (n k : ℕ) (d : Reverse (ℕ × ℕ)) → k ≤ n → k < length queue → ComesNoLater (slice_index_or queue 0 d).0 (slice_index_or queue k d).0
+  unfolding IsHeap
+  from_first queue heap n zero d l inside = inr (refl, omega arith)
+  from_first queue heap zero (suc k) d l inside = absurd (omega arith)
+  from_first queue heap (suc n) (suc k) d l inside =
+      no_later_yet (slice_index_or queue 0 d).0 (slice_index_or queue (k / 2) d).0 (slice_index_or queue (suc k) d).0
+      (from_first queue heap n (k / 2) d (omega arith) (omega arith))
+      (no_later (slice_index_or queue (k / 2) d).0 (slice_index_or queue (suc k) d).0 (heap (k / 2) (suc k) d (omega arith) (omega arith) (omega arith) inside))
+
+  first_no_later : (r s : Reverse (ℕ × ℕ)) (rs : List (Reverse (ℕ × ℕ))) → IsHeap queue_cmp (r ∷ rs) → Contains (r ∷ rs) s → ComesNoLater r.0 s.0
+  first_no_later r s rs heap i = subst (λ (x : Reverse (ℕ × ℕ)). ComesNoLater r.0 x.0) i.2 (from_first (r ∷ rs) heap i.0 i.0 s (omega arith) i.1)
+
+  first_again : (p r : Reverse (ℕ × ℕ)) (old rs : List (Reverse (ℕ × ℕ))) → IsPermutation (p ∷ old) (r ∷ rs) → IsHeap queue_cmp old → IsHeap queue_cmp (r ∷ rs) → BeginsLive live old → Contains old r → Contains live r.0
+  first_again p r [] rs moved was is begins i = absurd (nothing_in_nil r i)
+  first_again p r (s ∷ ss) rs moved was is begins i =
+      let j : Contains (r ∷ rs) s = Contains-permutation (p ∷ s ∷ ss) (r ∷ rs) s moved (1, omega arith, refl) in
+      subst (Contains live) (neither_later s.0 r.0 (first_no_later s r ss was i) (first_no_later r s rs is j)) begins
+
+  -- with one more the first is that one, or the one before
+  pub begins_pushed : (more : List (ℕ × ℕ)) (t k : ℕ) (old new : List (Reverse (ℕ × ℕ))) → Finds true t k live more → IsPermutation (reversed (t, k) ∷ old) new
+      → IsHeap queue_cmp old → IsHeap queue_cmp new → BeginsLive live old → BeginsLive more new
+  begins_pushed more t k old [] f moved was is begins = tt
+  begins_pushed more t k old (r ∷ rs) f moved was is begins =
+      let i : Contains (reversed (t, k) ∷ old) r = Contains-permutation (r ∷ rs) (reversed (t, k) ∷ old) r (IsPermutation-sym (reversed (t, k) ∷ old) (r ∷ rs) moved) (0, omega arith, refl) in
+      (has_in t k live more f r.0.0 r.0.1).1
+      (⊎_elim
+      (λ (e : reversed (t, k) ≡ r). inr (ap (λ (s : Reverse (ℕ × ℕ)). s.0.0) (sym e), ap (λ (s : Reverse (ℕ × ℕ)). s.0.1) (sym e)))
+      (λ (there : Contains old r). inl (first_again (reversed (t, k)) r old rs moved was is begins there))
+      (cases_in (reversed (t, k)) r old i))
 
   bounded : (r : Reverse (ℕ × ℕ)) (queue : List (Reverse (ℕ × ℕ))) → AllByRecursion (λ y. lt_by_cmp queue_cmp r y ≡ false) queue → (w : ℕ × ℕ) → Contains queue (reversed w) → ComesNoLater r.0 w
   bounded r [] a w h = absurd (nothing_in_nil (reversed w) h)

@@ -87,7 +87,6 @@ impl Wakes {
         let Ok(()) = self.queue.push(Reverse((time, key))) else {
             unreachable!()
         };
-        drop_taken(&mut self.queue, &self.live);
     }
 
     /// Adds the wakes of a key at times. There is room for them. Takes no memory.
