@@ -83,7 +83,7 @@ ordered_found ws t k = (
 abbrev pub Finds : Bool → ℕ → ℕ → List (ℕ × ℕ) → List (ℕ × ℕ) → Type 0
 Finds b t k old new = (q : ℕ × ℕ) → list_any (same_pair q) new ≡ cond (same_pair (t, k) q) b (list_any (same_pair q) old)
 
-same_parts : (t k : ℕ) (q : ℕ × ℕ) → IsTrue (same_pair (t, k) q) ↔ IsWake t k q
+pub same_parts : (t k : ℕ) (q : ℕ × ℕ) → IsTrue (same_pair (t, k) q) ↔ IsWake t k q
 same_parts t k q = grind arith
 
 module _ (t k : ℕ) (old new : List (ℕ × ℕ)) where

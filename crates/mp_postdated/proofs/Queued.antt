@@ -13,7 +13,7 @@ use Rattle.std.specs.Set.{remove_key}
 use Rattle.std.specs.declared.cmp.Ordering.TheVariants.{Less}
 use Rattle.std.specs.declared.cmp.Reverse.{Reverse}
 use Rattle.mp_postdated.proofs.Membership.{remove_key-is_without_wake, wake_cmp-total}
-use Rattle.mp_postdated.proofs.Ordered.{Finds, has-ordered, has_found, has_in, is_ordered, same_pair}
+use Rattle.mp_postdated.proofs.Ordered.{Finds, has-ordered, has_found, has_in, has_out, is_ordered, same_pair, same_parts}
 use Rattle.mp_postdated.specs.Wakes.{AreQueued, BeginsLive, ComesNoLater, Has, IsAscending, IsQueueOf, IsWake, ordered, queue_cmp, reversed, wake_cmp, without_wake}
 
 -- two neither of which comes later are the same
@@ -63,6 +63,17 @@ module _ (live : List (ℕ × ℕ)) where
       absurd (not_live (subst (λ (s : Reverse (ℕ × ℕ)). Contains live s.0) (sym e) there)))
       (λ (i : Contains new (reversed w)). i)
       (cases_in r (reversed w) new (Contains-permutation old (r ∷ new) (reversed w) moved queued))
+
+  -- without one the first is live still, or that one
+  pub begins_beside : (less : List (ℕ × ℕ)) (t k : ℕ) (queue : List (Reverse (ℕ × ℕ))) → Finds false t k live less → BeginsLive live queue → BeginsLive ((t, k) ∷ less) queue
+  begins_beside less t k [] f begins = tt
+  begins_beside less t k (r ∷ rs) f begins = by_test (same_pair (t, k) r.0) refl
+    where
+      by_test : (b : Bool) → same_pair (t, k) r.0 ≡ b → Contains ((t, k) ∷ less) r.0
+      by_test true e = let same = (same_parts t k r.0).0 e in (0, omega arith, λ i. (sym same.0 i, sym same.1 i))
+      by_test false e =
+          let there : Contains less r.0 = (has_out t k live less f r.0.0 r.0.1).1 (begins, λ same. false≢true (sym e ∙ (same_parts t k r.0).1 same)) in
+          let l : there.0 < length less = there.1 in (suc there.0, omega arith, there.2)
 
   pub still_heap : (old new : List (Reverse (ℕ × ℕ))) (o : Option (Reverse (ℕ × ℕ))) → IsSome o → IfSome o (λ r. PopsGreatest queue_cmp old r new) → IsHeap queue_cmp old → IsHeap queue_cmp new
   still_heap old new None some kept heap = absurd (false≢true some)

@@ -3,7 +3,7 @@ ghost use Rattle.std.specs.Prelude.{◌≡◌, ◌↔◌, ◌⊎◌, ◌<◌, �
 ghost use Rattle.std.specs.Bool.{OnFalse};
 ghost use Rattle.mp_postdated.specs.Wakes.{ComesNoLater, Has, IsAmongWakes, IsAscending, IsWake, with_wake, without_wake};
 
-use crate::queue::{Queue, drop_taken};
+use crate::queue::{Queue, drop_wake};
 use indexmap::IndexSet;
 use mp_model::Time;
 use std::alloc::{AllocError, Global};
@@ -145,7 +145,7 @@ impl Wakes {
         ensures ascending { IsAscending self.new.wakes }
     {
         let was_there = self.live.swap_remove(&(time, key));
-        drop_taken(&mut self.queue, &self.live);
+        drop_wake(&mut self.queue, &self.live, time, key);
         was_there
     }
 

@@ -1,13 +1,19 @@
 -- The removal finds a wake just where it is there, and leaves the others.
 use Rattle.std.proofs.Common.{◌≡◌}
+use Rattle.std.specs.BinaryHeap.{heap_items}
 use Rattle.mp_postdated.proofs.Membership.{has-without_wake}
 use Rattle.mp_postdated.proofs.Ordered.{has_out, ordered-ascends, ordered_found, ordered_out}
+use Rattle.mp_postdated.proofs.Queued.{begins_beside}
 use Rattle.mp_postdated.specs.Wakes.{ordered, without_wake}
 use Rattle.mp_postdated.proofs.wakes.Wakes.take_due.Goals as goal
 
-pub drop_taken-requires-clause-all : goal.drop_taken-requires-clause-all
-drop_taken-requires-clause-all c =
+pub drop_wake-requires-clause-all : goal.drop_wake-requires-clause-all
+drop_wake-requires-clause-all c =
     λ w there. c.self.invariant.all w ((has_out c.args.time c.args.key c.self.inside.live.keys c.swap_remove-was_there.new.self.keys c.swap_remove-was_there.ensures.updates.0 w.0 w.1).0 there).0
+
+pub drop_wake-requires-clause-first : goal.drop_wake-requires-clause-first
+drop_wake-requires-clause-first c =
+    begins_beside c.self.inside.live.keys c.swap_remove-was_there.new.self.keys c.args.time c.args.key (heap_items c.self.inside.queue) c.swap_remove-was_there.ensures.updates.0 c.self.invariant.first
 
 pub returns-clause-there : goal.returns-clause-there
 returns-clause-there c = rw (c.swap_remove-was_there.ensures.found, ← c.self.view_is) (ordered_found c.self.inside.live.keys c.args.time c.args.key)
