@@ -1,7 +1,7 @@
 -- The first wakes of bins tell the first wake of all states, and are kept as a bin's states change.
-use Rattle.std.proofs.Common.{◌≡◌, ◌≢◌, ◌⊎◌, ◌==◌, ◌++◌, ◌+◌, ◌<◌, ◌≤◌, ◌∙◌, ℕ, zero, suc, add-one, true, false, cond, Option, None, List, [], ◌∷◌, All, ap, arith, drop, get_or, get_or-set_other, get_or-set_same, length, refl, slice_get, slice_set, subst, sym, take, ⊎_elim}
+use Rattle.std.proofs.Common.{◌≡◌, ◌≢◌, ◌⊎◌, ◌==◌, ◌++◌, ◌+◌, ◌<◌, ◌≤◌, ◌∙◌, ℕ, zero, suc, add-one, Bool, true, false, cond, Option, None, List, [], ◌∷◌, All, ap, arith, drop, get_or, get_or-set_other, get_or-set_same, length, refl, slice_get, slice_set, subst, sym, take, ⊎_elim}
 use Rattle.std.proofs.Math.ListN.{length-set}
-use Rattle.std.proofs.lemmas.Bool.{cases_Bool, cases_order, eq-eqb, ne_eqb}
+use Rattle.std.proofs.lemmas.Bool.{cases_Bool, cases_eq, cases_order, eq-eqb, ne_eqb}
 use Rattle.std.proofs.lemmas.List.{append-nil, take_all, take_more}
 use Rattle.std.proofs.lemmas.List.Elements.{filter-append}
 use Rattle.mp_host_laws.specs.declared.held.Held.{Held}
@@ -105,7 +105,7 @@ module _ {Cell : Type 0} where
       less_then a n l ne = grind arith
 
   -- the states of the other bins, where one is changed, out, or behind the others
-  pub others_changed : (held : List (Held Cell)) (at : ℕ) (s d : Held Cell) → s.bin ≡ (get_or held at d).bin → (b : ℕ) → b ≢ s.bin → of_bin b (slice_set held at s) ≡ of_bin b held
+  others_changed : (held : List (Held Cell)) (at : ℕ) (s d : Held Cell) → s.bin ≡ (get_or held at d).bin → (b : ℕ) → b ≢ s.bin → of_bin b (slice_set held at s) ≡ of_bin b held
   others_changed [] at s d same b ne = refl
   others_changed (x ∷ xs) zero s d same b ne =
       let one : (s.bin == b) ≡ false = apart s b ne in
@@ -128,6 +128,27 @@ module _ {Cell : Type 0} where
       (λ (e : (s.bin == b) ≡ true). rw e refl)
       (λ (e : (s.bin == b) ≡ false). rw e refl)
       (cases_Bool (s.bin == b))
+
+  -- where the changed state has the same wakes, the first is the same
+  same_first : (held : List (Held Cell)) (at : ℕ) (s d : Held Cell) → s.bin ≡ (get_or held at d).bin → wakes_in s ≡ wakes_in (get_or held at d) → (b : ℕ) → first_wake_of (of_bin b (slice_set held at s)) ≡ first_wake_of (of_bin b held)
+  same_first [] at s d same wakes b = refl
+  same_first (x ∷ xs) zero s d same wakes b =
+      one_in_front b s xs
+      ∙ ((λ i. cond (same i == b) (earlier_of (slice_get (wakes i) 0) (first_wake_of (of_bin b xs))) (first_wake_of (of_bin b xs)))
+      ∙ sym (one_in_front b x xs))
+  same_first (x ∷ xs) (suc at) s d same wakes b =
+      one_in_front b x (slice_set xs at s)
+      ∙ (ap (with_wake b x) (same_first xs at s d same wakes b)
+      ∙ sym (one_in_front b x xs))
+
+  -- so it is for each bin but that of a state whose wakes changed
+  pub firsts_changed : (held : List (Held Cell)) (at : ℕ) (s d : Held Cell) (changes : Bool) → s.bin ≡ (get_or held at d).bin → (changes ≡ false → wakes_in s ≡ wakes_in (get_or held at d))
+      → (b : ℕ) → (b ≡ s.bin → changes ≡ false) → first_wake_of (of_bin b (slice_set held at s)) ≡ first_wake_of (of_bin b held)
+  firsts_changed held at s d changes same wakes b idle =
+      ⊎_elim
+      (λ (e : b ≡ s.bin). same_first held at s d same (wakes (idle e)) b)
+      (λ (ne : b ≢ s.bin). ap first_wake_of (others_changed held at s d same b ne))
+      (cases_eq b s.bin)
 
   either_first : (b : ℕ) (r s : Held Cell) (w : Option (ℕ × ℕ)) → with_wake b r (with_wake b s w) ≡ with_wake b s (with_wake b r w)
   either_first b r s w =

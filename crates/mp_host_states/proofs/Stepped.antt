@@ -1,12 +1,15 @@
 -- What the state of a bin is once a group of a key of it is stepped.
-use Rattle.std.proofs.Common.{◌≡◌, ◌≢◌, ◌↔◌, ◌⊎◌, ℕ, ◌==◌, nat_eq, true, cond, Some, List, Contains, inl, inr, subst, ⊎_elim}
+use Rattle.std.proofs.Common.{◌≡◌, ◌≢◌, ◌↔◌, ◌⊎◌, ◌<◌, ◌∙◌, ℕ, ◌==◌, nat_eq, false, true, cond, not, Some, List, Contains, arith, inl, inr, length, subst, sym, ⊎_elim}
+use Rattle.std.proofs.lemmas.Bool.{eqb-true, false≢true, not-false, or_parts}
 use Rattle.indexmap.specs.IndexMap.{IndexMap, get}
 use Rattle.mp_model.specs.Entry.{Entry}
 use Rattle.mp_model.specs.Facts.{QueryFacts}
 use Rattle.mp_msg.specs.States.{by_key, cell_in}
 use Rattle.mp_msg.proofs.Sorted.{there-by_key}
-use Rattle.mp_postdated.specs.Wakes.{Has, IsAmongWakes, IsWake}
+use Rattle.mp_postdated.proofs.Several.{same_wakes}
+use Rattle.mp_postdated.specs.Wakes.{Has, IsAmongWakes, IsAscending, IsWake}
 use Rattle.mp_host_states.specs.Cells.{cell_of}
+use Rattle.mp_host_states.specs.States.{changes_wakes}
 use Rattle.mp_host_states.proofs.Finding.{cell_is}
 
 -- the cells
@@ -51,3 +54,18 @@ module _ (ws : List (ℕ × ℕ)) (t k : ℕ) (posts : List ℕ) where
         (λ (post : (l ≡ k) × Contains posts u). inr (post.1, post.0))
         either)),
   )
+
+-- a group that changes none leaves the same
+pub wakes_stay : (ws vs : List (ℕ × ℕ)) (e : Entry) (posts : List ℕ) → IsAscending ws → IsAscending vs → (Has ws e.time e.key → e.woken ≡ true)
+    → ((u l : ℕ) → Has vs u l ↔ ((Has ws u l × (IsWake e.time e.key (u, l) → ⊥)) ⊎ ((l ≡ e.key) × Contains posts u)))
+    → changes_wakes e posts ≡ false → vs ≡ ws
+wakes_stay ws vs e posts a b woken exact idle =
+    let both = or_parts e.woken (not (length posts == 0)) idle in
+    let none : length posts ≡ 0 = eqb-true (length posts) 0 (not-false (length posts == 0) both.1) in
+    same_wakes vs ws b a
+    (λ u l i.
+    ⊎_elim
+    (λ (old : Has ws u l × (IsWake e.time e.key (u, l) → ⊥)). old.0)
+    (λ (post : (l ≡ e.key) × Contains posts u). let few : post.1.0 < length posts = post.1.1 in absurd (omega arith))
+    ((exact u l).0 i))
+    (λ u l i. (exact u l).1 (inl ((none_taken ws e.time e.key (λ there. false≢true (sym both.0 ∙ woken there)) u l).0 i)))

@@ -1,5 +1,5 @@
 //! The first wakes of bins, each kept as the states of its bin change.
-ghost use Rattle.std.specs.Prelude.{◌≡◌, ◌≢◌, ◌<◌, ℕ, IfOk, List, length};
+ghost use Rattle.std.specs.Prelude.{◌≡◌, ◌≢◌, ◌<◌, ℕ, false, IfOk, List, length};
 ghost use Rattle.mp_host_laws.specs.declared.held.Held.{Held as HeldOf};
 ghost use Rattle.mp_host_laws.specs.Hosted.{first_wake_of};
 ghost use Rattle.mp_host_states.specs.FirstWakes.{AreFirsts, of_bin};
@@ -38,6 +38,24 @@ pub fn renew<C: Drop>(firsts: &mut Firsts, held: &[Held<C>], spans: &Spans, bin:
         → ((b : ℕ) → b ≢ bin → first_wake_of (of_bin b held.now) ≡ first_wake_of (of_bin b was)) → AreFirsts bins firsts.new held.now }
 {
     firsts.set(bin as usize, first_wake(held, spans.of(bin), bin));
+}
+
+/// The same where the wakes of the bin's states may have changed; else its first wake is as it was too.
+pub fn renew_where<C: Drop>(
+    changes: bool,
+    firsts: &mut Firsts,
+    held: &[Held<C>],
+    spans: &Spans,
+    bin: u32,
+)
+    requires spans { AreSpans spans.now (bins_of held.now) }
+    requires bin { bin < length firsts.old }
+    ensures { (bins : ℕ) (was : List (HeldOf C)) → AreFirsts bins firsts.old was
+        → ((b : ℕ) → (b ≡ bin → changes ≡ false) → first_wake_of (of_bin b held.now) ≡ first_wake_of (of_bin b was)) → AreFirsts bins firsts.new held.now }
+{
+    if changes {
+        renew(firsts, held, spans, bin);
+    }
 }
 
 // The first wake, by time and then by key, of the states of a bin whose span is this.

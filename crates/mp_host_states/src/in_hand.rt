@@ -7,10 +7,10 @@ ghost use Rattle.mp_host_laws.specs.Hosted.{first_wake_of, is_held_before};
 ghost use Rattle.mp_host_states.specs.Spans.{without};
 ghost use Rattle.mp_host_states.specs.States.{StateIsStepped, cell_for, has_own_wake_beside, state_for};
 
-use crate::firsts::{firsts_of, renew};
+use crate::firsts::{firsts_of, renew, renew_where};
 use crate::spans::{Spans, spans_of};
 use crate::states::{has_wake, place_before};
-use crate::stepping::{most_of_state, step_state};
+use crate::stepping::{changes_wakes, most_of_state, step_state};
 use mp_bins::bin_of;
 use mp_host_laws::Held;
 use mp_model::{Group, Query, Time, Value};
@@ -190,7 +190,14 @@ pub fn step_group<Q: Query>(
     let one = &mut states.held[at];
     let bin = one.bin;
     let outputs = step_state(alloc, query, stage, &mut one.state, group, posts)?;
-    renew(&mut states.firsts, &states.held, &states.spans, bin);
+    let changes = changes_wakes(group, posts);
+    renew_where(
+        changes,
+        &mut states.firsts,
+        &states.held,
+        &states.spans,
+        bin,
+    );
     Ok(outputs)
 }
 

@@ -1,7 +1,8 @@
 //! What a group makes of the state of its key's bin.
-ghost use Rattle.std.specs.Prelude.{◌≡◌, ◌≢◌, ◌↔◌, ◌⊎◌, ◌==◌, ◌≤◌, ℕ, true, cond, Contains, IfOk, OnErr, OnOk};
+ghost use Rattle.std.specs.Prelude.{◌≡◌, ◌≢◌, ◌↔◌, ◌⊎◌, ◌==◌, ◌≤◌, ℕ, false, true, cond, Contains, IfOk, OnErr, OnOk, length};
 ghost use Rattle.mp_msg.specs.States.{IsInOrder, cell_in};
 ghost use Rattle.mp_postdated.specs.Wakes.{Has, IsWake};
+ghost use Rattle.mp_host_states.specs.States.{changes_wakes};
 
 use crate::cells::{most_in, step_in};
 use mp_model::{Group, Query, Time, Value};
@@ -32,14 +33,33 @@ pub fn step_state<Q: Query>(
         → Contains state.old.cells (l, c) ⊎ ((l ≡ group.now.key) × (c ≢ q.fresh stage))) }
     ensures outputs { let q = Q.facts (Q.values query.now) in
         IfOk result (λ v. v.items ≡ q.gives stage (cell_in (q.fresh stage) state.old.cells group.now.key) group.now) }
+    ensures same_wakes { OnOk result (changes_wakes group.now posts.now ≡ false → state.new.wakes ≡ state.old.wakes) }
     ensures unchanged { OnErr result (state.new ≡ state.old) }
     ensures in_order { IsInOrder state.new }
 {
-    state.wakes.make_room(posts.len())?;
+    make_room_for(&mut state.wakes, posts)?;
     let outputs = step_in(alloc, query, stage, &mut state.cells, group)?;
     take_wake(&mut state.wakes, group);
     state.wakes.add_all(group.key(), posts);
     Ok(outputs)
+}
+
+/// Whether a group that posts these times may change the wakes of its key's bin.
+pub fn changes_wakes(group: &Group, posts: &[Time]) -> bool
+    ensures { result ≡ changes_wakes group.now posts.now }
+{
+    group.is_woken() || !posts.is_empty()
+}
+
+// Makes room for wakes at these times, if there are any. `AllocError`: no memory.
+fn make_room_for(wakes: &mut Wakes, posts: &[Time]) -> Result<(), AllocError>
+    ensures room { OnOk result (length posts.now ≤ wakes.new.room) }
+    ensures same { wakes.new.wakes ≡ wakes.old.wakes }
+{
+    if posts.is_empty() {
+        return Ok(());
+    }
+    wakes.make_room(posts.len())
 }
 
 // Takes the wake of a group out, if it has one.

@@ -1,11 +1,11 @@
-use Rattle.std.proofs.Common.{◌≡◌, ◌∙◌, ap, get_or, subst, sym, true}
+use Rattle.std.proofs.Common.{◌≡◌, ◌∙◌, ap, get_or, subst, sym, false, true}
 use Rattle.std.proofs.Math.Seq.{map-set_same}
 use Rattle.std.proofs.lemmas.List.Elements.{All-get_or}
 use Rattle.mp_postdated.specs.Wakes.{Has}
-use Rattle.mp_host_laws.specs.Hosted.{first_wake_of}
+use Rattle.mp_host_laws.specs.Hosted.{wakes_in}
 use Rattle.mp_host_states.specs.Spans.{AreSpans}
 use Rattle.mp_host_states.specs.States.{States}
-use Rattle.mp_host_states.proofs.FirstWakes.{others_changed}
+use Rattle.mp_host_states.proofs.FirstWakes.{firsts_changed}
 use Rattle.mp_host_states.proofs.Found.{as_it_was, cell_found, first_stepped, inside_at, inside_changed}
 use Rattle.mp_host_states.proofs.Places.{place_is}
 use Rattle.mp_host_states.proofs.in_hand.step_group.Goals as goal
@@ -28,15 +28,15 @@ step_state-requires-clause-woken g c = λ κs b.
     let at = place_is _ held c.place_of-at.result c.place_of-at.ensures one in
     subst (λ (s : _). Has s.state.wakes t k → c.args.group.now.woken ≡ true) (sym is) (All-get_or (λ s. Has s.state.wakes t k → c.args.group.now.woken ≡ true) held c.place_of-at.result one at.inside c.requires.woken)
 
-pub renew-requires-clause-spans : goal.renew-requires-clause-spans
-renew-requires-clause-spans g c =
+pub renew_where-requires-clause-spans : goal.renew_where-requires-clause-spans
+renew_where-requires-clause-spans g c =
     let i = c.states.inside in
     let one = c.index_mut-one.result.now in
     let bins = map-set_same (λ s. s.bin) i.held.items c.place_of-at.result (record one { state = c.step_state.new.state }) one (ap (λ s. s.bin) c.index_mut-one.ensures.value) in
     rw c.deref.ensures.value (subst (AreSpans i.spans) (sym bins) c.states.invariant.places)
 
-pub renew-requires-clause-bin : goal.renew-requires-clause-bin
-renew-requires-clause-bin g c =
+pub renew_where-requires-clause-bin : goal.renew_where-requires-clause-bin
+renew_where-requires-clause-bin g c =
     let i = c.states.inside in
     let inv = c.states.invariant in
     let one = c.index_mut-one.result.now in
@@ -52,8 +52,9 @@ invariant_of-states-2 g c =
     let same = ap (λ s. s.bin) c.index_mut-one.ensures.value in
     let at = place_is _ held c.place_of-at.result (rw (← c.states.view_is) at c.place_of-at.ensures) one in
     let bins = map-set_same (λ s. s.bin) held c.place_of-at.result (record one { state = c.step_state.new.state }) one same in
-    let others = others_changed held c.place_of-at.result (record one { state = c.step_state.new.state }) one same in
-    let firsts = c.renew.ensures i.bins held inv.wakes (λ b ne. rw c.deref.ensures.value (ap first_wake_of (others b ne))) in
+    let wakes = λ (idle : c.changes_wakes-changes.result ≡ false). c.in_ok-outputs.ensures.same_wakes (sym c.changes_wakes-changes.ensures ∙ idle) ∙ ap wakes_in c.index_mut-one.ensures.value in
+    let others = firsts_changed held c.place_of-at.result (record one { state = c.step_state.new.state }) one c.changes_wakes-changes.result same wakes in
+    let firsts = c.renew_where.ensures i.bins held inv.wakes (λ b idle. rw c.deref.ensures.value (others b idle)) in
     let inside = inside_at i.bins held inv.inside c.place_of-at.result one at.inside c.index_mut-one.ensures.value in
     record {
       count = inv.count;
