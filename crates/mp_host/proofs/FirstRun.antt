@@ -1,8 +1,9 @@
 -- The records of the first group are the first run of records of one group, or none of it.
-use Rattle.std.proofs.Common.{◌≡◌, ◌⊎◌, ℕ, suc, ◌+◌, ◌==◌, Bool, true, false, List, [], ◌∷◌, length, take, refl, ap, sym, ◌∙◌, subst, inl, inr, ⊎_elim, arith}
+use Rattle.std.proofs.Common.{◌≡◌, ◌⊎◌, ℕ, suc, ◌+◌, ◌==◌, Bool, true, false, List, [], ◌∷◌, Some, length, slice_get, take, refl, ap, sym, ◌∙◌, subst, inl, inr, ⊎_elim, arith}
 use Rattle.std.specs.List.{prefix_len}
 use Rattle.std.proofs.lemmas.Bool.{and_from, and_parts, cases_Bool, eq-eqb, eqb-true}
 use Rattle.std.proofs.lemmas.List.{take-take}
+use Rattle.std.proofs.lemmas.List.Folds.{length-prefix_len}
 use Rattle.mp_model.specs.declared.record.Rec.{Rec}
 use Rattle.mp_ordered_runs.specs.Runs.{first_run}
 use Rattle.mp_host_laws.specs.Hosted.{is_of}
@@ -63,3 +64,18 @@ module _ (t k : ℕ) where
       (λ (e : is_of t k r ≡ true). inr (ap length (own_run r rs (is_of t k) (its_group r e))))
       (λ (e : is_of t k r ≡ false). inl (rw e refl))
       (cases_Bool (is_of t k r))
+
+  -- a run that begins with a record of the group is of the group
+  pub run_passes : (run : List Rec) (first : Rec) → slice_get run 0 ≡ Some first → is_of t k first ≡ true → first_run same_group run ≡ run → prefix_len (is_of t k) run ≡ length run
+  run_passes [] first there e whole = cc
+  run_passes (r ∷ rs) first there e whole =
+      let same : r ≡ first = cc in
+      let q = is_of t k in
+      let passes : q r ≡ true = rw same e in
+      let taken : take (prefix_len q (r ∷ rs)) (r ∷ rs) ≡ r ∷ rs = subst (λ (run : List Rec). take (prefix_len q run) run ≡ run) whole (own_run r rs q (its_group r passes)) in
+      sym (length-prefix_len q (r ∷ rs)) ∙ ap length taken
+
+-- the first run of the first run is itself
+pub run_of_run : (rs : List Rec) → first_run same_group (first_run same_group rs) ≡ first_run same_group rs
+run_of_run [] = refl
+run_of_run (r ∷ rs) = rw (prefix_twice (same_group r) rs) (ap (λ (ss : List Rec). r ∷ ss) (take-take (prefix_len (same_group r) rs) (prefix_len (same_group r) rs) rs (omega arith)))

@@ -55,11 +55,13 @@ fn is_in(rec: &Rec, time: Time, key: u64) -> bool
     rec.time == time && rec.key == key
 }
 
-// How many records stand in front of the first one of another group.
-fn count_first(recs: &[Rec], time: Time, key: u64) -> usize
-    ensures { result ≡ prefix_len (is_of time key) recs.now }
+// How many records of a run of one group are of the group of a key at a time: all or none, so the first one tells.
+fn count_first(run: &[Rec], time: Time, key: u64) -> usize
+    requires { first_run (λ r s. is_of r.time r.key s) run.now ≡ run.now }
+    ensures { result ≡ prefix_len (is_of time key) run.now }
 {
-    recs.iter()
-        .take_while(|rec| rec.time == time && rec.key == key)
-        .count()
+    let Some(rec) = run.first() else {
+        return 0;
+    };
+    if is_in(rec, time, key) { run.len() } else { 0 }
 }

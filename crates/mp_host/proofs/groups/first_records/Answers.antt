@@ -1,9 +1,12 @@
 use Rattle.std.proofs.Common.{◌∙◌, ap, drop, length}
 use Rattle.std.proofs.lemmas.List.Folds.{length-prefix_len}
 use Rattle.mp_host_laws.specs.Hosted.{is_of}
-use Rattle.mp_host.proofs.FirstRun.{run_taken, run_whole}
+use Rattle.mp_host.proofs.FirstRun.{run_of_run, run_taken, run_whole}
 use Rattle.mp_host.proofs.Standing.{standing}
 use Rattle.mp_host.proofs.groups.first_records.Goals as goal
+
+pub count_first-requires : goal.count_first-requires
+count_first-requires c = rw c.first_run-run.ensures.run (run_of_run c.args.records.now.items)
 
 pub returns-clause-records : goal.returns-clause-records
 returns-clause-records c =
