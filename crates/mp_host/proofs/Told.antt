@@ -1,5 +1,5 @@
 -- What the laws of hosts tell of a host that keeps to what it has to.
-use Rattle.std.proofs.Common.{◌≡◌, ◌↔◌, ◌⊎◌, ℕ, ◌<◌, ◌≤◌, List, Option, None, Some, IsSome, All, Contains, IfSome, IfNone, sym, ap, ◌∙◌, subst, ⊎_elim, inl, inr, refl}
+use Rattle.std.proofs.Common.{◌≡◌, ◌↔◌, ◌⊎◌, ℕ, ◌<◌, ◌≤◌, List, Option, None, Some, IsSome, All, Contains, IfOk, IfSome, IfNone, OnOk, Result, Ok, Err, sym, ap, ◌∙◌, subst, ⊎_elim, inl, inr, refl}
 use Rattle.std.proofs.lemmas.Bool.{cases_order}
 use Rattle.std.proofs.lemmas.List.Elements.{All-contains, All-contains_itself, All-filter, All-weaker}
 use Rattle.mp_names.specs.declared.names.Name.TheVariants.{Group}
@@ -206,3 +206,8 @@ one_ready job seen notes h t k u l a b = apart (sym a.first ∙ b.first)
   where
     apart : ◌≡◌ {A = Option (ℕ × ℕ)} (Some (t, k)) (Some (u, l)) → (t ≡ u) × (k ≡ l)
     apart e = let same : ◌≡◌ {A = ℕ × ℕ} (t, k) (u, l) = cc in (ap (λ (p : ℕ × ℕ). p.0) same, ap (λ (p : ℕ × ℕ). p.1) same)
+
+-- what follows of a value that there is
+pub on_done : {A E : Type 0} (r : Result A E) {P : Type 0} {Q R : A → Type 0} → OnOk r P → IfOk r Q → ((a : A) → P → Q a → R a) → IfOk r R
+on_done (Ok a) p q f = f a p q
+on_done (Err e) p q f = tt

@@ -2,7 +2,9 @@
 ghost use Rattle.std.specs.Prelude.{◌≡◌, ℕ, Some, true, filter, not, IfNone, IfOk, IsSome, OnErr, OnOk};
 ghost use Rattle.mp_names.specs.Logs.{Log};
 ghost use Rattle.mp_names.specs.Outlines.{IsBeforeStop};
+ghost use Rattle.mp_stamps.specs.declared.seen.Seen.{Seen as SeenFacts};
 ghost use Rattle.mp_bins.specs.Bins.{bin_of_key};
+ghost use Rattle.mp_bins.specs.Notes.{Notes};
 ghost use Rattle.mp_model.specs.Ascending.{ascending};
 ghost use Rattle.mp_model.specs.Folds.{cell_before};
 ghost use Rattle.mp_model.specs.Stages.{stage_records};
@@ -16,7 +18,7 @@ ghost use Rattle.mp_host.specs.Ready.{IsReadyHere};
 ghost use Rattle.mp_host.specs.Telling.{AppliesGroup, IfDid};
 
 use crate::groups::first_records;
-use crate::{Applied, Host};
+use crate::{Applied, Host, ReadyGroup};
 use mp_bins::Owners;
 use mp_host_states::{posts_of, step_group};
 use mp_job::put_in_order;
@@ -63,6 +65,33 @@ impl<'a, Q: Query, J: Naming> Host<'a, Q, J> {
             return Ok(None);
         };
         Ok(Some(self.apply_first(alloc, time, key)?))
+    }
+
+    /// Applies the group that may be applied, as `ready_group` told it, where nothing changed since: it isn't asked for again.
+    /// `AllocError`: no memory, and nothing changes.
+    pub fn apply_ready(&mut self, alloc: Global, group: ReadyGroup) -> Result<Applied, AllocError>
+        requires ready { let q = table_of Q.facts J.job in
+            (seen : SeenFacts) × (notes : Notes) × IsReadyHere J.job seen notes self.old group.time group.key
+            × ((log : Log) × HostMatchesLogAndSeen q J.job log seen self.old × OwnersAreCurrent q J.job notes seen self.old.stage) }
+
+        // Which group, and what became of the host.
+        ensures group { IfOk result (λ a. (a.time ≡ group.time) × (a.key ≡ group.key)) }
+        ensures applied { OnOk result (IsApplied (table_of Q.facts J.job) J.job group.time group.key self.old self.new) }
+
+        // What is told of it.
+        ensures outputs { let q = table_of Q.facts J.job in let j = self.old.stage in
+            IfOk result (λ a. a.outputs.items
+            ≡ q.gives j (cell_before q j (stage_records q J.job.events j) group.key group.time) (group_at q J.job j group.time group.key)) }
+        ensures woke { IfOk result (λ a. a.woke.items ≡ woken_by (table_of Q.facts J.job) self.old group.time group.key) }
+
+        // Whatever the log is, and what was seen and noted.
+        ensures held { let q = table_of Q.facts J.job in
+            IfOk result (λ a. (log : Log) (seen : SeenFacts) (notes : Notes) → IsReadyHere J.job seen notes self.old group.time group.key
+            → HostMatchesLogAndSeen q J.job log seen self.old → AppliesGroup q J.job log seen self.old self.new group.time group.key a.woke.items) }
+        ensures unchanged { OnErr result (self.new ≡ self.old) }
+    {
+        let _ = &self.job;
+        self.apply_first(alloc, group.time, group.key)
     }
 
     // Applies the first group, which is before the stop time and whose bin is in hand, where the sums and counts of its key's

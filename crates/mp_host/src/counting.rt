@@ -16,8 +16,8 @@ ghost use Rattle.mp_host.specs.Hosts.{IsHosted};
 ghost use Rattle.mp_host.specs.Ready.{IsReadyHere};
 ghost use Rattle.mp_host.specs.Waiting.{begins_unwoken, is_new, new_keys, unwoken_keys, woken_keys};
 
-use crate::Host;
 use crate::groups::first_records;
+use crate::{Host, ReadyGroup};
 use mp_bins::Owners;
 use mp_host_laws::Held;
 use mp_host_states::{count_posts, most_of_group};
@@ -125,10 +125,40 @@ impl<'a, Q: Query, J: Naming> Host<'a, Q, J> {
             IfSome result (λ most. (t k : ℕ) → IsReadyHere J.job seen.now owners.now h t k → most < 2 ^ 64 - 1
             → length (q.gives j (cell_before q j (stage_records q J.job.events j) k t) (group_at q J.job j t k)) + length (woken_by q h t k) ≤ most) }
     {
+        let Some(group) = self.ready_group(alloc, seen, owners) else {
+            return None;
+        };
+        Some(group.most)
+    }
+
+    /// The group that may be applied (`ready`), with how much it may give: what the query says of its outputs, and the posts
+    /// of its records, or 2^64 - 1 where that is greater. `None` exactly where there is none. The worker's log and the owners
+    /// are as for `apply`. Takes no memory.
+    pub fn ready_group(&self, alloc: Global, seen: &Seen, owners: &Owners) -> Option<ReadyGroup>
+        requires shape { owners.now.layout ≡ layout_of J.job }
+        requires informed { let q = table_of Q.facts J.job in
+            (log : Log) × HostMatchesLogAndSeen q J.job log seen.now self.now × OwnersAreCurrent q J.job owners.now seen.now self.now.stage }
+
+        // Which group, if there is one.
+        ensures some { IfSome result (λ g. IsReadyHere J.job seen.now owners.now self.now g.time g.key) }
+        ensures none { IfNone result ((t k : ℕ) → ¬ IsReadyHere J.job seen.now owners.now self.now t k) }
+        ensures none_by_log { let q = table_of Q.facts J.job in
+            IfNone result ((log : Log) → HostMatchesLogAndSeen q J.job log seen.now self.now → OwnersAreCurrent q J.job owners.now seen.now self.now.stage
+            → (t k : ℕ) → ¬ IsReadyAt q J.job log seen.now self.now t k) }
+
+        // What it may give.
+        ensures most { let q = table_of Q.facts J.job in let h = self.now in
+            IfSome result (λ g. g.most
+            ≡ min (q.most h.stage (cell_at (q.fresh h.stage) J.job.shape.bins h g.time g.key) (group_here h g.time g.key) + length (posts_here q h g.time g.key)) (2 ^ 64 - 1)) }
+        ensures enough { let q = table_of Q.facts J.job in let h = self.now in let j = h.stage in
+            IfSome result (λ g. g.most < 2 ^ 64 - 1
+            → length (q.gives j (cell_before q j (stage_records q J.job.events j) g.key g.time) (group_at q J.job j g.time g.key)) + length (woken_by q h g.time g.key) ≤ g.most) }
+    {
         let Some((time, key)) = self.first_ready(seen, owners) else {
             return None;
         };
-        Some(self.most_of_first(alloc, time, key))
+        let most = self.most_of_first(alloc, time, key);
+        Some(ReadyGroup { time, key, most })
     }
 
     // No fewer than the outputs and the new wakes of the first group, whose bin is in hand, where the sums and counts of its

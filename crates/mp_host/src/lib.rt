@@ -13,6 +13,7 @@ mod last;
 mod moving;
 mod order;
 mod reading;
+mod ready;
 mod receiving;
 mod waiting;
 
@@ -23,3 +24,4 @@ pub use mp_host_laws::Held;
 pub use mp_job::Job;
 pub use mp_model::{Naming, Query, Rec, Time, Value};
 pub use mp_stamps::Seen;
+pub use ready::ReadyGroup;
