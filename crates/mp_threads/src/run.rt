@@ -14,12 +14,11 @@ ghost use Rattle.mp_answer_laws.specs.Runs.{RunLeaves};
 use crate::Crew;
 use crate::place::{Placed, finish, turn_here};
 use crate::start::settle;
-use crossbeam_utils::Backoff;
 use mp_board::Cause;
 use mp_gate::Gate;
 use mp_model::{Naming, Query};
 use mp_outside::Sink;
-use mp_threads_member::{Member, Round, Stop, Worker};
+use mp_threads_member::{Member, Pause, Round, Stop, Worker};
 use std::alloc::Global;
 use std::sync::Wait;
 use std::thread;
@@ -234,7 +233,7 @@ fn drive_here<'a, Q: Query, J: Naming, R: Wait + Drop, T: Wait, G: Gate, S: Sink
     ensures told { IfErr result (λ stop. IsTold stop first.new.hub) }
     ensures other { result ≡ Ok false → OneHasTold places.new }
 {
-    let backoff = Backoff::new();
+    let pause = Pause::new();
     for _ in rt.forever() {
         let own = first.turn(rt, gate, sink)?;
         let Ok(others) = turn_all(places, rt, gate) else {
@@ -242,8 +241,8 @@ fn drive_here<'a, Q: Query, J: Naming, R: Wait + Drop, T: Wait, G: Gate, S: Sink
         };
         match both(own, others) {
             Round::Over => return Ok(true),
-            Round::Made => backoff.reset(),
-            Round::Idle => backoff.snooze(),
+            Round::Made => pause.reset(),
+            Round::Idle => pause.take(rt),
         }
     }
     unreachable!()

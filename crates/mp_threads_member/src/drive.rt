@@ -13,7 +13,7 @@ ghost use Rattle.mp_threads_member.specs.Driving.{Drives, IsFinished, IsTold};
 ghost use Rattle.mp_threads_member.specs.Rounds.{HasComeFurther, HasReceivedNone, HasTriedAll, WasHindered};
 
 use crate::Member;
-use crossbeam_utils::Backoff;
+use crate::pause::Pause;
 use mp_board::Cause;
 use mp_gate::Gate;
 use mp_model::{Naming, Query};
@@ -59,12 +59,12 @@ impl<'a, Q: Query, J: Naming, R: Wait + Drop> Member<'a, Q, J, R> {
             result self.old self.new sink.old sink.new }
         ensures told { IfErr result (λ stop. IsTold stop self.new.hub) }
     {
-        let backoff = Backoff::new();
+        let pause = Pause::new();
         for _ in rt.forever() {
             match self.turn(rt, gate, sink) {
                 Ok(Round::Over) => return Ok(()),
-                Ok(Round::Made) => backoff.reset(),
-                Ok(Round::Idle) => backoff.snooze(),
+                Ok(Round::Made) => pause.reset(),
+                Ok(Round::Idle) => pause.take(rt),
                 Err(stop) => return Err(stop),
             }
         }

@@ -6,8 +6,10 @@
 
 mod drive;
 mod member;
+mod pause;
 mod step;
 
 pub use drive::Round;
 pub use member::Member;
 pub use mp_worker::{RunPlan, Stop, Worker, last_states, new_workers};
+pub use pause::Pause;
