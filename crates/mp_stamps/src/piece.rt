@@ -1,17 +1,18 @@
 //! A piece of the counts of a location.
-ghost use Rattle.std.specs.Prelude.{◌≡◌, ◌<◌, ◌≤◌, ◌+◌, ◌-◌, ◌^◌, ℕ, pos, ◌+ℤ◌, true, false, IfOk, FitsSigned, count_by, length, replicate, slice_set, []};
+ghost use Rattle.std.specs.Prelude.{◌≡◌, ◌<◌, ◌≤◌, ◌+◌, ◌-◌, ◌^◌, ℕ, pos, ◌+ℤ◌, true, false, IfOk, IfSome, FitsSigned, count_by, length, replicate, slice_set, []};
 ghost use Rattle.std.specs.Int.{w128};
 ghost use Rattle.std.specs.Vec.{vec_capacity};
 ghost use Rattle.mp_stamps.specs.Rows.{IsFirstBut, IsFirstOpen, IsPieceOf, IsZeroAt, count_there, counts_held, is_outstanding, number_of};
 
 use std::alloc::{AllocError, Global};
 use std::marker::Model;
+use std::mem;
 
 /// How many counts a piece has.
 pub(crate) const PIECE: usize = 1024;
 
 /// So many counts. A piece has room for them from the first, and takes it up when one of them changes; it may be given back
-/// when all of them are 0. Contracts see the counts, and whether the piece is kept.
+/// when all of them are 0, and its buffer then be that of another one. Contracts see the counts, and whether the piece is kept.
 #[derive(Drop)]
 pub struct Piece {
     // None, as long as no count was other than 0, and where the piece was given back.
@@ -88,15 +89,53 @@ impl Piece {
         self.first = first_after(&self.counts, self.outstanding, self.first, index);
     }
 
-    /// Gives back the memory of a piece whose counts are all 0.
-    pub(crate) fn give_back(&mut self)
+    /// Gives back a piece whose counts are all 0. Where it took up its room, gives the buffer, emptied, with room for the
+    /// counts of a piece; else its memory is free.
+    pub(crate) fn give_back(&mut self) -> Option<Vec<i128>>
         requires { (k : ℕ) → IsZeroAt self.old.counts k }
-        ensures { self.new ≡ record { kept = false; counts = self.old.counts } }
+        ensures given_back { self.new ≡ record { kept = false; counts = self.old.counts } }
+        ensures emptied { IfSome result (λ buffer. buffer.items ≡ []) }
+        ensures room { IfSome result (λ buffer. 1024 ≤ vec_capacity buffer) }
     {
         let alloc = *self.counts.allocator();
-        self.counts = Vec::new(alloc);
+        let held = mem::replace(&mut self.counts, Vec::new(alloc));
         self.kept = false;
+        emptied(held)
     }
+
+    /// Whether a piece that is kept hasn't taken up its room.
+    pub(crate) fn is_unfilled(&self) -> bool
+        ensures kept { result ≡ true → self.now.kept ≡ true }
+        ensures zeros { result ≡ true → self.now.counts ≡ replicate 1024 (pos 0) }
+    {
+        self.kept && self.counts.is_empty()
+    }
+
+    /// Takes an empty buffer with room for the counts of a piece in place of one's own, which is freed, where the piece
+    /// hasn't taken up its room; else the buffer is freed.
+    pub(crate) fn take_over(&mut self, buffer: Vec<i128>)
+        requires empty { buffer.items ≡ [] }
+        requires room { 1024 ≤ vec_capacity buffer }
+        ensures { self.new ≡ self.old }
+    {
+        if self.is_unfilled() {
+            self.counts = buffer;
+        }
+    }
+}
+
+// The buffer of what a piece held, emptied, where that is its counts.
+fn emptied(held: Vec<i128>) -> Option<Vec<i128>>
+    requires { IsPieceOf held.items }
+    ensures empty { IfSome result (λ buffer. buffer.items ≡ []) }
+    ensures room { IfSome result (λ buffer. 1024 ≤ vec_capacity buffer) }
+{
+    if held.is_empty() {
+        return None;
+    }
+    let mut buffer = held;
+    buffer.clear();
+    Some(buffer)
 }
 
 // The sum of a count and what is added to it, which fits.

@@ -1,6 +1,7 @@
 //! The counts of one location.
-ghost use Rattle.std.specs.Prelude.{◌≡◌, ◌<◌, ◌≤◌, ◌+◌, ◌*◌, ◌/◌, ◌^◌, ℕ, pos, ◌+ℤ◌, max, IfOk, FitsSigned, count_by, length, replicate, slice_set};
+ghost use Rattle.std.specs.Prelude.{◌≡◌, ◌<◌, ◌≤◌, ◌+◌, ◌*◌, ◌/◌, ◌^◌, ℕ, pos, ◌+ℤ◌, max, [], IfOk, FitsSigned, count_by, length, replicate, slice_set};
 ghost use Rattle.std.specs.Int.{w128};
+ghost use Rattle.std.specs.Vec.{vec_capacity};
 ghost use Rattle.mp_stamps.specs.Rows.{AreFresh, AreWhole, GivesBack, IsFirst, IsFirstBut, IsFirstOpen, IsZeroAt, IsZeroPiece, count_there, is_outstanding, joined, pieces_of};
 
 use crate::piece::{PIECE, Piece};
@@ -19,6 +20,8 @@ pub struct Row {
     first: usize,
     // The index that changed last.
     near: usize,
+    // The next buffer that is handed on is taken by a piece at or behind this one.
+    taker: usize,
 }
 
 impl Model for Row {
@@ -45,6 +48,7 @@ impl Row {
             outstanding: 0,
             first,
             near: 0,
+            taker: 0,
         })
     }
 
@@ -95,14 +99,16 @@ impl Row {
         self.near = index;
     }
 
-    /// Gives back the first so many pieces, in which all counts are 0. Takes no memory.
+    /// Gives back the first so many pieces, in which all counts are 0, and hands their buffers on to later ones. Takes no
+    /// memory.
     pub(crate) fn give_back(&mut self, count: usize)
         requires count { 1024 * count ≤ length self.old.counts }
         requires zero { (k : ℕ) → k < 1024 * count → IsZeroAt self.old.counts k }
         ensures { self.new ≡ record { given = max self.old.given count; counts = self.old.counts } }
     {
         if count > self.given {
-            give_back_between(&mut self.pieces, self.given, count);
+            self.taker = self.taker.max(count);
+            give_back_between(&mut self.pieces, self.given, count, &mut self.taker);
             self.given = count;
         }
     }
@@ -119,15 +125,42 @@ fn zero_pieces(alloc: Global, count: usize) -> Result<Vec<Piece>, AllocError>
     Ok(pieces)
 }
 
-// Gives back the pieces between two places, in which all counts are 0.
-fn give_back_between(pieces: &mut Vec<Piece>, from: usize, to: usize)
+// Gives back the pieces between two places, in which all counts are 0, and hands their buffers on.
+fn give_back_between(pieces: &mut Vec<Piece>, from: usize, to: usize, taker: &mut usize)
     requires order { from ≤ to }
     requires inside { to ≤ length pieces.old.items }
     requires zero { (b : ℕ) → b < to → IsZeroPiece pieces.old.items b }
     ensures { GivesBack from to pieces.old.items pieces.new.items }
 {
     for place in from..to {
-        pieces[place].give_back();
+        if let Some(buffer) = pieces[place].give_back() {
+            let next = next_unfilled(pieces, *taker);
+            hand_on(pieces, next, buffer);
+            *taker = next + 1;
+        }
+    }
+}
+
+// The first piece from one on that is kept and hasn't taken up its room, or the number of pieces.
+fn next_unfilled(pieces: &[Piece], from: usize) -> usize
+    ensures { result ≤ length pieces.now }
+{
+    for place in from..pieces.len() {
+        if pieces[place].is_unfilled() {
+            return place;
+        }
+    }
+    pieces.len()
+}
+
+// Hands a buffer on to a piece that hasn't taken up its room; where there is none at the place it is freed.
+fn hand_on(pieces: &mut Vec<Piece>, place: usize, buffer: Vec<i128>)
+    requires empty { buffer.items ≡ [] }
+    requires room { 1024 ≤ vec_capacity buffer }
+    ensures { pieces.new.items ≡ pieces.old.items }
+{
+    if let Some(piece) = pieces.get_mut(place) {
+        piece.take_over(buffer);
     }
 }
 

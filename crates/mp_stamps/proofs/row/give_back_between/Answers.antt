@@ -27,7 +27,7 @@ loop-place-preserved c =
     let inside : n < length old = omega (arith, before, c.requires.inside) in
     let there : n < length ps = omega (arith, inside, c.loop-place.invariant.long) in
     let piece : c.index_mut.result.now ≡ piece_at ps n = c.index_mut.ensures.value ∙ get_or_default ps n c.index_mut.result.now (record { kept = true; counts = [] }) there in
-    search (one_more_back c.args.from n old ps c.give_back.new.self c.loop-place.invariant after inside (c.give_back.ensures ∙ ap (λ (p : PieceState). record { kept = false; counts = p.counts }) piece), rules)
+    search (one_more_back c.args.from n old ps c.give_back.new.self c.loop-place.invariant after inside (c.give_back.ensures.given_back ∙ ap (λ (p : PieceState). record { kept = false; counts = p.counts }) piece), rules)
 
 pub returns : goal.returns
 returns c =
