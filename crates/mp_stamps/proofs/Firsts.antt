@@ -1,12 +1,10 @@
--- The first count other than 0, and the first of others that isn't quiet.
-use Rattle.std.proofs.Common.{◌≡◌, ◌≢◌, ◌⊎◌, ℕ, zero, suc, ◌+◌, ◌*◌, ◌<◌, ◌≤◌, Bool, true, false, cond, not, List, [], ◌∷◌, length, get_or, set, replicate, count_by, ℤ, pos, refl, sym, ap, ◌∙◌, subst, arith, ⊎_elim}
+-- The first count other than 0, the first of others that isn't quiet, and where counts other than 0 stand.
+use Rattle.std.proofs.Common.{◌≡◌, ◌≢◌, ◌⊎◌, ℕ, ◌+◌, ◌<◌, ◌≤◌, Bool, true, false, not, List, length, set, replicate, min, max, ℤ, pos, refl, sym, ap, ◌∙◌, subst, arith, inl, inr, ⊎_elim}
 use Rattle.std.specs.Ordering.{int_eq}
-use Rattle.std.proofs.lemmas.Bool.{cases_Bool, cases_eq}
+use Rattle.std.proofs.lemmas.Bool.{cases_Bool, cases_eq, cases_lt, true≢false}
 use Rattle.std.proofs.lemmas.Bool.Decides.{Decides-int_eq}
-use Rattle.std.proofs.lemmas.List.{get_or-replicate, length-replicate, get_or-set_other, length-set}
-use Rattle.std.proofs.lemmas.List.Folds.{sum_by-replicate}
-use Rattle.std.proofs.lemmas.List.Sums.{sum_by-cons, sum_by-set}
-use Rattle.mp_stamps.specs.Rows.{AreNumbered, IsFirst, IsFirstBut, IsFirstOpen, IsZeroAt, count_there, is_outstanding, number_of}
+use Rattle.std.proofs.lemmas.List.{get_or_past, get_or-replicate, length-replicate, get_or-set_other, length-set}
+use Rattle.mp_stamps.specs.Rows.{IsFirst, IsFirstBut, IsFirstOpen, IsSpan, IsSpanBut, IsZeroAt, is_outstanding}
 
 pub zero_is_zero : (z : ℤ) → z ≡ pos 0 → int_eq z (pos 0) ≡ true
 zero_is_zero z e = rw e refl
@@ -17,63 +15,24 @@ is_zero z e = grind (arith, Decides-int_eq)
 pub not_zero : (z : ℤ) → int_eq z (pos 0) ≡ false → z ≢ pos 0
 not_zero z e = grind (arith, Decides-int_eq)
 
--- a count is 0, or isn't
-number_zero : (z : ℤ) → number_of z ≡ 0 → z ≡ pos 0
-number_zero z h = pick (int_eq z (pos 0)) refl h
-  where
-    pick : (b : Bool) → int_eq z (pos 0) ≡ b → ◌≡◌ {A = ℕ} (cond (not b) 1 0) 0 → z ≡ pos 0
-    pick true e g = is_zero z e
-    pick false e g = absurd (omega arith)
+-- whether a count is other than 0
+pub is_open : (z : ℤ) (b : Bool) → b ≡ is_outstanding z → b ≡ true → z ≢ pos 0
+is_open z b e f g = true≢false (sym f ∙ e ∙ ap not (zero_is_zero z g))
 
-pub none_outstanding : (counts : List ℤ) → count_by is_outstanding counts ≡ 0 → (k : ℕ) → count_there counts k ≡ pos 0
-none_outstanding [] h k = refl
-none_outstanding (x ∷ xs) h zero = let e = sum_by-cons number_of x xs in number_zero x (omega (arith, e, h))
-none_outstanding (x ∷ xs) h (suc k) = let e = sum_by-cons number_of x xs in none_outstanding xs (omega (arith, e, h)) k
+pub is_closed : (z : ℤ) (b : Bool) → b ≡ is_outstanding z → b ≡ false → z ≡ pos 0
+is_closed z b e f =
+    ⊎_elim
+    (λ (g : int_eq z (pos 0) ≡ true). is_zero z g)
+    (λ (g : int_eq z (pos 0) ≡ false). absurd (true≢false (sym (ap not g) ∙ sym e ∙ f)))
+    (cases_Bool (int_eq z (pos 0)))
 
--- counts that are all 0
-pub zeros_numbered : (n : ℕ) → AreNumbered (replicate n (pos 0)) 0 n
-zeros_numbered n = record {
-  numbered = sym (sum_by-replicate number_of n (pos 0) ∙ (let e : n * 0 ≡ 0 = omega arith in e));
-  first_open = record {
-    within = omega (arith, length-replicate n (pos 0));
-    quiet = λ k l. get_or-replicate n k (pos 0) (pos 0) l;
-    open_there = λ l. absurd (omega (arith, length-replicate n (pos 0)));
-  };
-}
-
--- no more are counted than there are
-pub sum_most : (xs : List ℤ) → count_by is_outstanding xs ≤ length xs
-sum_most [] = omega arith
-sum_most (x ∷ xs) = let e = sum_by-cons number_of x xs in let rest = sum_most xs in omega (arith, e, rest, at_most_one x)
-  where
-    at_most_one : (x : ℤ) → number_of x ≤ 1
-    at_most_one x = ⊎_elim (λ (e : is_outstanding x ≡ true). rw e (omega arith)) (λ (e : is_outstanding x ≡ false). rw e (omega arith)) (cases_Bool (is_outstanding x))
-
--- another count at an index
-
-pub changed_first : (counts : List ℤ) (first i : ℕ) (v : ℤ) → IsFirstOpen counts first → IsFirstBut (IsZeroAt (set counts i v)) (length (set counts i v)) first i
-changed_first counts first i v h = record {
-  within = omega (arith, h.within, length-set counts i v);
-  quiet = λ k l n. get_or-set_other counts i k v (pos 0) n ∙ h.quiet k l;
-  open_there = λ l n e. h.open_there (omega (arith, l, length-set counts i v)) (sym (get_or-set_other counts i first v (pos 0) n) ∙ e);
-}
-
-pub changed_number : (counts : List ℤ) (i number after : ℕ) (v before : ℤ) → i < length counts → before ≡ get_or counts i (pos 0) → number ≡ count_by is_outstanding counts → after + number_of before ≡ number + number_of v → after ≡ count_by is_outstanding (set counts i v)
-changed_number counts i number after v before l b e f =
-    let g : number_of before ≡ number_of (get_or counts i (pos 0)) = ap number_of b in
-    omega (arith, sum_by-set number_of counts i v (pos 0) l, e, f, g)
-
-pub counted_there : (counts : List ℤ) (i : ℕ) → i < length counts → number_of (get_or counts i (pos 0)) ≤ count_by is_outstanding counts
-counted_there [] i l = absurd (omega arith)
-counted_there (x ∷ xs) zero l = omega (arith, sum_by-cons number_of x xs)
-counted_there (x ∷ xs) (suc i) l = let r = counted_there xs i (omega arith) in omega (arith, sum_by-cons number_of x xs, r)
-
-pub none_first : (counts : List ℤ) (n : ℕ) → n ≡ length counts → count_by is_outstanding counts ≡ 0 → IsFirstOpen counts n
-none_first counts n e h = record {
-  within = omega arith;
-  quiet = λ k l. none_outstanding counts h k;
-  open_there = λ l. absurd (omega arith);
-}
+-- there is only one first count other than 0
+pub first_open_once : (counts : List ℤ) (a b : ℕ) → IsFirstOpen counts a → IsFirstOpen counts b → a ≡ b
+first_open_once counts a b h k =
+    ⊎_elim
+    (λ (l : a < b). absurd (h.open_there (omega (arith, l, k.within)) (k.quiet a l)))
+    (λ (l : b ≤ a). ⊎_elim (λ (m : b < a). absurd (k.open_there (omega (arith, m, h.within)) (h.quiet b m))) (λ (m : a ≤ b). omega (arith, l, m)) (cases_lt b a))
+    (cases_lt a b)
 
 -- which one is the first, after one changed
 
@@ -101,3 +60,56 @@ module _ (P : ℕ → Type 0) (number first i : ℕ) (h : IsFirstBut P number fi
 
   pub quiet_to : P i → i ≡ first → (k : ℕ) → k < first + 1 → P k
   quiet_to z e k l = ⊎_elim (λ (f : k ≡ i). subst P (sym f) z) (λ (m : k ≢ i). h.quiet k (omega (arith, e, m, l)) m) (cases_eq k i)
+
+-- Where counts other than 0 stand
+
+-- nowhere, where each is 0
+pub span_none : (counts : List ℤ) → ((k : ℕ) → IsZeroAt counts k) → IsSpan counts (length counts) 0
+span_none counts zero = record {
+  first_open = record { within = omega arith; quiet = λ k l. zero k; open_there = λ l. absurd (omega (arith, l)) };
+  within = omega arith;
+  rest = λ k l. zero k;
+}
+
+pub zero_there : (n k : ℕ) → IsZeroAt (replicate n (pos 0)) k
+zero_there n k =
+    ⊎_elim
+    (λ (l : k < n). get_or-replicate n k (pos 0) (pos 0) l)
+    (λ (l : n ≤ k). get_or_past (replicate n (pos 0)) k (pos 0) (omega (arith, l, length-replicate n (pos 0))))
+    (cases_lt k n)
+
+pub zeros_span : (n : ℕ) → IsSpan (replicate n (pos 0)) n 0
+zeros_span n = subst (λ (m : ℕ). IsSpan (replicate n (pos 0)) m 0) (length-replicate n (pos 0)) (span_none (replicate n (pos 0)) (zero_there n))
+
+-- another count at an index
+pub span_changed : (counts : List ℤ) (first end i : ℕ) (v : ℤ) → IsSpan counts first end → IsSpanBut (set counts i v) first end i
+span_changed counts first end i v h = record {
+  first_but = record {
+    within = omega (arith, h.first_open.within, length-set counts i v);
+    quiet = λ k l n. get_or-set_other counts i k v (pos 0) n ∙ h.first_open.quiet k l;
+    open_there = λ l n e. h.first_open.open_there (omega (arith, l, length-set counts i v)) (sym (get_or-set_other counts i first v (pos 0) n) ∙ e);
+  };
+  within = omega (arith, h.within, length-set counts i v);
+  rest_but = λ k l n. get_or-set_other counts i k v (pos 0) n ∙ h.rest k l;
+}
+
+module _ (counts : List ℤ) (first end i : ℕ) (h : IsSpanBut counts first end i) where
+  -- one that is other than 0
+  pub span_opened : (least last : ℕ) → i < length counts → (IsZeroAt counts i → ⊥) → least ≡ min first i → last ≡ max end (i + 1) → IsSpan counts least last
+  span_opened least last l n e f = record {
+    first_open = lesser_first (IsZeroAt counts) (length counts) first i h.first_but least l n
+        (⊎_elim (λ (m : first < i). inl ((omega (arith, e, m)), m)) (λ (m : i ≤ first). inr ((omega (arith, e, m)), m)) (cases_lt first i));
+    within = omega (arith, h.within, l, f);
+    rest = λ k m. h.rest_but k (omega (arith, f, m)) (λ g. absurd (omega (arith, f, m, g)));
+  }
+
+  -- one that is 0
+  pub rest_closed : IsZeroAt counts i → (k : ℕ) → end ≤ k → IsZeroAt counts k
+  rest_closed z k l = ⊎_elim (λ (e : k ≡ i). subst (IsZeroAt counts) (sym e) z) (λ (n : k ≢ i). h.rest_but k l n) (cases_eq k i)
+
+  pub span_closed : IsZeroAt counts i → (i ≡ first → ⊥) → IsSpan counts first end
+  span_closed z n = record {
+    first_open = same_first (IsZeroAt counts) (length counts) first i h.first_but z n;
+    within = h.within;
+    rest = λ k l. rest_closed z k l;
+  }

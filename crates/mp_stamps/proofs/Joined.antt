@@ -1,10 +1,9 @@
 -- What pieces hold, and the row that they make up.
-use Rattle.std.proofs.Common.{◌≡◌, ◌<◌, ◌≤◌, ◌+◌, ◌*◌, ◌/◌, ◌%◌, ◌-◌, ◌^◌, ◌++◌, ℕ, zero, suc, List, [], ◌∷◌, ℤ, pos, true, false, length, get_or, set, replicate, count_by, inl, inr, ⊎_elim, refl, sym, ap, ◌∙◌, arith, subst}
+use Rattle.std.proofs.Common.{◌≡◌, ◌<◌, ◌≤◌, ◌+◌, ◌*◌, ◌/◌, ◌%◌, ◌-◌, ◌^◌, ◌++◌, ℕ, zero, suc, List, [], ◌∷◌, ℤ, pos, ◌+ℤ◌, true, false, length, get_or, set, replicate, inl, inr, ⊎_elim, refl, sym, ap, ◌∙◌, arith, subst}
 use Rattle.std.proofs.lemmas.Bool.{cases_eq, cases_lt}
-use Rattle.std.proofs.lemmas.List.{get_or-append-add, get_or-replicate, get_or_append_left, get_or_past, get_or-set_same, get_or-set_other, length-append, length-replicate, length-set, replicate-append-replicate, set-append_left, set-append_right}
-use Rattle.std.proofs.lemmas.List.Sums.{sum_by-set}
-use Rattle.mp_stamps.specs.Rows.{AreWhole, IsFirst, IsFirstBut, IsFirstOpen, IsPieceOf, IsRow, IsZeroAt, IsZeroPiece, GivesBack, PieceState, counts_held, is_outstanding, number_of, joined, piece_at}
-use Rattle.mp_stamps.proofs.Firsts.{none_outstanding, zeros_numbered}
+use Rattle.std.proofs.lemmas.List.{get_or_default, get_or-append-add, get_or-replicate, get_or_append_left, get_or_past, get_or-set_same, get_or-set_other, length-append, length-replicate, length-set, replicate-append-replicate, set-append_left, set-append_right}
+use Rattle.mp_stamps.specs.Rows.{AreWhole, IsFirst, IsFirstOpen, IsPieceOf, IsRow, IsSpan, IsSpanBut, IsZeroAt, IsZeroPiece, GivesBack, PieceState, counts_held, joined, piece_at}
+use Rattle.mp_stamps.proofs.Firsts.{span_changed, zeros_span}
 
 -- What a piece holds
 
@@ -107,26 +106,18 @@ joined_fresh (suc n) =
     ∙ replicate-append-replicate 1024 (1024 * n) (pos 0)
     ∙ ap (λ (k : ℕ). replicate k (pos 0)) at
 
-pub fresh_row : (n : ℕ) → 1024 * n ≤ 2 ^ 63 → IsRow (replicate n (record { kept = true; counts = replicate 1024 (pos 0) })) 0 0 n
+pub fresh_row : (n : ℕ) → 1024 * n ≤ 2 ^ 63 → IsRow (replicate n (record { kept = true; counts = replicate 1024 (pos 0) })) 0 (1024 * n) 0
 unfolding fresh
 fresh_row n few = record {
   whole = λ b l. subst (λ (p : PieceState). length p.counts ≡ 1024) (sym (get_or-replicate n b fresh (record { kept = true; counts = [] }) (omega (arith, l, long)))) (length-replicate 1024 (pos 0));
   few = omega (arith, few, long);
   gone = λ b l. absurd (omega (arith, l));
   kept = λ b m l. ap (λ (p : PieceState). p.kept) (get_or-replicate n b fresh (record { kept = true; counts = [] }) (omega (arith, l, long)));
-  numbered = (zeros_numbered (1024 * n)).numbered ∙ ap (λ (xs : List ℤ). count_by is_outstanding xs) (sym (joined_fresh n));
-  first_piece = record {
-    within = omega (arith, long);
-    quiet = λ b l k. subst (λ (p : PieceState). IsZeroAt p.counts k) (sym (get_or-replicate n b fresh (record { kept = true; counts = [] }) l)) (zero_there k);
-    open_there = λ l. absurd (omega (arith, l, long));
-  };
+  span = subst (λ (xs : List ℤ). IsSpan xs (1024 * n) 0) (sym (joined_fresh n)) (zeros_span (1024 * n));
 }
   where
     long : length (replicate n fresh) ≡ n
     long = length-replicate n fresh
-
-    zero_there : (k : ℕ) → get_or (replicate 1024 (pos 0)) k (pos 0) ≡ pos 0
-    zero_there k = ⊎_elim (λ (l : k < 1024). get_or-replicate 1024 k (pos 0) (pos 0) l) (λ (l : 1024 ≤ k). get_or_past (replicate 1024 (pos 0)) k (pos 0) (omega (arith, l, length-replicate 1024 (pos 0)))) (cases_lt k 1024)
 
 -- The first count other than 0 of a row
 
@@ -172,16 +163,56 @@ module _ (ps : List PieceState) (w : AreWhole ps) where
               (sym (joined_at ps f first w l inside) ∙ ap (λ (i : ℕ). get_or (joined ps) i (pos 0)) (sym e) ∙ z);
         }
 
-    pub none_in_pieces : (at : ℕ) → length ps ≤ f → at ≡ 1024 * length ps → IsFirstOpen (joined ps) at
-    none_in_pieces at l e = record {
-      within = omega (arith, joined_length ps w, e);
-      quiet = λ k m. count_at_split k (omega (arith, m, e)) ∙ is.quiet (k / 1024) (omega (arith, m, e, l)) (k % 1024);
-      open_there = λ m. absurd (omega (arith, joined_length ps w, e, m));
-    }
+  -- where each piece holds zeros, each count is 0
+  pub none_in_pieces : ((b : ℕ) → b < length ps → IsZeroPiece ps b) → (k : ℕ) → IsZeroAt (joined ps) k
+  none_in_pieces none k =
+      ⊎_elim
+      (λ (l : k < 1024 * length ps). count_at_split k l ∙ none (k / 1024) (omega (arith, l)) (k % 1024))
+      (λ (l : 1024 * length ps ≤ k). get_or_past (joined ps) k (pos 0) (omega (arith, l, joined_length ps w)))
+      (cases_lt k (1024 * length ps))
+
+  -- where the counts of a piece are 0, it holds zeros
+  pub zero_piece : (b : ℕ) → b < length ps → ((k : ℕ) → k < 1024 → IsZeroAt (joined ps) (1024 * b + k)) → IsZeroPiece ps b
+  zero_piece b l none k =
+      ⊎_elim
+      (λ (m : k < 1024). sym (joined_at ps b k w l m) ∙ none k m)
+      (λ (m : 1024 ≤ k). get_or_past (piece_at ps b).counts k (pos 0) (omega (arith, m, w b l)))
+      (cases_lt k 1024)
+
+-- A row of which the count at an index changes
+
+pub added_there : (ps : List PieceState) (i : ℕ) (by : ℤ) (q p : PieceState) → AreWhole ps → i < 1024 * length ps → q ≡ get_or ps (i / 1024) q → p.counts ≡ set q.counts (i % 1024) (get_or q.counts (i % 1024) (pos 0) +ℤ by)
+    → p.counts ≡ set (piece_at ps (i / 1024)).counts (i % 1024) (get_or (joined ps) i (pos 0) +ℤ by)
+added_there ps i by q p w l here is =
+    let piece : q ≡ piece_at ps (i / 1024) = here ∙ get_or_default ps (i / 1024) q (record { kept = true; counts = [] }) (omega (arith, l)) in
+    is
+    ∙ ap (λ (r : PieceState). set r.counts (i % 1024) (get_or r.counts (i % 1024) (pos 0) +ℤ by)) piece
+    ∙ ap (λ (n : ℤ). set (piece_at ps (i / 1024)).counts (i % 1024) (n +ℤ by)) (sym (count_at_split ps w i l))
+
+module _ (ps : List PieceState) (i : ℕ) (v : ℤ) (p : PieceState) (w : AreWhole ps) (l : i < 1024 * length ps) (is : p.counts ≡ set (piece_at ps (i / 1024)).counts (i % 1024) v) where
+  place_inside : i / 1024 < length ps
+  place_inside = omega (arith, l)
+
+  index_small : i % 1024 < 1024
+  index_small = omega arith
+
+  pub joined_then : joined (set ps (i / 1024) p) ≡ set (joined ps) i v
+  joined_then =
+      let there : 1024 * (i / 1024) + i % 1024 ≡ i = omega arith in
+      joined_set ps (i / 1024) (i % 1024) v p w place_inside index_small is ∙ ap (λ (k : ℕ). set (joined ps) k v) there
+
+  pub span_then : (first end : ℕ) → IsSpan (joined ps) first end → IsSpanBut (joined (set ps (i / 1024) p)) first end i
+  span_then first end h = rw joined_then (span_changed (joined ps) first end i v h)
+
+  pub count_then : get_or (joined (set ps (i / 1024) p)) i (pos 0) ≡ get_or p.counts (i % 1024) (pos 0)
+  count_then =
+      ap (λ (xs : List ℤ). get_or xs i (pos 0)) joined_then
+      ∙ get_or-set_same (joined ps) i v (pos 0) (omega (arith, l, joined_length ps w))
+      ∙ sym (ap (λ (xs : List ℤ). get_or xs (i % 1024) (pos 0)) is ∙ get_or-set_same (piece_at ps (i / 1024)).counts (i % 1024) v (pos 0) (omega (arith, index_small, w (i / 1024) place_inside)))
 
 -- A row with another piece
 
-module _ (ps : List PieceState) (given outstanding first b : ℕ) (p : PieceState) (h : IsRow ps given outstanding first) (l : b < length ps) (kept : p.kept ≡ true) (long : length p.counts ≡ 1024) (past : given ≤ b) where
+module _ (ps : List PieceState) (given first end b : ℕ) (p : PieceState) (h : IsRow ps given first end) (l : b < length ps) (kept : p.kept ≡ true) (long : length p.counts ≡ 1024) (past : given ≤ b) where
   other : PieceState
   other = record { kept = true; counts = [] }
 
@@ -192,15 +223,8 @@ module _ (ps : List PieceState) (given outstanding first b : ℕ) (p : PieceStat
       (λ (n : c ≡ b → ⊥). subst (λ (q : PieceState). length q.counts ≡ 1024) (sym (get_or-set_other ps b c p (record { kept = true; counts = [] }) n)) (h.whole c (omega (arith, m, length-set ps b p))))
       (cases_eq c b)
 
-  pub set_first_but : IsFirstBut (IsZeroPiece (set ps b p)) (length (set ps b p)) first b
-  set_first_but = record {
-    within = omega (arith, h.first_piece.within, length-set ps b p);
-    quiet = λ c m n k. subst (λ (q : PieceState). IsZeroAt q.counts k) (sym (get_or-set_other ps b c p (record { kept = true; counts = [] }) n)) (h.first_piece.quiet c m k);
-    open_there = λ m n z. h.first_piece.open_there (omega (arith, m, length-set ps b p)) (λ k. subst (λ (q : PieceState). IsZeroAt q.counts k) (get_or-set_other ps b first p (record { kept = true; counts = [] }) n) (z k));
-  }
-
-  pub set_row : (number then : ℕ) → number ≡ count_by is_outstanding (joined (set ps b p)) → IsFirst (IsZeroPiece (set ps b p)) (length (set ps b p)) then → IsRow (set ps b p) given number then
-  set_row number then numbered is = record {
+  pub set_row : (least last : ℕ) → IsSpan (joined (set ps b p)) least last → IsRow (set ps b p) given least last
+  set_row least last is = record {
     whole = set_whole;
     few = omega (arith, h.few, length-set ps b p);
     gone = λ c m. subst (λ (q : PieceState). q.kept ≡ false) (sym (get_or-set_other ps b c p (record { kept = true; counts = [] }) (λ e. absurd (omega (arith, m, past, e))))) (h.gone c m);
@@ -209,28 +233,19 @@ module _ (ps : List PieceState) (given outstanding first b : ℕ) (p : PieceStat
         (λ (e : c ≡ b). ap (λ (q : PieceState). q.kept) (ap (λ (i : ℕ). piece_at (set ps b p) i) e ∙ get_or-set_same ps b p (record { kept = true; counts = [] }) l) ∙ kept)
         (λ (x : c ≡ b → ⊥). ap (λ (q : PieceState). q.kept) (get_or-set_other ps b c p (record { kept = true; counts = [] }) x) ∙ h.kept c m (omega (arith, n, length-set ps b p)))
         (cases_eq c b);
-    numbered = numbered;
-    first_piece = is;
+    span = is;
   }
 
 -- A row of which pieces are given back
 
 module _ (ps qs : List PieceState) (from to : ℕ) (back : GivesBack from to ps qs) where
-  pub back_zero : (b : ℕ) → IsZeroPiece ps b → IsZeroPiece qs b
-  back_zero b z k = ap (λ (xs : List ℤ). get_or xs k (pos 0)) (back.counts b) ∙ z k
-
-  pub back_row : (outstanding first : ℕ) → from ≤ to → to ≤ length ps → IsRow ps from outstanding first → IsRow qs to outstanding first
-  back_row outstanding first l m h = record {
+  pub back_row : (first end : ℕ) → from ≤ to → to ≤ length ps → IsRow ps from first end → IsRow qs to first end
+  back_row first end l m h = record {
     whole = λ b n. ap (λ (xs : List ℤ). length xs) (back.counts b) ∙ h.whole b (omega (arith, n, back.long));
     few = omega (arith, h.few, back.long);
     gone = λ b n. ⊎_elim (λ (x : b < from). ap (λ (q : PieceState). q.kept) (back.others b (inl x)) ∙ h.gone b x) (λ (x : from ≤ b). back.gone b x n) (cases_lt b from);
     kept = λ b n x. ap (λ (q : PieceState). q.kept) (back.others b (inr n)) ∙ h.kept b (omega (arith, n, l)) (omega (arith, x, back.long));
-    numbered = h.numbered ∙ ap (λ (xs : List ℤ). count_by is_outstanding xs) (sym (joined_same ps qs back.long back.counts));
-    first_piece = record {
-      within = omega (arith, h.first_piece.within, back.long);
-      quiet = λ b n. back_zero b (h.first_piece.quiet b n);
-      open_there = λ n z. h.first_piece.open_there (omega (arith, n, back.long)) (λ k. sym (ap (λ (xs : List ℤ). get_or xs k (pos 0)) (back.counts first)) ∙ z k);
-    };
+    span = subst (λ (xs : List ℤ). IsSpan xs first end) (sym (joined_same ps qs back.long back.counts)) h.span;
   }
 
 -- one more is given back
@@ -260,28 +275,4 @@ one_more_back from n ps qs p back m l is = record {
 
 -- the pieces of counts that are 0 hold zeros
 pub zero_pieces : (ps : List PieceState) (count b : ℕ) → AreWhole ps → count ≤ length ps → ((k : ℕ) → k < 1024 * count → get_or (joined ps) k (pos 0) ≡ pos 0) → b < count → IsZeroPiece ps b
-zero_pieces ps count b w few none l k =
-    ⊎_elim
-    (λ (m : k < 1024). sym (joined_at ps b k w (omega (arith, few, l)) m) ∙ none (1024 * b + k) (omega (arith, l, m)))
-    (λ (m : 1024 ≤ k). get_or_past (piece_at ps b).counts k (pos 0) (omega (arith, m, w b (omega (arith, few, l)))))
-    (cases_lt k 1024)
-
--- where no count is other than 0 there is no first piece with one
-pub none_open : (ps : List PieceState) (n : ℕ) → AreWhole ps → count_by is_outstanding (joined ps) ≡ 0 → n ≡ length ps → IsFirst (IsZeroPiece ps) (length ps) n
-none_open ps n w none e = record {
-  within = omega (arith, e);
-  quiet = λ b l. zero_pieces ps (length ps) b w (omega arith) (λ k m. none_outstanding (joined ps) none k) (omega (arith, l, e));
-  open_there = λ l. absurd (omega (arith, l, e));
-}
-
--- how many are other than 0 in a row of which one piece changes
-pub row_number : (ps : List PieceState) (b k : ℕ) (v : ℤ) (p : PieceState) → AreWhole ps → b < length ps → k < 1024 → p.counts ≡ set (piece_at ps b).counts k v
-    → count_by is_outstanding (joined (set ps b p)) + count_by is_outstanding (piece_at ps b).counts ≡ count_by is_outstanding (joined ps) + count_by is_outstanding p.counts
-row_number ps b k v p w l small is =
-    let old = (piece_at ps b).counts in
-    let row = sum_by-set number_of (joined ps) (1024 * b + k) v (pos 0) (omega (arith, l, small, joined_length ps w)) in
-    let piece = sum_by-set number_of old k v (pos 0) (omega (arith, small, w b l)) in
-    let here : number_of (get_or (joined ps) (1024 * b + k) (pos 0)) ≡ number_of (get_or old k (pos 0)) = ap number_of (joined_at ps b k w l small) in
-    let then : count_by is_outstanding (joined (set ps b p)) ≡ count_by is_outstanding (set (joined ps) (1024 * b + k) v) = ap (λ (xs : List ℤ). count_by is_outstanding xs) (joined_set ps b k v p w l small is) in
-    let own : count_by is_outstanding p.counts ≡ count_by is_outstanding (set old k v) = ap (λ (xs : List ℤ). count_by is_outstanding xs) is in
-    omega (arith, row, piece, here, then, own)
+zero_pieces ps count b w few none l = zero_piece ps w b (omega (arith, few, l)) (λ k m. none (1024 * b + k) (omega (arith, l, m)))

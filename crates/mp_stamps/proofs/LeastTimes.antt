@@ -46,6 +46,18 @@ first_time_once p (At s) (At t) h k =
     (λ (l : t ≤ s). ⊎_elim (λ (m : t < s). absurd (k.0 (h.1 t m))) (λ (m : s ≤ t). let e : s ≡ t = omega arith in ap (λ (n : ℕ). At n) e) (cases_lt t s))
     (cases_lt s t)
 
+-- where the first count other than 0 stands at the same index, the least time is the same
+pub first_time_still : (times : List ℕ) (old new : List ℤ) (first : ℕ) (x : Frontier) → IsStrictlyIncreasing times → length times ≤ length old → length times ≤ length new → IsFirstOpen old first → IsFirstOpen new first → IsFirstTime (count_of times old) x → IsFirstTime (count_of times new) x
+first_time_still times old new first x r l m h k was =
+    ⊎_elim
+    (λ (n : first < length times).
+    let same : At (get_or times first 0) ≡ x = first_time_once (count_of times old) _ _ (first_time_at times old first r l h n) was in
+    subst (λ (f : Frontier). IsFirstTime (count_of times new) f) same (first_time_at times new first r m k n))
+    (λ (n : length times ≤ first).
+    let same : Done ≡ x = first_time_once (count_of times old) _ _ (no_first_time times old first r l h n) was in
+    subst (λ (f : Frontier). IsFirstTime (count_of times new) f) same (no_first_time times new first r m k n))
+    (cases_lt first (length times))
+
 -- where every count is 0 there is none
 pub no_first_times : (table : CountTable) (n m : ℕ) → All (λ (row : List ℤ). row ≡ replicate n (pos 0)) table.rows → AreFirstTimes table (replicate m Done)
 no_first_times table n m h at = subst (λ (f : Frontier). IsFirstTime (count_in table at) f) (sym (at_first_none m (place_of at))) (λ u. no_counts table n h at u)

@@ -1,5 +1,5 @@
 -- The counts of one location, by time, in pieces of 1024.
-use Rattle.std.specs.Prelude.{◌≡◌, ◌≢◌, ◌⊎◌, ◌<◌, ◌≤◌, ◌+◌, ◌*◌, ◌/◌, ◌^◌, ◌++◌, ℕ, Bool, true, false, cond, not, List, [], ◌∷◌, ℤ, pos, get_or, length, replicate, slice_index_or, count_by}
+use Rattle.std.specs.Prelude.{◌≡◌, ◌≢◌, ◌⊎◌, ◌<◌, ◌≤◌, ◌+◌, ◌*◌, ◌/◌, ◌^◌, ◌++◌, ℕ, Bool, true, false, not, List, [], ◌∷◌, ℤ, pos, get_or, length, replicate, slice_index_or}
 use Rattle.std.specs.Ordering.{int_eq}
 
 -- the count at an index, 0 past the end
@@ -9,9 +9,6 @@ count_there counts i = slice_index_or counts i (pos 0)
 -- work is outstanding
 abbrev pub is_outstanding : ℤ → Bool
 is_outstanding count = not (int_eq count (pos 0))
-
-abbrev pub number_of : ℤ → ℕ
-number_of count = cond (is_outstanding count) 1 0
 
 -- of so many, it is the first that isn't quiet, or their number where all are
 pub record IsFirst (IsQuiet : ℕ → Type 0) (number first : ℕ) : Type 0 where
@@ -33,10 +30,17 @@ IsZeroAt counts k = count_there counts k ≡ pos 0
 abbrev pub IsFirstOpen : List ℤ → ℕ → Type 0
 IsFirstOpen counts first = IsFirst (IsZeroAt counts) (length counts) first
 
--- so many counts are other than 0, and the first of them stands at the index
-pub record AreNumbered (counts : List ℤ) (number first : ℕ) : Type 0 where
-  pub numbered : number ≡ count_by is_outstanding counts
+-- the first count other than 0 stands at the one index, or there is none and that is the end; and from the other index on there is none
+pub record IsSpan (counts : List ℤ) (first end : ℕ) : Type 0 where
   pub first_open : IsFirstOpen counts first
+  pub within : end ≤ length counts
+  pub rest : (k : ℕ) → end ≤ k → IsZeroAt counts k
+
+-- it would be so, but for a count that may have changed
+pub record IsSpanBut (counts : List ℤ) (first end changed : ℕ) : Type 0 where
+  pub first_but : IsFirstBut (IsZeroAt counts) (length counts) first changed
+  pub within : end ≤ length counts
+  pub rest_but : (k : ℕ) → end ≤ k → k ≢ changed → IsZeroAt counts k
 
 -- what contracts see of a piece: whether it is kept, and its counts
 pub record PieceState : Type 0 where
@@ -52,12 +56,12 @@ counts_held (n ∷ ns) = n ∷ ns
 abbrev pub IsPieceOf : List ℤ → Type 0
 IsPieceOf held = (length held ≡ 0) ⊎ (length held ≡ 1024)
 
--- a piece holds all of its counts or none; where it is kept it has room for them, else for none; and it is known how many are other than 0, and the first
-pub record IsPiece (kept : Bool) (held : List ℤ) (capacity number first : ℕ) : Type 0 where
+-- a piece holds all of its counts or none; where it is kept it has room for them, else for none; and it is known where those other than 0 stand
+pub record IsPiece (kept : Bool) (held : List ℤ) (capacity first end : ℕ) : Type 0 where
   pub piece : IsPieceOf held
   pub room : kept ≡ true → 1024 ≤ capacity
   pub freed : kept ≡ false → capacity ≡ 0
-  pub counted : AreNumbered (counts_held held) number first
+  pub span : IsSpan (counts_held held) first end
 
 -- the piece at a place
 abbrev pub piece_at : List PieceState → ℕ → PieceState
@@ -92,14 +96,13 @@ pub record RowState : Type 0 where
   pub given : ℕ
   pub counts : List ℤ
 
--- the pieces are whole, the first so many were given back and the others are kept; and it is known how many counts are other than 0, and which piece is the first with one
-pub record IsRow (pieces : List PieceState) (given outstanding first : ℕ) : Type 0 where
+-- the pieces are whole, the first so many were given back and the others are kept; and it is known where the counts other than 0 stand
+pub record IsRow (pieces : List PieceState) (given first end : ℕ) : Type 0 where
   pub whole : AreWhole pieces
   pub few : 1024 * length pieces ≤ 2 ^ 63
   pub gone : (b : ℕ) → b < given → (piece_at pieces b).kept ≡ false
   pub kept : (b : ℕ) → given ≤ b → b < length pieces → (piece_at pieces b).kept ≡ true
-  pub numbered : outstanding ≡ count_by is_outstanding (joined pieces)
-  pub first_piece : IsFirst (IsZeroPiece pieces) (length pieces) first
+  pub span : IsSpan (joined pieces) first end
 
 -- as many pieces as have a count for each of so many times, and one more count at least
 abbrev pub pieces_of : ℕ → ℕ

@@ -12,7 +12,7 @@ ghost use Rattle.mp_stamps.specs.Flow.{IsFirstTime, KeepsFrontiers};
 ghost use Rattle.mp_stamps.specs.Places.{places_of};
 
 use crate::hints::Hints;
-use crate::least::{first_in, has_moved};
+use crate::least::{first_after, has_moved};
 use crate::near::index_of;
 use crate::piece::PIECE;
 use crate::pieces::{has_no_piece_below, pieces_below};
@@ -94,16 +94,17 @@ impl Counts {
         if place >= self.rows.len() {
             return false;
         }
-        let near = self.near(place, time);
-        let Ok(index) = index_of(&self.times, near, time) else {
+        let hint = self.hints.near(time);
+        let near = self.rows[place].near();
+        let Ok(index) = index_of(&self.times, hint, near, time) else {
             return false;
         };
         if index / PIECE < self.rows[place].given() {
             return false;
         }
-        self.rows[place].add(index, by);
+        let moved = self.rows[place].add(index, by);
         let before = self.firsts[place];
-        let after = first_in(&self.times, &self.rows[place]);
+        let after = first_after(&self.times, &self.rows[place], before, moved);
         self.firsts[place] = after;
         self.hints.note(time, index);
         has_moved(before, after)
@@ -132,17 +133,6 @@ impl Counts {
         self.rows[place].give_back(count);
     }
 
-    // An index from which a time is looked for at a location.
-    fn near(&self, place: usize, time: Time) -> usize
-        requires { place < length self.now.rows }
-    {
-        let hint = self.hints.near(time);
-        match self.times.get(hint) {
-            Some(there) if *there == time => hint,
-            _ => self.rows[place].near(),
-        }
-    }
-
     /// The count of a location at a time, 0 where none is kept.
     pub fn at(&self, loc: Loc, time: Time) -> i128
         ensures { result ≡ count_in self.now loc time }
@@ -151,8 +141,9 @@ impl Counts {
         if place >= self.rows.len() {
             return 0;
         }
-        let near = self.near(place, time);
-        match index_of(&self.times, near, time) {
+        let hint = self.hints.near(time);
+        let near = self.rows[place].near();
+        match index_of(&self.times, hint, near, time) {
             Ok(index) => self.rows[place].at(index),
             Err(_) => 0,
         }

@@ -16,6 +16,7 @@ mod place;
 mod reaching;
 mod row;
 mod seen;
+mod span;
 mod stamps;
 
 pub use counts::Counts;

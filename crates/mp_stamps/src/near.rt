@@ -1,5 +1,5 @@
 //! Where a time stands, looked for from an index on in both directions.
-ghost use Rattle.std.specs.Prelude.{◌≤◌, length};
+ghost use Rattle.std.specs.Prelude.{◌≡◌, ◌<◌, ◌≤◌, ℕ, true, length, slice_index_or};
 ghost use Rattle.std.specs.List.Sorted.{IsBinarySearchResult};
 ghost use Rattle.std.specs.Ordering.{nat_cmp};
 
@@ -8,20 +8,44 @@ use mp_names::Time;
 // How often a step doubles. A time that is farther away is as quickly found among all.
 const DOUBLINGS: u32 = 8;
 
-/// The index of a time among times that ascend, or where it would stand. It takes time by the logarithm of how far that is
-/// from the index `near`, where the time is there and no more than 256 away, else by that of how many they are.
-pub(crate) fn index_of(times: &[Time], near: usize, time: Time) -> Result<usize, usize>
+/// The index of a time among times that ascend, or where it would stand. It takes one look where the time is at the index
+/// `hint`, else time by the logarithm of how far it is from the index `near`, where it is there and no more than 256 away,
+/// else by that of how many they are.
+pub(crate) fn index_of(times: &[Time], hint: usize, near: usize, time: Time) -> Result<usize, usize>
+    ensures { IsBinarySearchResult (λ t. nat_cmp t time) times.now result }
+{
+    if stands_at(times, hint, time) {
+        return Ok(hint);
+    }
+    index_from(times, near, time)
+}
+
+// The index of a time, looked for from an index on: that and the next one first.
+fn index_from(times: &[Time], near: usize, time: Time) -> Result<usize, usize>
     ensures { IsBinarySearchResult (λ t. nat_cmp t time) times.now result }
 {
     let middle = near.min(times.len());
-    if middle < times.len() && times[middle] == time {
+    if stands_at(times, middle, time) {
         return Ok(middle);
+    }
+    if stands_at(times, middle + 1, time) {
+        return Ok(middle + 1);
     }
     let from = back_to(times, middle, time);
     let to = on_to(times, middle, time);
     match times[from..to].binary_search(&time) {
         Ok(index) => Ok(from + index),
         Err(_) => times.binary_search(&time),
+    }
+}
+
+// Whether the time at an index is this one.
+fn stands_at(times: &[Time], index: usize, time: Time) -> bool
+    ensures { result ≡ true → (index < length times.now) × ((d : ℕ) → slice_index_or times.now index d ≡ time) }
+{
+    match times.get(index) {
+        Some(there) => *there == time,
+        None => false,
     }
 }
 

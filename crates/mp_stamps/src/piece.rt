@@ -1,9 +1,10 @@
 //! A piece of the counts of a location.
-ghost use Rattle.std.specs.Prelude.{◌≡◌, ◌<◌, ◌≤◌, ◌+◌, ◌-◌, ◌^◌, ℕ, pos, ◌+ℤ◌, true, false, IfOk, IfSome, FitsSigned, count_by, length, replicate, slice_set, []};
+ghost use Rattle.std.specs.Prelude.{◌≡◌, ◌<◌, ◌≤◌, ◌+◌, ◌-◌, ◌^◌, ℕ, pos, ◌+ℤ◌, true, false, IfOk, IfSome, FitsSigned, length, replicate, slice_set, []};
 ghost use Rattle.std.specs.Int.{w128};
 ghost use Rattle.std.specs.Vec.{vec_capacity};
-ghost use Rattle.mp_stamps.specs.Rows.{IsFirstBut, IsFirstOpen, IsPieceOf, IsZeroAt, count_there, counts_held, is_outstanding, number_of};
+ghost use Rattle.mp_stamps.specs.Rows.{IsFirstOpen, IsPieceOf, IsSpan, IsSpanBut, IsZeroAt, count_there, counts_held, is_outstanding};
 
+use crate::span::{Span, no_span, span_with};
 use std::alloc::{AllocError, Global};
 use std::marker::Model;
 use std::mem;
@@ -18,9 +19,8 @@ pub struct Piece {
     // None, as long as no count was other than 0, and where the piece was given back.
     counts: Vec<i128>,
     kept: bool,
-    // How many of them are other than 0, and where the first of these is.
-    outstanding: usize,
-    first: usize,
+    // Where those other than 0 stand.
+    span: Span,
 }
 
 impl Model for Piece {
@@ -31,7 +31,7 @@ impl Model for Piece {
 
     ghost view = { λ p. record { kept = p.kept; counts = counts_held p.counts.items } };
 
-    ghost invariant = { λ p. IsPiece p.kept p.counts.items (vec_capacity p.counts) p.outstanding p.first };
+    ghost invariant = { λ p. IsPiece p.kept p.counts.items (vec_capacity p.counts) p.span.first p.span.end };
 }
 
 impl Piece {
@@ -42,8 +42,7 @@ impl Piece {
         Ok(Piece {
             counts: Vec::with_capacity(alloc, PIECE)?,
             kept: true,
-            outstanding: 0,
-            first: PIECE,
+            span: no_span(PIECE),
         })
     }
 
@@ -63,30 +62,25 @@ impl Piece {
     pub(crate) fn first(&self) -> usize
         ensures { IsFirstOpen self.now.counts result }
     {
-        self.first
+        self.span.first
     }
 
-    /// How many counts are other than 0.
-    pub(crate) fn outstanding(&self) -> usize
-        ensures { result ≡ count_by is_outstanding self.now.counts }
-    {
-        self.outstanding
-    }
-
-    /// Adds to the count at an index of a piece that is kept. The sum fits an `i128`. Takes no memory.
-    pub(crate) fn add(&mut self, index: usize, by: i64)
+    /// Adds to the count at an index of a piece that is kept, and gives whether it is other than 0 now. The sum fits an
+    /// `i128`. Takes no memory.
+    pub(crate) fn add(&mut self, index: usize, by: i64) -> bool
         requires index { index < 1024 }
         requires kept { self.old.kept ≡ true }
         requires fits { FitsSigned w128 (count_there self.old.counts index +ℤ by) }
         ensures counts { self.new.counts ≡ slice_set self.old.counts index (count_there self.old.counts index +ℤ by) }
         ensures kept { self.new.kept ≡ true }
+        ensures open { result ≡ is_outstanding (count_there self.new.counts index) }
     {
         fill_if_empty(&mut self.counts);
-        let before = self.counts[index];
-        let after = sum_of(before, by);
-        self.counts[index] = after;
-        self.outstanding = recounted(self.outstanding, before, after);
-        self.first = first_after(&self.counts, self.outstanding, self.first, index);
+        let sum = sum_of(self.counts[index], by);
+        self.counts[index] = sum;
+        let is_open = is_open(sum);
+        self.span = span_after(&self.counts, self.span, index, is_open);
+        is_open
     }
 
     /// Gives back a piece whose counts are all 0. Where it took up its room, gives the buffer, emptied, with room for the
@@ -146,6 +140,13 @@ fn sum_of(count: i128, by: i64) -> i128
     count + i128::from(by)
 }
 
+// Whether a count is other than 0.
+fn is_open(count: i128) -> bool
+    ensures { result ≡ is_outstanding count }
+{
+    count != 0
+}
+
 // Fills a piece with zeros, if it holds no counts.
 fn fill_if_empty(counts: &mut Vec<i128>)
     requires piece { IsPieceOf counts.old.items }
@@ -170,48 +171,34 @@ fn fill(counts: &mut Vec<i128>)
     }
 }
 
-// How many counts are other than 0 after one of them changed.
-fn recounted(outstanding: usize, before: i128, after: i128) -> usize
-    requires some { number_of before ≤ outstanding }
-    requires few { outstanding < 2 ^ 64 - 1 }
-    ensures { result + number_of before ≡ outstanding + number_of after }
-{
-    match (before == 0, after == 0) {
-        (true, false) => outstanding + 1,
-        (false, true) => outstanding - 1,
-        _ => outstanding,
-    }
-}
-
-// The index of the first count other than 0 after the one at an index changed.
-fn first_after(counts: &[i128], outstanding: usize, first: usize, index: usize) -> usize
+// Where counts other than 0 stand after the one at an index changed.
+fn span_after(counts: &[i128], span: Span, index: usize, is_open: bool) -> Span
     requires index { index < length counts.now }
-    requires outstanding { outstanding ≡ count_by is_outstanding counts.now }
-    requires before { IsFirstBut (IsZeroAt counts.now) (length counts.now) first index }
-    ensures { IsFirstOpen counts.now result }
+    requires open { is_open ≡ is_outstanding (count_there counts.now index) }
+    requires before { IsSpanBut counts.now span.first span.end index }
+    ensures { IsSpan counts.now result.first result.end }
 {
-    if outstanding == 0 {
-        return counts.len();
+    if is_open {
+        return span_with(span, index);
     }
-    if counts[index] != 0 {
-        return first.min(index);
+    if index != span.first {
+        return span;
     }
-    if index != first {
-        return first;
-    }
-    next_open(counts, first + 1)
+    next_span(counts, index + 1, span.end)
 }
 
-// The index of the first count other than 0, from an index on before which there is none.
-fn next_open(counts: &[i128], from: usize) -> usize
-    requires from { from ≤ length counts.now }
+// Where counts other than 0 stand, from the one index on, before which there is none, to the other, from which on there
+// is none.
+fn next_span(counts: &[i128], from: usize, end: usize) -> Span
+    requires within { end ≤ length counts.now }
     requires quiet { (k : ℕ) → k < from → IsZeroAt counts.now k }
-    ensures { IsFirstOpen counts.now result }
+    requires rest { (k : ℕ) → end ≤ k → IsZeroAt counts.now k }
+    ensures { IsSpan counts.now result.first result.end }
 {
-    for index in from..counts.len() {
+    for index in from..end {
         if counts[index] != 0 {
-            return index;
+            return Span { first: index, end };
         }
     }
-    counts.len()
+    no_span(counts.len())
 }

@@ -1,10 +1,11 @@
 //! The counts of one location.
-ghost use Rattle.std.specs.Prelude.{◌≡◌, ◌<◌, ◌≤◌, ◌+◌, ◌*◌, ◌/◌, ◌^◌, ℕ, pos, ◌+ℤ◌, max, [], IfOk, FitsSigned, count_by, length, replicate, slice_set};
+ghost use Rattle.std.specs.Prelude.{◌≡◌, ◌<◌, ◌≤◌, ◌+◌, ◌*◌, ◌/◌, ◌^◌, ℕ, pos, ◌+ℤ◌, max, [], true, false, IfOk, FitsSigned, length, replicate, slice_set};
 ghost use Rattle.std.specs.Int.{w128};
 ghost use Rattle.std.specs.Vec.{vec_capacity};
-ghost use Rattle.mp_stamps.specs.Rows.{AreFresh, AreWhole, GivesBack, IsFirst, IsFirstBut, IsFirstOpen, IsZeroAt, IsZeroPiece, count_there, is_outstanding, joined, pieces_of};
+ghost use Rattle.mp_stamps.specs.Rows.{AreFresh, AreWhole, GivesBack, IsFirstOpen, IsSpan, IsSpanBut, IsZeroAt, IsZeroPiece, count_there, is_outstanding, joined, pieces_of};
 
 use crate::piece::{PIECE, Piece};
+use crate::span::{Span, no_span, span_with};
 use std::alloc::{AllocError, Global};
 use std::marker::Model;
 
@@ -15,9 +16,8 @@ pub struct Row {
     pieces: Vec<Piece>,
     // How many of them were given back.
     given: usize,
-    // How many counts are other than 0, and which is the first piece with one.
-    outstanding: usize,
-    first: usize,
+    // Where counts other than 0 stand.
+    span: Span,
     // The index that changed last.
     near: usize,
     // The next buffer that is handed on is taken by a piece at or behind this one.
@@ -31,7 +31,7 @@ impl Model for Row {
 
     ghost view = { λ r. record { given = r.given; counts = joined r.pieces.items } };
 
-    ghost invariant = { λ r. IsRow r.pieces.items r.given r.outstanding r.first };
+    ghost invariant = { λ r. IsRow r.pieces.items r.given r.span.first r.span.end };
 }
 
 impl Row {
@@ -41,12 +41,11 @@ impl Row {
         ensures { IfOk result (λ row. row ≡ record { given = 0; counts = replicate (1024 * pieces_of times) (pos 0) }) }
     {
         let pieces = zero_pieces(alloc, times / PIECE + 1)?;
-        let first = pieces.len();
+        let span = no_span(PIECE * pieces.len());
         Ok(Row {
             pieces,
             given: 0,
-            outstanding: 0,
-            first,
+            span,
             near: 0,
             taker: 0,
         })
@@ -76,27 +75,27 @@ impl Row {
     pub(crate) fn first(&self) -> usize
         ensures { IsFirstOpen self.now.counts result }
     {
-        match self.pieces.get(self.first) {
-            Some(piece) => PIECE * self.first + piece.first(),
-            None => PIECE * self.pieces.len(),
-        }
+        self.span.first
     }
 
-    /// Adds to the count at an index, whose piece wasn't given back. The sum fits an `i128`. Takes no memory.
-    pub(crate) fn add(&mut self, index: usize, by: i64)
+    /// Adds to the count at an index, whose piece wasn't given back, and gives whether another one is now the first other
+    /// than 0. The sum fits an `i128`. Takes no memory.
+    pub(crate) fn add(&mut self, index: usize, by: i64) -> bool
         requires index { index < length self.old.counts }
         requires kept { self.old.given ≤ index / 1024 }
         requires fits { FitsSigned w128 (count_there self.old.counts index +ℤ by) }
         ensures given { self.new.given ≡ self.old.given }
         ensures counts { self.new.counts ≡ slice_set self.old.counts index (count_there self.old.counts index +ℤ by) }
+        ensures still { result ≡ false →
+            (first : ℕ) × IsFirstOpen self.old.counts first × IsFirstOpen self.new.counts first }
+        ensures moved { result ≡ true →
+            (first : ℕ) → IsFirstOpen self.old.counts first → ¬ IsFirstOpen self.new.counts first }
     {
-        let place = index / PIECE;
-        let before = self.pieces[place].outstanding();
-        self.pieces[place].add(index % PIECE, by);
-        let after = self.pieces[place].outstanding();
-        self.outstanding = self.outstanding + after - before;
-        self.first = first_after(&self.pieces, self.outstanding, self.first, place);
+        let before = self.span;
+        let is_open = self.pieces[index / PIECE].add(index % PIECE, by);
+        self.span = span_after(&self.pieces, before, index, is_open);
         self.near = index;
+        self.span.first != before.first
     }
 
     /// Gives back the first so many pieces, in which all counts are 0, and hands their buffers on to later ones. Takes no
@@ -164,37 +163,42 @@ fn hand_on(pieces: &mut Vec<Piece>, place: usize, buffer: Vec<i128>)
     }
 }
 
-// The first piece with a count other than 0, or the number of pieces, after one changed.
-fn first_after(pieces: &[Piece], outstanding: usize, first: usize, changed: usize) -> usize
+// Where counts other than 0 stand after the one at an index changed.
+fn span_after(pieces: &[Piece], span: Span, index: usize, is_open: bool) -> Span
     requires whole { AreWhole pieces.now }
-    requires inside { changed < length pieces.now }
-    requires outstanding { outstanding ≡ count_by is_outstanding (joined pieces.now) }
-    requires before { IsFirstBut (IsZeroPiece pieces.now) (length pieces.now) first changed }
-    ensures { IsFirst (IsZeroPiece pieces.now) (length pieces.now) result }
+    requires few { 1024 * length pieces.now ≤ 2 ^ 63 }
+    requires index { index < 1024 * length pieces.now }
+    requires open { is_open ≡ is_outstanding (count_there (joined pieces.now) index) }
+    requires before { IsSpanBut (joined pieces.now) span.first span.end index }
+    ensures { IsSpan (joined pieces.now) result.first result.end }
 {
-    if outstanding == 0 {
-        return pieces.len();
+    if is_open {
+        return span_with(span, index);
     }
-    if pieces[changed].first() < PIECE {
-        return first.min(changed);
+    if index != span.first {
+        return span;
     }
-    if changed != first {
-        return first;
-    }
-    next_open(pieces, first + 1)
+    next_span(pieces, index / PIECE, span.end)
 }
 
-// The first piece with a count other than 0, from one on before which there is none, or the number of pieces.
-fn next_open(pieces: &[Piece], from: usize) -> usize
+// Where counts other than 0 stand, from the piece at a place on, before which there is none, to an index from which on
+// there is none.
+fn next_span(pieces: &[Piece], from: usize, end: usize) -> Span
     requires whole { AreWhole pieces.now }
-    requires inside { from ≤ length pieces.now }
-    requires quiet { (b : ℕ) → b < from → IsZeroPiece pieces.now b }
-    ensures { IsFirst (IsZeroPiece pieces.now) (length pieces.now) result }
+    requires few { 1024 * length pieces.now ≤ 2 ^ 63 }
+    requires within { end ≤ 1024 * length pieces.now }
+    requires quiet { (b : ℕ) → b < from → b < length pieces.now → IsZeroPiece pieces.now b }
+    requires rest { (k : ℕ) → end ≤ k → IsZeroAt (joined pieces.now) k }
+    ensures { IsSpan (joined pieces.now) result.first result.end }
 {
-    for place in from..pieces.len() {
-        if pieces[place].first() < PIECE {
-            return place;
+    for place in from..end.div_ceil(PIECE) {
+        let first = pieces[place].first();
+        if first < PIECE {
+            return Span {
+                first: PIECE * place + first,
+                end,
+            };
         }
     }
-    pieces.len()
+    no_span(PIECE * pieces.len())
 }

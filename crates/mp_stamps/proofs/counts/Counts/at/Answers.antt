@@ -26,11 +26,11 @@ at-requires c =
     let p = place_of c.args.loc in
     let within : p < length rows = search rules in
     let there : Searched inside c.args.time h c.index_of.result = searched_in c.deref.result.now inside.times c.args.time c.index_of.result c.deref.ensures.value c.index_of.ensures in
-    let row : c.index.result.now ≡ get_or rows p c.index.result.now = search rules in
-    let own = own_counts inside.stages inside.times rows p c.index.result.now within row in
+    let row : c.index-in-Ok.result.now ≡ get_or rows p c.index-in-Ok.result.now = search rules in
+    let own = own_counts inside.stages inside.times rows p c.index-in-Ok.result.now within row in
     let found = found_time inside c.args.time h c.index_of.result c.in-Ok.index there c.in-Ok.is in
-    let long = All-get_or (IsRowFor (length inside.times)) inside.rows p c.index.result.now.counts (place_in inside.stages inside.times rows p within) h.each_time in
-    omega (arith, found.0, long_row (length inside.times) c.index.result.now.counts (subst (IsRowFor (length inside.times)) (sym own) long))
+    let long = All-get_or (IsRowFor (length inside.times)) inside.rows p c.index-in-Ok.result.now.counts (place_in inside.stages inside.times rows p within) h.each_time in
+    omega (arith, found.0, long_row (length inside.times) c.index-in-Ok.result.now.counts (subst (IsRowFor (length inside.times)) (sym own) long))
 
 pub returns-in-Ok : goal.returns-in-Ok
 returns-in-Ok c =
@@ -40,9 +40,9 @@ returns-in-Ok c =
     let within : place_of c.args.loc < length rows = search rules in
     let fits : SFits w128 c.at.result = search rules in
     let there : Searched inside c.args.time h c.index_of.result = searched_in c.deref.result.now inside.times c.args.time c.index_of.result c.deref.ensures.value c.index_of.ensures in
-    let row : c.index.result.now ≡ get_or rows (place_of c.args.loc) c.index.result.now = search rules in
-    let own = own_counts inside.stages inside.times rows (place_of c.args.loc) c.index.result.now within row in
-    let is = count_read inside c.args.time h c.args.loc c.index_of.result c.in-Ok.index c.index.result.now.counts c.at.result (place_in inside.stages inside.times rows (place_of c.args.loc) within) there c.in-Ok.is own c.at.ensures in
+    let row : c.index-in-Ok.result.now ≡ get_or rows (place_of c.args.loc) c.index-in-Ok.result.now = search rules in
+    let own = own_counts inside.stages inside.times rows (place_of c.args.loc) c.index-in-Ok.result.now within row in
+    let is = count_read inside c.args.time h c.args.loc c.index_of.result c.in-Ok.index c.index-in-Ok.result.now.counts c.at.result (place_in inside.stages inside.times rows (place_of c.args.loc) within) there c.in-Ok.is own c.at.ensures in
     rw (← c.self.view_is) (to_z-of_z w128 c.at.result fits ∙ is)
 
 pub returns-in-Err : goal.returns-in-Err

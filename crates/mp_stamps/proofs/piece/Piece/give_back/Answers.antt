@@ -1,7 +1,7 @@
 -- Zeros stay zeros.
 use Rattle.std.proofs.Common.{[], ◌≡◌, ◌∙◌, ap, sym, subst, inl, length, false, List, ℤ}
 use Rattle.std.proofs.lemmas.Bool.{false≢true}
-use Rattle.mp_stamps.specs.Rows.{AreNumbered, PieceState, counts_held}
+use Rattle.mp_stamps.specs.Rows.{IsSpan, PieceState, counts_held}
 use Rattle.mp_stamps.proofs.Joined.{all_zero, whole}
 use Rattle.mp_stamps.proofs.piece.Piece.give_back.Goals as goal
 
@@ -25,5 +25,5 @@ invariant_of-self c =
       piece = inl (rw c.replace-held.ensures.after (ap (λ (xs : List ℤ). length xs) c.new.ensures.items));
       room = λ e. absurd (false≢true e);
       freed = λ _. rw c.replace-held.ensures.after c.new.ensures.capacity;
-      counted = subst (λ (xs : List ℤ). AreNumbered xs c.self.inside.outstanding c.self.inside.first) stay c.self.invariant.counted;
+      span = subst (λ (xs : List ℤ). IsSpan xs c.self.inside.span.first c.self.inside.span.end) stay c.self.invariant.span;
     }

@@ -1,7 +1,7 @@
 -- Where it held none its counts are those of an empty buffer.
 use Rattle.std.proofs.Common.{◌≡◌, ◌∙◌, ap, ap₂, sym, subst, inl, length, Bool, List, ℤ}
 use Rattle.std.proofs.lemmas.Bool.{true≢false}
-use Rattle.mp_stamps.specs.Rows.{AreNumbered, PieceState, counts_held}
+use Rattle.mp_stamps.specs.Rows.{IsSpan, PieceState, counts_held}
 use Rattle.mp_stamps.proofs.piece.Piece.take_over.Goals as goal
 
 pub returns-then-is_unfilled : goal.returns-then-is_unfilled
@@ -17,5 +17,5 @@ invariant_of-self c =
       piece = inl (ap (λ (xs : List ℤ). length xs) c.requires.empty);
       room = λ _. c.requires.room;
       freed = λ e. absurd (true≢false (sym (ap (λ (p : PieceState). p.kept) c.self.view_is ∙ c.is_unfilled.ensures.kept c.if-is_unfilled.true) ∙ e));
-      counted = subst (λ (xs : List ℤ). AreNumbered xs c.self.inside.outstanding c.self.inside.first) same c.self.invariant.counted;
+      span = subst (λ (xs : List ℤ). IsSpan xs c.self.inside.span.first c.self.inside.span.end) same c.self.invariant.span;
     }

@@ -37,4 +37,4 @@ invariant_of-self c =
     let is : joined ps ≡ c.args.self.now.counts = ap (λ (r : RowState). r.counts) c.self.view_is in
     let few : c.args.count ≤ length ps = omega (arith, c.requires.count, ap (λ (xs : List ℤ). length xs) is, joined_length ps c.self.invariant.whole) in
     let more : c.self.inside.given ≤ c.args.count = search rules in
-    back_row ps _ c.self.inside.given c.args.count c.give_back_between.ensures c.self.inside.outstanding c.self.inside.first more few c.self.invariant
+    back_row ps _ c.self.inside.given c.args.count c.give_back_between.ensures c.self.inside.span.first c.self.inside.span.end more few c.self.invariant

@@ -1,6 +1,6 @@
-use Rattle.std.proofs.Common.{◌≡◌, ◌∙◌, ◌+◌, ◌*◌, ◌/◌, ◌≤◌, ◌^◌, ap, sym, subst, true, length, pos, replicate, ℕ, List, ℤ, rules, arith}
+use Rattle.std.proofs.Common.{◌≡◌, ◌∙◌, ◌+◌, ◌*◌, ◌/◌, ◌≤◌, ◌^◌, ap, true, length, pos, replicate, List, ℤ, rules, arith}
 use Rattle.std.proofs.lemmas.List.{length-replicate}
-use Rattle.mp_stamps.specs.Rows.{IsRow, PieceState, joined}
+use Rattle.mp_stamps.specs.Rows.{PieceState, joined}
 use Rattle.mp_stamps.proofs.Joined.{fresh_row, joined_fresh}
 use Rattle.mp_stamps.proofs.row.Row.zeros.Goals as goal
 
@@ -16,6 +16,6 @@ invariant_of-result c =
     let ps : List PieceState = c.in_ok-pieces.pieces.items in
     let made : ps ≡ replicate n (record { kept = true; counts = replicate 1024 (pos 0) }) = c.in_ok-pieces.ensures in
     let long : length ps ≡ n = ap (λ (qs : List PieceState). length qs) made ∙ length-replicate n _ in
-    let first : c.len-first.result ≡ n = search (long, rules) in
+    let first : c.no_span-span.result.first ≡ 1024 * n = search (long, rules) in
     let few : 1024 * n ≤ 2 ^ 63 = omega (arith, c.requires) in
-    subst (λ (qs : List PieceState). IsRow qs 0 0 c.len-first.result) (sym made) (subst (λ (k : ℕ). IsRow (replicate n (record { kept = true; counts = replicate 1024 (pos 0) })) 0 0 k) (sym first) (fresh_row n few))
+    rw (made, first, c.no_span-span.ensures.end) (fresh_row n few)
