@@ -8,5 +8,5 @@ use mp_names::{Loc, Pointstamp, Time};
 pub fn is_stamp(stamp: Pointstamp, loc: Loc, time: Time) -> bool
     ensures { result ≡ is_stamp loc time stamp }
 {
-    stamp.loc == loc && stamp.time == time
+    stamp.time == time && stamp.loc == loc
 }
