@@ -10,7 +10,7 @@ use Rattle.std.proofs.lemmas.List.{take-set, drop-set-lt, get_or-set_same}
 use Rattle.std.proofs.lemmas.List.Edits.{length-remove}
 use Rattle.std.proofs.lemmas.List.Elements.{All-cons, All-append, All-take, All-drop, All-set, All-push, All-get_or}
 use Rattle.mp_names.specs.Names.{is_before}
-use Rattle.mp_ordered.specs.Blocks.{AreBlocks, AreFilled, IsBlock, IsBlockFor, IsFilled, IsSpare, IsSplit, items_of, lacking, past_halves}
+use Rattle.mp_ordered.specs.Blocks.{AreBlocks, AreFilled, IsBlock, IsBlockFor, IsFilled, IsSpare, IsSplit, Row, items_of, lacking, past_halves}
 use Rattle.mp_ordered.specs.InOrder.{IsInOrder, put_in_order}
 use Rattle.mp_ordered.proofs.Placing.{length-put, pairs_without, put_keeps}
 use Rattle.mp_ordered.proofs.Blocked.{all_filled, put_in_block, without_item}
@@ -134,7 +134,7 @@ module _ {T Z : Type 0} where
   past_without (c ∷ bs) zero b l e = (omega (arith, ap length e), omega arith)
   past_without (c ∷ bs) (suc at) b l e = let rest = past_without bs at b (omega arith) e in (omega (arith, rest.0), omega arith)
 
-module _ {T Z : Type 0} (rank : T → List ℕ) (blocks spare : Vec (VecDeque T Z) Z) (len past room : ℕ) (are : AreBlocks rank blocks spare len past room) where
+module _ {T Z : Type 0} (rank : T → List ℕ) (blocks : Row T Z) (spare : Vec (VecDeque T Z) Z) (len past room : ℕ) (are : AreBlocks rank blocks spare len past room) where
   -- where there is room there is a block
   pub some_block : 0 < room → 0 < length blocks.items
   some_block l =
@@ -143,7 +143,7 @@ module _ {T Z : Type 0} (rank : T → List ℕ) (blocks spare : Vec (VecDeque T 
       (λ (o : (length blocks.items < 0) ⊎ (0 < length blocks.items)). ⊎_elim (λ (n : length blocks.items < 0). absurd (omega arith)) (λ (n : 0 < length blocks.items). n) o)
       (cases_order (length blocks.items) 0)
 
-  pub for_one : 0 < length spare.items → (at : ℕ) (b : VecDeque T Z) → length (set blocks.items at b) < vec_capacity blocks
+  pub for_one : 0 < length spare.items → (at : ℕ) (b : VecDeque T Z) → length (set blocks.items at b) < blocks.capacity
   for_one l at b = rw length-set (omega (arith, l, are.memory.for_blocks))
 
   -- as many are past halves as there are items, at the most
@@ -179,7 +179,7 @@ module _ {T Z : Type 0} (rank : T → List ℕ) (blocks spare : Vec (VecDeque T 
     block_memory = let low : 128 ≤ deque_capacity (get_or blocks.items at d) = (All-get_or IsBlock blocks.items at d here are.low).1 in omega (arith, low, memory)
 
     -- an item was put in a block that didn't get full by it
-    pub put_kept : (new : Vec (VecDeque T Z) Z) → new.items ≡ now → vec_capacity new ≡ vec_capacity blocks → length b.items < 128 → AreBlocks rank new spare (len + 1) now_past (room - 1)
+    pub put_kept : (new : Row T Z) → new.items ≡ now → new.capacity ≡ blocks.capacity → length b.items < 128 → AreBlocks rank new spare (len + 1) now_past (room - 1)
     put_kept new e same low =
         let length_is : length new.items ≡ length blocks.items = ap length e ∙ length-set blocks.items at b in
         record {
@@ -219,7 +219,7 @@ module _ {T Z : Type 0} (rank : T → List ℕ) (blocks spare : Vec (VecDeque T 
       half_past = let most = past_at now at b within in omega (arith, most, full_at b, put_past_is)
 
       -- and it was split
-      module _ (new left : Vec (VecDeque T Z) Z) (split : IsSplit at now new.items) (empty : All IsSpare left.items) (one_less : length spare.items ≡ length left.items + 1) (more : vec_capacity blocks ≤ vec_capacity new) (same : vec_capacity left ≡ vec_capacity spare) where
+      module _ (new : Row T Z) (left : Vec (VecDeque T Z) Z) (split : IsSplit at now new.items) (empty : All IsSpare left.items) (one_less : length spare.items ≡ length left.items + 1) (more : blocks.capacity ≤ new.capacity) (same : vec_capacity left ≡ vec_capacity spare) where
         pub split_items : items_of new.items ≡ put_in_order rank x (items_of blocks.items)
         split_items = ap items_of split.is ∙ items_two now at split.lower split.upper split.lower within split.items ∙ put_items
 
@@ -302,7 +302,7 @@ module _ {T Z : Type 0} (rank : T → List ℕ) (blocks spare : Vec (VecDeque T 
     low_block = let low : IsBlock (get_or blocks.items at d) = All-get_or IsBlock blocks.items at d here are.low in (omega (arith, low.0, one_less), omega (arith, low.1, same))
 
     module _ (left : ℕ) (few : len - 1 + left < 2 ^ 64) (enough : now_past + left ≤ 64 * length spare.items + lacking less) where
-      pub taken_kept : (new : Vec (VecDeque T Z) Z) → new.items ≡ less → vec_capacity new ≡ vec_capacity blocks → (length b.items ≡ 0 → length blocks.items ≤ 1) → AreBlocks rank new spare (len - 1) now_past left
+      pub taken_kept : (new : Row T Z) → new.items ≡ less → new.capacity ≡ blocks.capacity → (length b.items ≡ 0 → length blocks.items ≤ 1) → AreBlocks rank new spare (len - 1) now_past left
       taken_kept new e kept some =
           let length_is : length new.items ≡ length blocks.items = ap length e ∙ length-set blocks.items at b in
           record {
@@ -322,7 +322,7 @@ module _ {T Z : Type 0} (rank : T → List ℕ) (blocks spare : Vec (VecDeque T 
           }
 
       -- or its last one, and there are others
-      pub retired : (new more : Vec (VecDeque T Z) Z) → b.items ≡ [] → 1 < length blocks.items → new.items ≡ remove less at → more.items ≡ spare.items ++ b ∷ [] → vec_capacity new ≡ vec_capacity blocks → vec_capacity spare ≤ vec_capacity more
+      pub retired : (new : Row T Z) (more : Vec (VecDeque T Z) Z) → b.items ≡ [] → 1 < length blocks.items → new.items ≡ remove less at → more.items ≡ spare.items ++ b ∷ [] → new.capacity ≡ blocks.capacity → vec_capacity spare ≤ vec_capacity more
           → AreBlocks rank new more (len - 1) now_past left
       retired new more none others e f kept grown =
           let gone : items_of (remove less at) ≡ items_of less = items_without blocks.items at b here none in

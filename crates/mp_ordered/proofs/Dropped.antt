@@ -7,7 +7,7 @@ use Rattle.std.specs.VecDeque.{deque_capacity}
 use Rattle.std.proofs.lemmas.Bool.{cases_order}
 use Rattle.std.proofs.lemmas.List.Elements.{All-nil, All-cons, All-drop, All-get_or}
 use Rattle.mp_names.specs.Names.{is_before}
-use Rattle.mp_ordered.specs.Blocks.{AreBlocks, AreFilled, IsBlock, IsFilled, IsSpare, items_of, lacking, past_halves}
+use Rattle.mp_ordered.specs.Blocks.{AreBlocks, AreFilled, IsBlock, IsFilled, IsSpare, Row, items_of, lacking, past_halves}
 use Rattle.mp_ordered.specs.InOrder.{IsInOrder}
 use Rattle.mp_ordered.proofs.Placing.{pairs_drop}
 use Rattle.mp_ordered.proofs.Fronts.{items_from, past_from, room_of_front}
@@ -17,7 +17,7 @@ filled_behind : {T Z : Type 0} (bs : List (VecDeque T Z)) (at : ℕ) → AreFill
 filled_behind [] at f = All-nil IsFilled
 filled_behind (b ∷ bs) at f = All-drop IsFilled at bs f.1
 
-module _ {T Z : Type 0} (rank : T → List ℕ) (blocks spare : Vec (VecDeque T Z) Z) (len past room : ℕ) (are : AreBlocks rank blocks spare len past room)
+module _ {T Z : Type 0} (rank : T → List ℕ) (blocks : Row T Z) (spare : Vec (VecDeque T Z) Z) (len past room : ℕ) (are : AreBlocks rank blocks spare len past room)
     (count at place : ℕ) (b d : VecDeque T Z) (few : count ≤ length (items_of blocks.items)) (here : at < length blocks.items) (count_is : length (items_of (take at blocks.items)) + place ≡ count)
     (inside : place ≤ length (get_or blocks.items at d).items) (last : place ≡ length (get_or blocks.items at d).items → suc at ≡ length blocks.items)
     (is : b.items ≡ drop place (get_or blocks.items at d).items) (same : deque_capacity b ≡ deque_capacity (get_or blocks.items at d)) where
@@ -51,7 +51,7 @@ module _ {T Z : Type 0} (rank : T → List ℕ) (blocks spare : Vec (VecDeque T 
           (λ (o : (place < length (get_or blocks.items at d).items) ⊎ (length (get_or blocks.items at d).items < place)). ⊎_elim (λ (k : place < length (get_or blocks.items at d).items). omega (arith, block_count)) (λ (k : length (get_or blocks.items at d).items < place). absurd (omega (arith, inside))) o)
           (cases_order place (length (get_or blocks.items at d).items))
 
-  pub left_kept : (new more : Vec (VecDeque T Z) Z) (now_past : ℕ) → new.items ≡ left → All IsSpare more.items → length more.items ≡ length spare.items + at → vec_capacity new ≡ vec_capacity blocks → vec_capacity more ≡ vec_capacity spare
+  pub left_kept : (new : Row T Z) (more : Vec (VecDeque T Z) Z) (now_past : ℕ) → new.items ≡ left → All IsSpare more.items → length more.items ≡ length spare.items + at → new.capacity ≡ blocks.capacity → vec_capacity more ≡ vec_capacity spare
       → now_past + (length (get_or blocks.items at d).items - 64) ≡ past_halves (drop at blocks.items) + (length b.items - 64) → AreBlocks rank new more (len - count) now_past (room + count)
   left_kept new more now_past e empty more_is kept grown now_past_is =
       let length_is : length new.items + at ≡ length blocks.items = omega (arith, ap length e, left_length) in

@@ -10,13 +10,13 @@ use Rattle.std.specs.VecDeque.{deque_capacity}
 use Rattle.std.proofs.lemmas.List.{get_or-set_same, nil_from_length}
 use Rattle.std.proofs.lemmas.List.Elements.{All-get_or}
 use Rattle.std.proofs.lemmas.List.Sums.{prefix_len-le-length}
-use Rattle.mp_ordered.specs.Blocks.{AreBlocks, IsBlock, IsBlockFor, IsCutIn, IsSpare, IsSplit, items_of, lacking}
+use Rattle.mp_ordered.specs.Blocks.{AreBlocks, IsBlock, IsBlockFor, IsCutIn, IsSpare, IsSplit, Row, items_of, lacking}
 use Rattle.mp_ordered.specs.InOrder.{InOrder, put_in_order}
 use Rattle.mp_ordered.proofs.Placing.{length-put}
 use Rattle.mp_ordered.proofs.Blocked.{in_front_of, item_of_block, parted_block, some_there}
 use Rattle.mp_ordered.proofs.Changed.{half_past, items_without, less_items, past_least, put_items, put_kept, retired, room_kept, room_left, some_spare, split_items, split_kept, taken_kept}
 
-module _ {T Z : Type 0} (rank : T → List ℕ) {blocks spare : Vec (VecDeque T Z) Z} {len past room : ℕ} (are : AreBlocks rank blocks spare len past room) where
+module _ {T Z : Type 0} (rank : T → List ℕ) {blocks : Row T Z} {spare : Vec (VecDeque T Z) Z} {len past room : ℕ} (are : AreBlocks rank blocks spare len past room) where
   -- An item was put in a block, which has `n` items by that
   module _ (x : T) {at : ℕ} (index : ℕ) (b : VecDeque T Z) {d : VecDeque T Z} (some : 0 < room) (here : at < length blocks.items) (place : IsBlockFor rank x blocks.items at) (was : d ≡ get_or blocks.items at d)
       (put : insert (get_or blocks.items at d).items index x ≡ put_in_order rank x (get_or blocks.items at d).items) (is : b.items ≡ insert d.items index x) (memory : deque_capacity d ≤ deque_capacity b)
@@ -33,7 +33,7 @@ module _ {T Z : Type 0} (rank : T → List ℕ) {blocks spare : Vec (VecDeque T 
     pub now_put : items_of (set blocks.items at b) ≡ put_in_order rank x (items_of blocks.items)
     now_put = put_items rank blocks spare len past room are x at b d some here place is_there memory_there (past + (after - before)) past_there
 
-    pub kept_put : n ≢ 128 → (new : Vec (VecDeque T Z) Z) → new.items ≡ set blocks.items at b → vec_capacity new ≡ vec_capacity blocks → AreBlocks rank new spare (len + 1) (past + (after - before)) (room - 1)
+    pub kept_put : n ≢ 128 → (new : Row T Z) → new.items ≡ set blocks.items at b → new.capacity ≡ blocks.capacity → AreBlocks rank new spare (len + 1) (past + (after - before)) (room - 1)
     kept_put ne new e same =
         let low : length (get_or blocks.items at d).items < 128 = (All-get_or IsBlock blocks.items at d here are.low).0 in
         let more : length b.items ≡ length (get_or blocks.items at d).items + 1 = ap length is_there ∙ length-put rank x (get_or blocks.items at d).items in
@@ -51,7 +51,7 @@ module _ {T Z : Type 0} (rank : T → List ℕ) {blocks spare : Vec (VecDeque T 
       half_there = half_past rank blocks spare len past room are x at b d some here place is_there memory_there (past + (after - before)) past_there is_full
 
       -- so it was split
-      module _ (new left : Vec (VecDeque T Z) Z) (split : IsSplit at (set blocks.items at b) new.items) (empty : All IsSpare left.items) (one_less : length spare.items ≡ length left.items + 1) (more : vec_capacity blocks ≤ vec_capacity new) (same : vec_capacity left ≡ vec_capacity spare) where
+      module _ (new : Row T Z) (left : Vec (VecDeque T Z) Z) (split : IsSplit at (set blocks.items at b) new.items) (empty : All IsSpare left.items) (one_less : length spare.items ≡ length left.items + 1) (more : blocks.capacity ≤ new.capacity) (same : vec_capacity left ≡ vec_capacity spare) where
         pub now_split : items_of new.items ≡ put_in_order rank x (items_of blocks.items)
         now_split = split_items rank blocks spare len past room are x at b d some here place is_there memory_there (past + (after - before)) past_there is_full new left split empty one_less more same
 
@@ -88,13 +88,13 @@ module _ {T Z : Type 0} (rank : T → List ℕ) {blocks spare : Vec (VecDeque T 
       more_room = room_left rank blocks spare len past room are at place b d here in_there left_there same_there (past - (before - after)) past_left
 
       module _ {left : ℕ} (few : len - 1 + left < 2 ^ 64) (enough : past - (before - after) + left ≤ 64 * length spare.items + lacking (set blocks.items at b)) where
-        pub kept_less : (n ≡ 0 → length blocks.items ≤ 1) → (new : Vec (VecDeque T Z) Z) → new.items ≡ set blocks.items at b → vec_capacity new ≡ vec_capacity blocks → AreBlocks rank new spare (len - 1) (past - (before - after)) left
+        pub kept_less : (n ≡ 0 → length blocks.items ≤ 1) → (new : Row T Z) → new.items ≡ set blocks.items at b → new.capacity ≡ blocks.capacity → AreBlocks rank new spare (len - 1) (past - (before - after)) left
         kept_less alone new e kept =
             taken_kept rank blocks spare len past room are at place b d here in_there left_there same_there (past - (before - after)) past_left left few enough new e kept (λ z. alone (count ∙ z))
 
         -- or the block is a spare one
-        pub kept_retired : n ≡ 0 → 1 < length blocks.items → (new more : Vec (VecDeque T Z) Z) → new.items ≡ remove (set blocks.items at b) at
-            → more.items ≡ spare.items ++ get_or (set blocks.items at b) at b ∷ [] → vec_capacity new ≡ vec_capacity blocks → vec_capacity spare ≤ vec_capacity more → AreBlocks rank new more (len - 1) (past - (before - after)) left
+        pub kept_retired : n ≡ 0 → 1 < length blocks.items → (new : Row T Z) (more : Vec (VecDeque T Z) Z) → new.items ≡ remove (set blocks.items at b) at
+            → more.items ≡ spare.items ++ get_or (set blocks.items at b) at b ∷ [] → new.capacity ≡ blocks.capacity → vec_capacity spare ≤ vec_capacity more → AreBlocks rank new more (len - 1) (past - (before - after)) left
         kept_retired none others new more e f kept grown =
             retired rank blocks spare len past room are at place b d here in_there left_there same_there (past - (before - after)) past_left left few enough new more
             (nil_from_length b.items (sym count ∙ none)) others e (f ∙ ap (λ v. spare.items ++ v ∷ []) (get_or-set_same blocks.items at b b here)) kept grown

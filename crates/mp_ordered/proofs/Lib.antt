@@ -7,3 +7,4 @@ mod Halving
 mod Nearest
 pub mod Placed
 pub mod Placing
+mod Rows

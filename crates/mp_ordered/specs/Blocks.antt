@@ -12,7 +12,16 @@ use Rattle.mp_ordered.specs.InOrder.{IsInOrder, begins}
 abbrev pub begins_before : {T : Type 0} → (T → List ℕ) → T → List T → Bool
 begins_before rank x ys = begins (λ y. is_before (rank y) (rank x)) ys
 
+-- blocks one after the other, in a list with memory for so many
+pub record Row (T Z : Type 0) : Type 0 where
+  pub items : List (VecDeque T Z)
+  pub capacity : ℕ
+
 module _ {T Z : Type 0} where
+  -- the blocks of a list of which the first ones are gone
+  abbrev pub row_of : Vec (VecDeque T Z) Z → ℕ → Row T Z
+  row_of blocks gone = record { items = drop gone blocks.items; capacity = vec_capacity blocks }
+
   -- the items of all blocks
   abbrev pub items_of : List (VecDeque T Z) → List T
   items_of blocks = flat_map (λ b. b.items) blocks
@@ -64,15 +73,15 @@ module _ {T Z : Type 0} where
     pub memory : (deque_capacity (get_or old at lower) ≤ deque_capacity lower) × (128 ≤ deque_capacity upper)
 
   -- the spare blocks have no items and there are none without other blocks, and each of the two lists has memory for all blocks
-  pub record HasMemory (blocks spare : Vec (VecDeque T Z) Z) : Type 0 where
+  pub record HasMemory (blocks : Row T Z) (spare : Vec (VecDeque T Z) Z) : Type 0 where
     pub empty : All IsSpare spare.items
     pub none : length blocks.items ≡ 0 → length spare.items ≡ 0
-    pub for_blocks : length blocks.items + length spare.items ≤ vec_capacity blocks
+    pub for_blocks : length blocks.items + length spare.items ≤ blocks.capacity
     pub for_spare : length blocks.items + length spare.items ≤ vec_capacity spare
 
   -- Blocks of so many items in order, with spare ones, so that there is room for so many more items. A block is split when 64
   -- of its items are past its half, and what the first block lacks may come back to it
-  pub record AreBlocks (rank : T → List ℕ) (blocks spare : Vec (VecDeque T Z) Z) (len past room : ℕ) : Type 0 where
+  pub record AreBlocks (rank : T → List ℕ) (blocks : Row T Z) (spare : Vec (VecDeque T Z) Z) (len past room : ℕ) : Type 0 where
     pub order : IsInOrder rank (items_of blocks.items)
     pub low : All IsBlock blocks.items
     pub filled : AreFilled blocks.items

@@ -1,5 +1,5 @@
 //! Blocks of items, each a ring with memory for 128 and with fewer items.
-ghost use Rattle.std.specs.Prelude.{◌≡◌, ◌≤◌, ◌<◌, ◌+◌, ◌-◌, ◌⊎◌, ◌++◌, ◌∷◌, [], All, get_or, length, slice_get, take, IfNone, IfOk, IfSome, IsTrue, OnErr, OnOk, Some, true};
+ghost use Rattle.std.specs.Prelude.{◌≡◌, ◌≤◌, ◌<◌, ◌+◌, ◌-◌, ◌⊎◌, ◌++◌, ◌∷◌, [], All, drop, get_or, length, slice_get, take, IfNone, IfOk, IfSome, IsTrue, OnErr, OnOk, Some, true};
 ghost use Rattle.std.specs.List.{insert, prefix_len, remove};
 ghost use Rattle.std.specs.List.Sorted.{IsPartitionedBy};
 ghost use Rattle.std.specs.declared.collections.VecDeque.{VecDeque};
@@ -7,7 +7,7 @@ ghost use Rattle.std.specs.Vec.{vec_capacity};
 ghost use Rattle.std.specs.VecDeque.{deque_capacity};
 ghost use Rattle.std.specs.declared.alloc.Global.{Global};
 ghost use Rattle.mp_names.specs.Names.{is_before};
-ghost use Rattle.mp_ordered.specs.Blocks.{AreFilled, HasMemory, IsCutIn, IsSpare, IsSplit, begins_before, items_of};
+ghost use Rattle.mp_ordered.specs.Blocks.{AreFilled, HasMemory, IsCutIn, IsSpare, IsSplit, begins_before, items_of, row_of};
 ghost use Rattle.mp_ordered.specs.InOrder.{IsInOrder, begins, put_in_order};
 
 use crate::cut::{Before, Cut};
@@ -114,10 +114,10 @@ pub fn item_from<T>(blocks: &[VecDeque<T>], at: usize, place: usize) -> Option<&
 }
 
 /// The items of all blocks, one block after the other. `AllocError`: no memory.
-pub fn copied<T: Copy + Drop>(blocks: &Vec<VecDeque<T>>) -> Result<Vec<T>, AllocError>
-    ensures { IfOk result (λ v. v.items ≡ items_of blocks.now.items) }
+pub fn copied<T: Copy + Drop>(alloc: Global, blocks: &[VecDeque<T>]) -> Result<Vec<T>, AllocError>
+    ensures { IfOk result (λ v. v.items ≡ items_of blocks.now) }
 {
-    let mut items = Vec::new(*blocks.allocator());
+    let mut items = Vec::new(alloc);
     for block in blocks {
         let (front, back) = block.as_slices();
         items.extend_from_slice(front)?;
@@ -227,36 +227,46 @@ pub fn retire<T: Drop>(blocks: &mut Vec<VecDeque<T>>, spare: &mut Vec<VecDeque<T
 /// Makes blocks, until there are `wanted` with the spare ones. `AllocError`: no memory, and there may be some more.
 pub fn have_blocks<T: Drop>(
     blocks: &mut Vec<VecDeque<T>>,
+    gone: usize,
     spare: &mut Vec<VecDeque<T>>,
     wanted: usize,
 ) -> Result<(), AllocError>
     requires some { 0 < wanted }
-    requires are { HasMemory blocks.old spare.old }
-    ensures are { HasMemory blocks.new spare.new }
-    ensures same { (blocks.new.items ≡ blocks.old.items) ⊎ ((blocks.old.items ≡ []) × ((b : VecDeque T Global) × (IsSpare b × (blocks.new.items ≡ b ∷ [])))) }
-    ensures no_less { length blocks.old.items + length spare.old.items ≤ length blocks.new.items + length spare.new.items }
-    ensures wanted { OnOk result (wanted ≤ length blocks.new.items + length spare.new.items) }
+    requires gone { gone ≤ length blocks.old.items }
+    requires are { HasMemory (row_of blocks.old gone) spare.old }
+    ensures gone { gone ≤ length blocks.new.items }
+    ensures are { HasMemory (row_of blocks.new gone) spare.new }
+    ensures same { (drop gone blocks.new.items ≡ drop gone blocks.old.items)
+        ⊎ ((drop gone blocks.old.items ≡ []) × ((b : VecDeque T Global) × (IsSpare b × (drop gone blocks.new.items ≡ b ∷ [])))) }
+    ensures no_less { length (drop gone blocks.old.items) + length spare.old.items ≤ length (drop gone blocks.new.items) + length spare.new.items }
+    ensures wanted { OnOk result (wanted ≤ length (drop gone blocks.new.items) + length spare.new.items) }
 {
     let alloc = *blocks.allocator();
-    let have = blocks.len() + spare.len();
-    if wanted <= have {
+    let used = blocks.len() - gone;
+    if wanted <= used + spare.len() {
         return Ok(());
     }
-    blocks.reserve(wanted - blocks.len())?;
+    blocks.reserve(wanted - used)?;
     spare.reserve(wanted - spare.len())?;
-    have_first(alloc, blocks)?;
-    add_spare(alloc, spare, wanted - blocks.len())
+    have_first(alloc, blocks, gone)?;
+    add_spare(alloc, spare, wanted - (blocks.len() - gone))
 }
 
 // Makes the first block, where there is none. `AllocError`: no memory, and nothing changes.
-fn have_first<T: Drop>(alloc: Global, blocks: &mut Vec<VecDeque<T>>) -> Result<(), AllocError>
-    requires memory { 0 < vec_capacity blocks.old }
-    ensures some { OnOk result (0 < length blocks.new.items) }
-    ensures same { (blocks.new.items ≡ blocks.old.items) ⊎ ((blocks.old.items ≡ []) × ((b : VecDeque T Global) × (IsSpare b × (blocks.new.items ≡ b ∷ [])))) }
+fn have_first<T: Drop>(
+    alloc: Global,
+    blocks: &mut Vec<VecDeque<T>>,
+    gone: usize,
+) -> Result<(), AllocError>
+    requires gone { gone ≤ length blocks.old.items }
+    requires memory { length blocks.old.items < vec_capacity blocks.old }
+    ensures some { OnOk result (gone < length blocks.new.items) }
+    ensures same { (blocks.new.items ≡ blocks.old.items)
+        ⊎ ((drop gone blocks.old.items ≡ []) × ((b : VecDeque T Global) × (IsSpare b × (drop gone blocks.new.items ≡ b ∷ [])))) }
     ensures memory { vec_capacity blocks.new ≡ vec_capacity blocks.old }
     ensures unchanged { OnErr result (blocks.new ≡ blocks.old) }
 {
-    if blocks.is_empty() {
+    if blocks.len() == gone {
         blocks.push_reserved(VecDeque::with_capacity(alloc, FULL)?);
     }
     Ok(())

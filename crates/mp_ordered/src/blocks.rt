@@ -8,12 +8,13 @@ ghost use Rattle.mp_ordered.specs.InOrder.{GoesBack, IsInOrder, first_from, put_
 use crate::among::{block_of, spot_of};
 use crate::block::{
     FULL, copied, cut_block, cut_in, have_blocks, item_at, item_from, past_half, place_in, put_in,
-    retire, split, take_at, take_first,
+    retire, take_at, take_first,
 };
 use crate::cut::Cut;
 use crate::front::{count_of, cut_near, drop_front, end_of, retire_first};
 use crate::hinted::{Spot, last_hinted, last_searched};
 use crate::order::Order;
+use crate::row::{split_used, take_front, used};
 use std::alloc::{AllocError, Global};
 use std::cell::Cell;
 use std::collections::VecDeque;
@@ -28,6 +29,8 @@ use std::marker::{Model, PhantomData};
 #[derive(Drop)]
 pub struct OrderedBlocks<T, O: Order<T>> {
     blocks: Vec<VecDeque<T>>,
+    // So many of the blocks, the first ones, are no longer used.
+    gone: usize,
     spare: Vec<VecDeque<T>>,
     len: usize,
     // How many items are more than half of their block, each block for itself.
@@ -37,14 +40,16 @@ pub struct OrderedBlocks<T, O: Order<T>> {
 }
 
 impl<T, O: Order<T>> Model for OrderedBlocks<T, O> {
-    ghost use Rattle.mp_ordered.specs.Blocks.{AreBlocks, items_of};
+    ghost use Rattle.std.specs.Prelude.{◌≤◌, drop, length};
+    ghost use Rattle.mp_ordered.specs.Blocks.{AreBlocks, items_of, row_of};
     ghost use Rattle.mp_ordered.specs.InOrder.{InOrder};
 
     ghost Value = { InOrder T };
 
-    ghost view = { λ o. record { items = items_of o.blocks.items; room = o.room } };
+    ghost view = { λ o. record { items = items_of (drop o.gone o.blocks.items); room = o.room } };
 
-    ghost invariant = { λ o. AreBlocks O.rank o.blocks o.spare o.len o.past o.room };
+    ghost invariant = { λ o. (o.gone ≤ length o.blocks.items)
+        × AreBlocks O.rank (row_of o.blocks o.gone) o.spare o.len o.past o.room };
 }
 
 impl<T: Drop, O: Order<T>> OrderedBlocks<T, O> {
@@ -55,6 +60,7 @@ impl<T: Drop, O: Order<T>> OrderedBlocks<T, O> {
     {
         OrderedBlocks {
             blocks: Vec::new(alloc),
+            gone: 0,
             spare: Vec::new(alloc),
             len: 0,
             past: 0,
@@ -100,8 +106,8 @@ impl<T: Drop, O: Order<T>> OrderedBlocks<T, O> {
         if count > usize::MAX - self.len {
             return Err(AllocError);
         }
-        let wanted = self.blocks.len() + (self.past + count) / (FULL / 2) + 1;
-        have_blocks(&mut self.blocks, &mut self.spare, wanted)?;
+        let wanted = self.blocks.len() - self.gone + (self.past + count) / (FULL / 2) + 1;
+        have_blocks(&mut self.blocks, self.gone, &mut self.spare, wanted)?;
         self.room = count;
         Ok(())
     }
@@ -127,15 +133,15 @@ impl<T: Drop, O: Order<T>> OrderedBlocks<T, O> {
         ensures put { self.new.items ≡ put_in_order O.rank item self.old.items }
         ensures room { self.old.room ≡ self.new.room + 1 }
     {
-        let Spot { block: at, place } = spot_of::<T, O>(&self.blocks, &item);
-        let block = &mut self.blocks[at];
+        let Spot { block: at, place } = spot_of::<T, O>(used(&self.blocks, self.gone), &item);
+        let block = &mut self.blocks[self.gone + at];
         put_in(block, place, item);
         let count = block.len();
         self.len += 1;
         self.room -= 1;
         self.past += past_half(count) - past_half(count - 1);
         if count == FULL {
-            split(&mut self.blocks, &mut self.spare, at);
+            split_used(&mut self.blocks, &mut self.gone, &mut self.spare, at);
             self.past -= FULL / 2;
         }
     }
@@ -147,7 +153,7 @@ impl<T: Drop, O: Order<T>> OrderedBlocks<T, O> {
         ensures in_order { IsInOrder O.rank self.now.items }
         ensures goes_back { GoesBack O.rank }
     {
-        self.blocks.first()?.front()
+        used(&self.blocks, self.gone).first()?.front()
     }
 
     /// The first item that doesn't come before another one; `None` exactly where there is none.
@@ -155,11 +161,12 @@ impl<T: Drop, O: Order<T>> OrderedBlocks<T, O> {
         ensures some { IfSome result (λ x. first_from O.rank item.now self.now.items ≡ Some x.now) }
         ensures none { IfNone result (first_from O.rank item.now self.now.items ≡ None) }
     {
-        if self.blocks.is_empty() {
+        let blocks = used(&self.blocks, self.gone);
+        if blocks.is_empty() {
             return None;
         }
-        let at = block_of::<T, O>(&self.blocks, item);
-        item_from(&self.blocks, at, place_in::<T, O>(&self.blocks[at], item))
+        let at = block_of::<T, O>(blocks, item);
+        item_from(blocks, at, place_in::<T, O>(&blocks[at], item))
     }
 
     /// The item at an index, from 0 in order; `None` exactly where there are no more. Goes from block to block.
@@ -167,7 +174,7 @@ impl<T: Drop, O: Order<T>> OrderedBlocks<T, O> {
         ensures some { IfSome result (λ x. slice_get self.now.items index ≡ Some x.now) }
         ensures none { IfNone result (length self.now.items ≤ index) }
     {
-        item_at(&self.blocks, index)
+        item_at(used(&self.blocks, self.gone), index)
     }
 
     /// Takes out the first item; `None` exactly where there is none. It leaves its room, so `insert` takes it back
@@ -181,14 +188,15 @@ impl<T: Drop, O: Order<T>> OrderedBlocks<T, O> {
         if self.len == 0 {
             return None;
         }
-        let block = &mut self.blocks[0];
+        let block = &mut self.blocks[self.gone];
         let item = take_first(block);
         let count = block.len();
         self.len -= 1;
         self.past -= past_half(count + 1) - past_half(count);
         self.room += 1;
-        if count == 0 && self.blocks.len() > 1 {
-            retire(&mut self.blocks, &mut self.spare, 0);
+        if count == 0 && self.blocks.len() - self.gone > 1 {
+            let empty = take_front(&mut self.blocks, &mut self.gone);
+            self.spare.push_reserved(empty);
         }
         Some(item)
     }
@@ -202,9 +210,15 @@ impl<T: Drop, O: Order<T>> OrderedBlocks<T, O> {
         if count == 0 {
             return;
         }
-        let (at, place) = end_of(&self.blocks, count);
-        self.past = retire_first(&mut self.blocks, &mut self.spare, at, self.past);
-        let block = &mut self.blocks[0];
+        let (at, place) = end_of(used(&self.blocks, self.gone), count);
+        self.past = retire_first(
+            &mut self.blocks,
+            &mut self.gone,
+            &mut self.spare,
+            at,
+            self.past,
+        );
+        let block = &mut self.blocks[self.gone];
         let len = block.len();
         drop_front(block, place);
         self.past -= past_half(len) - past_half(len - place);
@@ -218,7 +232,7 @@ impl<T: Drop, O: Order<T>> OrderedBlocks<T, O> {
         ensures in_order { IsInOrder O.rank self.now.items }
         ensures few { length self.now.items < 2 ^ 64 }
     {
-        &self.blocks
+        used(&self.blocks, self.gone)
     }
 
     /// How many items stand in front of a cut. Goes from block to block: the first ones are asked first.
@@ -226,11 +240,12 @@ impl<T: Drop, O: Order<T>> OrderedBlocks<T, O> {
         requires { IsPartitionedBy (C.front cut.now) self.now.items }
         ensures { result ≡ prefix_len (C.front cut.now) self.now.items }
     {
-        if self.blocks.is_empty() {
+        let blocks = used(&self.blocks, self.gone);
+        if blocks.is_empty() {
             return 0;
         }
-        let at = cut_block(&self.blocks, cut);
-        count_of(&self.blocks[..at]) + cut_near(&self.blocks[at], cut)
+        let at = cut_block(blocks, cut);
+        count_of(&blocks[..at]) + cut_near(&blocks[at], cut)
     }
 
     /// The last item in front of a cut; `None` exactly where there is none.
@@ -240,7 +255,11 @@ impl<T: Drop, O: Order<T>> OrderedBlocks<T, O> {
         ensures some_in_front { IfSome result (λ x. 0 < prefix_len (C.front cut.now) self.now.items) }
         ensures none { IfNone result (prefix_len (C.front cut.now) self.now.items ≡ 0) }
     {
-        last_searched(&self.blocks, cut, &Cell::new(Spot { block: 0, place: 0 }))
+        last_searched(
+            used(&self.blocks, self.gone),
+            cut,
+            &Cell::new(Spot { block: 0, place: 0 }),
+        )
     }
 
     /// The last item in front of a cut; `None` exactly where there is none. `hint` is where an earlier look ended, or any
@@ -251,7 +270,7 @@ impl<T: Drop, O: Order<T>> OrderedBlocks<T, O> {
         ensures some_in_front { IfSome result (λ x. 0 < prefix_len (C.front cut.now) self.now.items) }
         ensures none { IfNone result (prefix_len (C.front cut.now) self.now.items ≡ 0) }
     {
-        last_hinted(&self.blocks, cut, hint)
+        last_hinted(used(&self.blocks, self.gone), cut, hint)
     }
 
     /// The first item behind a cut; `None` exactly where there is none.
@@ -260,11 +279,12 @@ impl<T: Drop, O: Order<T>> OrderedBlocks<T, O> {
         ensures some { IfSome result (λ x. slice_get self.now.items (prefix_len (C.front cut.now) self.now.items) ≡ Some x.now) }
         ensures none { IfNone result (length self.now.items ≡ prefix_len (C.front cut.now) self.now.items) }
     {
-        if self.blocks.is_empty() {
+        let blocks = used(&self.blocks, self.gone);
+        if blocks.is_empty() {
             return None;
         }
-        let at = cut_block(&self.blocks, cut);
-        item_from(&self.blocks, at, cut_in(&self.blocks[at], cut))
+        let at = cut_block(blocks, cut);
+        item_from(blocks, at, cut_in(&blocks[at], cut))
     }
 
     /// Takes out the last item in front of a cut. It doesn't leave its room.
@@ -275,15 +295,15 @@ impl<T: Drop, O: Order<T>> OrderedBlocks<T, O> {
         ensures items { self.new.items ≡ remove self.old.items (prefix_len (C.front cut.now) self.old.items - 1) }
         ensures room { self.new.room ≡ self.old.room }
     {
-        let at = cut_block(&self.blocks, cut);
-        let block = &mut self.blocks[at];
+        let at = cut_block(used(&self.blocks, self.gone), cut);
+        let block = &mut self.blocks[self.gone + at];
         let place = cut_in(block, cut) - 1;
         let item = take_at(block, place);
         let count = block.len();
         self.len -= 1;
         self.past -= past_half(count + 1) - past_half(count);
-        if count == 0 && self.blocks.len() > 1 {
-            retire(&mut self.blocks, &mut self.spare, at);
+        if count == 0 && self.blocks.len() - self.gone > 1 {
+            retire(&mut self.blocks, &mut self.spare, self.gone + at);
         }
         item
     }
@@ -294,6 +314,6 @@ impl<T: Copy + Drop, O: Order<T>> OrderedBlocks<T, O> {
     pub fn to_vec(&self) -> Result<Vec<T>, AllocError>
         ensures { IfOk result (λ v. v.items ≡ self.now.items) }
     {
-        copied(&self.blocks)
+        copied(*self.blocks.allocator(), used(&self.blocks, self.gone))
     }
 }

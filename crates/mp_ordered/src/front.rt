@@ -10,6 +10,7 @@ ghost use Rattle.mp_ordered.specs.Blocks.{IsBlock, IsSpare, items_of, past_halve
 
 use crate::block::{cut_in, past_half};
 use crate::cut::Cut;
+use crate::row::take_front;
 use std::collections::VecDeque;
 
 // So many items are asked before others are searched.
@@ -66,28 +67,28 @@ pub fn end_of<T>(blocks: &[VecDeque<T>], count: usize) -> (usize, usize)
 /// block for itself.
 pub fn retire_first<T: Drop>(
     blocks: &mut Vec<VecDeque<T>>,
+    gone: &mut usize,
     spare: &mut Vec<VecDeque<T>>,
     count: usize,
     past: usize,
 ) -> usize
-    requires inside { count ≤ length blocks.old.items }
-    requires low { All IsBlock blocks.old.items }
+    requires gone { gone.old ≤ length blocks.old.items }
+    requires inside { count ≤ length (drop gone.old blocks.old.items) }
+    requires low { All IsBlock (drop gone.old blocks.old.items) }
     requires empty { All IsSpare spare.old.items }
-    requires past { past ≡ past_halves blocks.old.items }
+    requires past { past ≡ past_halves (drop gone.old blocks.old.items) }
     requires memory { length spare.old.items + count ≤ vec_capacity spare.old }
-    ensures blocks { blocks.new.items ≡ drop count blocks.old.items }
+    ensures gone { gone.new ≤ length blocks.new.items }
+    ensures blocks { drop gone.new blocks.new.items ≡ drop count (drop gone.old blocks.old.items) }
     ensures empty { All IsSpare spare.new.items }
     ensures more { length spare.new.items ≡ length spare.old.items + count }
-    ensures past { result ≡ past_halves blocks.new.items }
+    ensures past { result ≡ past_halves (drop gone.new blocks.new.items) }
     ensures memory { (vec_capacity blocks.new ≡ vec_capacity blocks.old)
         × (vec_capacity spare.new ≡ vec_capacity spare.old) }
 {
-    blocks.rotate_left(count);
     let mut left = past;
     for _retired in 0..count {
-        let Some(mut block) = blocks.pop() else {
-            unreachable!()
-        };
+        let mut block = take_front(blocks, gone);
         left -= past_half(block.len());
         block.clear();
         spare.push_reserved(block);

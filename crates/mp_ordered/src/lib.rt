@@ -10,6 +10,7 @@ mod cut;
 mod front;
 mod hinted;
 mod order;
+mod row;
 mod search;
 
 pub use blocks::OrderedBlocks;

@@ -4,4 +4,4 @@ use Rattle.mp_ordered.specs.Blocks.{items_of}
 use Rattle.mp_ordered.proofs.block.copied.Given as goal
 
 abbrev pub invariant-loop-block : goal.invariant-loop-block
-invariant-loop-block g l = l.items.items ≡ items_of (take l.block-index l.blocks.items)
+invariant-loop-block g l = l.items.items ≡ items_of (take l.block-index l.blocks)

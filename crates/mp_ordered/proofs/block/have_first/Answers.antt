@@ -1,11 +1,11 @@
-use Rattle.std.proofs.Common.{[], ◌∷◌, ◌++◌, ◌∙◌, ap, sym, inr, arith}
-use Rattle.std.proofs.lemmas.Bool.{eqb-true}
-use Rattle.std.proofs.lemmas.List.{nil_from_length}
+use Rattle.std.proofs.Common.{◌∙◌, ap, drop, inr, arith}
+use Rattle.mp_ordered.proofs.Rows.{all_gone, one_behind}
 use Rattle.mp_ordered.proofs.block.have_first.Goals as goal
 
 pub returns-in_ok-with_capacity-clause-same : goal.returns-in_ok-with_capacity-clause-same
 returns-in_ok-with_capacity-clause-same g c =
-    let empty = eqb-true _ 0 (sym c.is_empty.ensures ∙ c.if-is_empty.true) in
-    let none = nil_from_length c.args.blocks.now.items (omega (arith, empty, c.args.blocks.now.ok.0)) in
+    let bs = c.args.blocks.now.items in
+    let n = c.args.gone in
     let b = c.in_ok-with_capacity.field-0 in
-    inr (none, (b, ((c.in_ok-with_capacity.ensures.items, omega (arith, c.in_ok-with_capacity.ensures.capacity)), c.push_reserved.ensures.items ∙ ap (λ bs. bs ++ b ∷ []) none)))
+    let end = c.args.blocks.now.ok.0 in
+    inr (all_gone bs n (omega (arith, end, c.len.ensures, c.if-len-gone.true)), (b, ((c.in_ok-with_capacity.ensures.items, omega (arith, c.in_ok-with_capacity.ensures.capacity)), ap (λ v. drop n v) c.push_reserved.ensures.items ∙ one_behind bs n b (omega (arith, end, c.len.ensures, c.if-len-gone.true)))))
