@@ -43,7 +43,7 @@ ordered-reordered ws vs moved =
     ))
 
 module _ (eq : ℕ × ℕ → ℕ × ℕ → Bool) (exact : (v w : ℕ × ℕ) → eq v w ≡ eq_by_cmp wake_cmp v w) where
-  none_equal : (w : ℕ × ℕ) (ws : List (ℕ × ℕ)) → AllByRecursion (λ v. eq w v ≡ false) ws → list_any (eq_by_cmp wake_cmp w) ws ≡ false
+  pub none_equal : (w : ℕ × ℕ) (ws : List (ℕ × ℕ)) → AllByRecursion (λ v. eq w v ≡ false) ws → list_any (eq_by_cmp wake_cmp w) ws ≡ false
   none_equal w [] h = refl
   none_equal w (v ∷ vs) h = rw (sym (exact w v) ∙ h.0, none_equal w vs h.1) refl
 

@@ -2,18 +2,18 @@
 use Rattle.std.proofs.Common.{◌≡◌, ◌⊎◌, ℕ, zero, suc, ◌<◌, ◌≤◌, ◌+◌, ◌/◌, Bool, true, false, not, List, [], ◌∷◌, Option, None, Some, IfSome, IsSome, OnSome, IsPermutation, Contains, cond, drop, length, get_or, slice_get, slice_index_or, refl, sym, ap, ◌∙◌, subst, inl, inr, ⊎_elim, arith}
 use Rattle.std.proofs.lemmas.Bool.{false≢true}
 use Rattle.std.proofs.lemmas.Cmp.{tied_itself}
-use Rattle.std.proofs.lemmas.List.Sorted.{Contains-permutation, IsPermutation-sym}
-use Rattle.std.proofs.lemmas.Map.Keys.{sorted_head}
+use Rattle.std.proofs.lemmas.List.Sorted.{Contains-permutation, IsPermutation-remove, IsPermutation-sym, length_permutation}
+use Rattle.std.proofs.lemmas.Map.Keys.{IsDistinct-head, IsDistinct-tail, sorted_head}
 use Rattle.std.specs.BinaryHeap.{IsHeap, IsUpperBound, PopsGreatest, lt_by_cmp}
 use Rattle.std.specs.Bool.{OnFalse}
-use Rattle.std.specs.List.{AllByRecursion, list_any}
+use Rattle.std.specs.List.{AllByRecursion, IsDistinct, list_any, remove}
 use Rattle.std.specs.List.Sorted.{IsStrictlySortedBy}
 use Rattle.std.specs.Ordering.{eq_by_cmp, is_eq, is_lt}
 use Rattle.std.specs.Set.{remove_key}
 use Rattle.std.specs.declared.cmp.Ordering.TheVariants.{Less}
 use Rattle.std.specs.declared.cmp.Reverse.{Reverse}
-use Rattle.mp_postdated.proofs.Membership.{remove_key-is_without_wake, wake_cmp-total}
-use Rattle.mp_postdated.proofs.Ordered.{Finds, has-ordered, has_found, has_in, has_out, is_ordered, same_pair, same_parts}
+use Rattle.mp_postdated.proofs.Membership.{has-by_search, remove_key-is_without_wake, wake_cmp-total}
+use Rattle.mp_postdated.proofs.Ordered.{Finds, has-ordered, has_found, has_in, has_out, is_ordered, none_equal, same_pair, same_pair-exact, same_parts}
 use Rattle.mp_postdated.specs.Wakes.{AreQueued, BeginsLive, ComesNoLater, Has, IsAscending, IsQueueOf, IsWake, ordered, queue_cmp, reversed, wake_cmp, without_wake}
 
 -- two neither of which comes later are the same
@@ -41,7 +41,46 @@ none_of : {X : Type 0} (xs : List X) → length xs ≤ 0 → xs ≡ []
 none_of [] l = refl
 none_of (x ∷ xs) l = absurd (omega arith)
 
+-- a wake is not among those that it is distinct from
+not_again : (w : ℕ × ℕ) (ws : List (ℕ × ℕ)) → IsDistinct same_pair (w ∷ ws) → Contains ws w → ⊥
+not_again w ws d i = false≢true (sym (none_equal same_pair same_pair-exact w ws (IsDistinct-head same_pair w ws d)) ∙ (has-by_search ws w.0 w.1).1 i)
+
+-- the others are queued where one is taken out of the queue
+others_queued : (w : ℕ × ℕ) (ws : List (ℕ × ℕ)) (queue rest : List (Reverse (ℕ × ℕ))) → IsDistinct same_pair (w ∷ ws) → IsPermutation queue (reversed w ∷ rest) → AreQueued (w ∷ ws) queue → AreQueued ws rest
+others_queued w ws queue rest d moved all v there =
+    ⊎_elim
+    (λ (e : reversed w ≡ reversed v). absurd (not_again w ws d (subst (λ (r : Reverse (ℕ × ℕ)). Contains ws r.0) (sym e) there)))
+    (λ (i : Contains rest (reversed v)). i)
+    (cases_in (reversed w) (reversed v) rest (Contains-permutation queue (reversed w ∷ rest) (reversed v) moved (all v (let l : there.0 < length ws = there.1 in (suc there.0, omega arith, there.2)))))
+
+-- a queue of distinct wakes is no shorter than they
+as_many : (ws : List (ℕ × ℕ)) (queue : List (Reverse (ℕ × ℕ))) → IsDistinct same_pair ws → AreQueued ws queue → length ws ≤ length queue
+as_many [] queue d all = omega arith
+as_many (w ∷ ws) queue d all =
+    let i = all w (0, omega arith, refl) in
+    let rest = remove queue i.0 in
+    let moved = IsPermutation-remove queue i.0 (reversed w) i.1 (sym i.2) in
+    let more : length (reversed w ∷ rest) ≡ length queue = length_permutation queue (reversed w ∷ rest) moved in
+    let fewer : length ws ≤ length rest = as_many ws rest (IsDistinct-tail same_pair w ws d) (others_queued w ws queue rest d moved all) in
+    omega arith
+
 module _ (live : List (ℕ × ℕ)) where
+  -- a queue that is no longer than there are live wakes has no others
+  pub only_live : (queue : List (Reverse (ℕ × ℕ))) → IsDistinct same_pair live → AreQueued live queue → length queue ≤ length live → BeginsLive live queue
+  only_live [] d all few = tt
+  only_live (r ∷ rs) d all few = by_search (list_any (eq_by_cmp wake_cmp r.0) live) refl
+    where
+      by_search : (b : Bool) → list_any (eq_by_cmp wake_cmp r.0) live ≡ b → Contains live r.0
+      by_search true e = (has-by_search live r.0.0 r.0.1).0 e
+      by_search false e =
+          let behind : AreQueued live rs = λ w there.
+          ⊎_elim
+          (λ (same : r ≡ reversed w). absurd (false≢true (sym e ∙ (has-by_search live r.0.0 r.0.1).1 (subst (λ (s : Reverse (ℕ × ℕ)). Contains live s.0) (sym same) there))))
+          (λ (i : Contains rs (reversed w)). i)
+          (cases_in r (reversed w) rs (all w there)) in
+          let fewer : length live ≤ length rs = as_many live rs d behind in
+          absurd (omega arith)
+
   -- whether a search finds the first says whether it is live
   pub begins_live : (queue : List (Reverse (ℕ × ℕ))) (r : Reverse (ℕ × ℕ)) (b : Bool) → 0 < length queue → r ≡ slice_index_or queue 0 r → b ≡ list_any (same_pair r.0) live → OnFalse (not b) (BeginsLive live queue)
   begins_live queue r false l e f = tt

@@ -53,12 +53,16 @@ fn drop_taken(queue: &mut Queue, live: &IndexSet<(Time, u64)>)
     }
 }
 
-// Whether the first wake in a queue, if there is one, isn't live.
+// Whether the first wake in a queue, if there is one, isn't live. A queue of no more wakes than are live has no others.
 fn begins_taken(queue: &Queue, live: &IndexSet<(Time, u64)>) -> bool
+    requires { AreQueued live.now.keys (heap_items queue.now) }
     ensures some { OnTrue result (0 < heap_len queue.now) }
     ensures taken { OnTrue result (IfSome (slice_get (heap_items queue.now) 0) (λ r. ¬ Contains live.now.keys r.0)) }
     ensures live { OnFalse result (BeginsLive live.now.keys (heap_items queue.now)) }
 {
+    if queue.len() <= live.len() {
+        return false;
+    }
     match queue.peek() {
         Some(first) => !live.contains(&first.0),
         None => false,
