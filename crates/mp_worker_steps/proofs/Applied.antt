@@ -1,5 +1,5 @@
 -- What becomes of the parts of a worker where a group is applied.
-use Rattle.std.proofs.Common.{◌≡◌, ◌≢◌, ◌↔◌, ℕ, suc, ◌+◌, ◌<◌, ◌≤◌, ◌⊎◌, ◌==◌, Bool, true, false, if◌then◌else◌, List, [], ◌∷◌, ◌++◌, All, AllPairs, Contains, IsSome, Some, drop, get_or, length, map, pos, set, slice_get, take, sym, ap, ◌∙◌, subst, ⊎_elim, arith}
+use Rattle.std.proofs.Common.{◌≡◌, ◌≢◌, ◌↔◌, ℕ, suc, ◌+◌, ◌<◌, ◌≤◌, ◌⊎◌, ◌==◌, Bool, true, false, if◌then◌else◌, List, [], ◌∷◌, ◌++◌, All, AllPairs, Contains, Some, drop, get_or, length, map, pos, set, slice_get, take, sym, ap, ◌∙◌, subst, ⊎_elim, arith}
 use Rattle.std.proofs.Math.ListN.{drop_of_length-le}
 use Rattle.std.proofs.Math.Seq.{take-length}
 use Rattle.std.proofs.lemmas.Bool.{cases_order}
@@ -12,8 +12,6 @@ use Rattle.mp_names.specs.declared.names.Name.{Name}
 use Rattle.mp_names.specs.declared.names.Name.TheVariants.{Group}
 use Rattle.mp_names.specs.Keeping.{IsWaiting}
 use Rattle.mp_names.specs.Logs.{Log, is_pending, with_applied}
-use Rattle.mp_stamps.specs.declared.seen.Seen.{Seen}
-use Rattle.mp_bins.specs.Notes.{Notes}
 use Rattle.mp_names.specs.Outlines.{OutlineIsSound}
 use Rattle.mp_names.specs.Limits.{last_time}
 use Rattle.mp_model.specs.declared.value.Value.{Value}
@@ -81,15 +79,15 @@ same_host_there {Cell} hosts j here h inside is at =
     let found : slice_get hosts j ≡ Some here = slice_get-get_or hosts j here inside ∙ ap (λ (y : Hosted Cell). Some y) (sym is) in
     cc
 
--- what is enough for the host of a stage is enough for the stage
-pub enough_here : {Cell : Type 0} (q : QueryFacts Cell) (job : JobFacts) (j most : ℕ) (seen : Seen) (notes : Notes) (hosts : List (Hosted Cell)) → j < length hosts → (h : Hosted Cell) → h ≡ get_or hosts j h
-    → ((t k : ℕ) → IsReadyHere job seen notes h t k → length (q.gives h.stage (cell_before q h.stage (stage_records q job.events h.stage) k t) (group_at q job h.stage t k)) + length (woken_by q h t k) ≤ most)
-    → (x : Hosted Cell) (t k : ℕ) → slice_get hosts j ≡ Some x → IsReadyHere job seen notes x t k
+-- what is enough for a group of the host of a stage is enough for that group of the stage
+pub enough_here : {Cell : Type 0} (q : QueryFacts Cell) (job : JobFacts) (j t k most : ℕ) (hosts : List (Hosted Cell)) → j < length hosts → (h : Hosted Cell) → h ≡ get_or hosts j h
+    → length (q.gives h.stage (cell_before q h.stage (stage_records q job.events h.stage) k t) (group_at q job h.stage t k)) + length (woken_by q h t k) ≤ most
+    → (x : Hosted Cell) → slice_get hosts j ≡ Some x
     → length (q.gives x.stage (cell_before q x.stage (stage_records q job.events x.stage) k t) (group_at q job x.stage t k)) + length (woken_by q x t k) ≤ most
-enough_here {Cell} q job j most seen notes hosts inside h is enough x t k at ready =
+enough_here {Cell} q job j t k most hosts inside h is enough x at =
     subst
-    (λ (y : Hosted Cell). IsReadyHere job seen notes y t k → length (q.gives y.stage (cell_before q y.stage (stage_records q job.events y.stage) k t) (group_at q job y.stage t k)) + length (woken_by q y t k) ≤ most)
-    (sym (same_host_there hosts j h x inside is at)) (enough t k) ready
+    (λ (y : Hosted Cell). length (q.gives y.stage (cell_before q y.stage (stage_records q job.events y.stage) k t) (group_at q job y.stage t k)) + length (woken_by q y t k) ≤ most)
+    (sym (same_host_there hosts j h x inside is at)) enough
 
 module _ {Cell : Type 0} {q : QueryFacts Cell} {job : JobFacts} {p : Parts Cell} (sound : OutlineIsSound (outline_of q job)) (are : ArePartsOf q job p) where
   -- with other rooms the parts are the same
@@ -197,7 +195,7 @@ module _ {Cell : Type 0} {q : QueryFacts Cell} {job : JobFacts} {p : Parts Cell}
         fits = λ most enough.
             let all = are.all_hosts in
             let there = slice_get-get_or p.hosts j h (omega arith) ∙ ap (λ (x : Hosted Cell). Some x) (sym is) in
-            rw (gives, wakes) (enough h t k there ready);
+            rw (gives, wakes) (enough h there);
         next = kept_next;
         last = λ ends. with_rows hands_on legal t k does.ready vs gives new applied.stage applied.worker does.held (omega arith);
       }

@@ -25,6 +25,7 @@ use Rattle.mp_host_laws.specs.Hosted.{Hosted, StandsInOrder}
 use Rattle.mp_host_laws.specs.Moving.{AreNumbersOf, IsPutIn, brought, not_waiting}
 use Rattle.mp_host_laws.proofs.WakeTimes.{few_numbers}
 use Rattle.mp_host.specs.Moves.{TakesPacket}
+use Rattle.mp_host.specs.Ready.{IsReadyHere}
 use Rattle.mp_handoff.specs.MoversOf.{IsMoversOf, IsNewControl}
 use Rattle.mp_handoff.specs.MoversState.{MoversState}
 use Rattle.mp_output.specs.Unwritten.{Unwritten}
@@ -41,7 +42,7 @@ use Rattle.mp_worker_steps.specs.Contents.{Contents, number_of_post_times}
 use Rattle.mp_worker_steps.specs.Kept.{IsKept}
 use Rattle.mp_worker_steps.specs.Rooms.{HasRoomToTake}
 use Rattle.mp_worker_steps.proofs.Keeping.{contents, kept_as}
-use Rattle.mp_worker_steps.specs.Applying.{HasRoomToApply, IsEnoughFor}
+use Rattle.mp_worker_steps.specs.Applying.{GroupIsReady, HasRoomToApply, IsEnoughFor}
 
 -- Of a control record: it may be noted and isn't yet; what it changes at the counts; and the parts once it is noted
 pub record ControlComes {Cell : Type 0} (q : QueryFacts Cell) (job its : JobFacts) (p : Parts Cell) (i : ℕ) (c : Control) (m : MoversState) : Type 0 where
@@ -125,8 +126,15 @@ module _ {Cell : Type 0} {q : QueryFacts Cell} {job its : JobFacts} {p : Parts C
               kept_as kept ((steps kept.sound kept.parts).receive_packet j b t after owed fresh there);
         }
 
+    -- a group of the stage that may be applied is ready at its host
+    pub ready_there : {j t k : ℕ} → j < job.shape.stages → {h : Hosted Cell} → h ≡ get_or p.hosts j h → GroupIsReady job j t k now → IsReadyHere job p.seen p.notes h t k
+    ready_there {j = j} below {h = h} found given =
+        let ready = rw (← is) at given in
+        let all = kept.parts.all_hosts in
+        ready h (slice_get-get_or p.hosts j h (omega arith) ∙ ap (λ (x : Hosted Cell). Some x) (sym found))
+
     pub group_fits : {j t k : ℕ} {vs : List Value} {woke : List ℕ} {new : Hosted Cell} → IsApplying q job p j t k vs woke new
-        → (most : ℕ) × HasRoomToApply (j + 1) most now × IsEnoughFor q job j most now → GroupFits job p names changes unsent lists j t vs woke
+        → (most : ℕ) × HasRoomToApply (j + 1) most now × IsEnoughFor q job j t k most now → GroupFits job p names changes unsent lists j t vs woke
     group_fits {j = j} {t = t} {vs = vs} {woke = woke} told given =
         let room = rw (← is) at given in
         let fits = told.fits room.0 room.2 in

@@ -21,7 +21,6 @@ use Rattle.mp_route.specs.Routed.{Routed}
 use Rattle.mp_route.specs.Unsent.{HoldsAllBut, HoldsUnsent}
 use Rattle.mp_host_laws.specs.Applying.{woken_by}
 use Rattle.mp_host_laws.specs.Hosted.{Hosted}
-use Rattle.mp_host.specs.Ready.{IsReadyHere}
 use Rattle.mp_worker_invariant.specs.Laws.{CanDo}
 use Rattle.mp_worker_invariant.specs.Parts.{ArePartsOf, HoldsRowsBut, Parts}
 use Rattle.mp_worker_steps.specs.Onward.{GoOnward, records_at}
@@ -31,7 +30,7 @@ pub record HandsOn {Cell : Type 0} (q : QueryFacts Cell) : Type 0 where
   pub later : PostsAreLater q
   pub nothing : LaterStagesPostNothing q
 
--- What is known of a group of a stage that was applied, by its outputs, its wakes and the new host: its time, that the step could be made, what its outputs are, what it changes at the counts, that what is enough for the stage is enough for it, and what the parts are once its outputs are handed on
+-- What is known of a group of a stage that was applied, by its outputs, its wakes and the new host: its time, that the step could be made, what its outputs are, what it changes at the counts, that what is enough for it at the stage is enough, and what the parts are once its outputs are handed on
 pub record IsApplying {Cell : Type 0} (q : QueryFacts Cell) (job : JobFacts) (p : Parts Cell) (j t k : ℕ) (vs : List Value) (woke : List ℕ) (new : Hosted Cell) : Type 0 where
   pub in_time : t ≤ last_time
   pub can : CanDo q job p (Apply j) (Group j t k)
@@ -40,7 +39,7 @@ pub record IsApplying {Cell : Type 0} (q : QueryFacts Cell) (job : JobFacts) (p 
   pub changes : (onward : Loc) → onward ≡ location_after j (outline_of q job).stages → (number : ℕ) → GoOnward q job j t k vs number
       → AreChanges (outline_of q job) p.number p.log (with_applied p.log (Group j t k)) (one_less (Host j) t ∷ (some_more onward t number ++ map (one_more (Host j)) woke))
   pub fits : (most : ℕ)
-      → ((h : Hosted Cell) (t k : ℕ) → slice_get p.hosts j ≡ Some h → IsReadyHere job p.seen p.notes h t k
+      → ((h : Hosted Cell) → slice_get p.hosts j ≡ Some h
       → length (q.gives h.stage (cell_before q h.stage (stage_records q job.events h.stage) k t) (group_at q job h.stage t k)) + length (woken_by q h t k) ≤ most)
       → length vs + length woke ≤ most
   pub next : j + 1 < job.shape.stages → (old r : Routed) → old ≡ get_or p.routers (j + 1) old → r.stage ≡ old.stage

@@ -20,14 +20,12 @@ pub record HasRoomToApply {Cell : Type 0} (j most : ℕ) (p : Contents Cell) : T
   pub router : (r : Routed) → slice_get p.routers j ≡ Some r → most ≤ r.room
   pub unsent : slice_get p.routers j ≡ None → most ≤ p.unsent.room
 
--- no fewer than the outputs and the wakes of the group of the stage that may be applied
-abbrev pub IsEnoughFor : {Cell : Type 0} → QueryFacts Cell → JobFacts → ℕ → ℕ → Contents Cell → Type 0
-IsEnoughFor {Cell} q job j most p =
-    (h : Hosted Cell) (t k : ℕ)
-    → slice_get p.hosts j ≡ Some h
-    → IsReadyHere job p.worker.seen p.notes h t k
+-- no fewer than the outputs and the wakes of this group of the stage
+abbrev pub IsEnoughFor : {Cell : Type 0} → QueryFacts Cell → JobFacts → ℕ → ℕ → ℕ → ℕ → Contents Cell → Type 0
+IsEnoughFor {Cell} q job j t k most p =
+    (h : Hosted Cell) → slice_get p.hosts j ≡ Some h
     → length (q.gives h.stage (cell_before q h.stage (stage_records q job.events h.stage) k t) (group_at q job h.stage t k)) + length (woken_by q h t k) ≤ most
 
--- a group of the stage may be applied
-abbrev pub SomeGroupIsReady : {Cell : Type 0} → JobFacts → ℕ → Contents Cell → Type 0
-SomeGroupIsReady {Cell} job j p = (h : Hosted Cell) → slice_get p.hosts j ≡ Some h → ((t k : ℕ) → IsReadyHere job p.worker.seen p.notes h t k → ⊥) → ⊥
+-- this group of the stage may be applied
+abbrev pub GroupIsReady : {Cell : Type 0} → JobFacts → ℕ → ℕ → ℕ → Contents Cell → Type 0
+GroupIsReady {Cell} job j t k p = (h : Hosted Cell) → slice_get p.hosts j ≡ Some h → IsReadyHere job p.worker.seen p.notes h t k

@@ -6,10 +6,12 @@ ghost use Rattle.mp_names.specs.declared.kinds.Kind.TheVariants.{Apply};
 ghost use Rattle.mp_names.specs.declared.names.Name.{Name};
 ghost use Rattle.mp_names.specs.Limits.{last_time};
 ghost use Rattle.mp_names.specs.Logs.{Log};
+ghost use Rattle.mp_stamps.specs.declared.seen.Seen.{Seen as SeenFacts};
+ghost use Rattle.mp_bins.specs.Notes.{Notes};
 ghost use Rattle.mp_model.specs.Facts.{JobFacts};
 ghost use Rattle.mp_model.specs.Tables.{table_of};
 ghost use Rattle.mp_rows_laws.specs.Changes.{one_less, one_more, some_more};
-ghost use Rattle.mp_outline.specs.JobOutline.{layout_of, outline_of};
+ghost use Rattle.mp_outline.specs.JobOutline.{outline_of};
 ghost use Rattle.mp_host_laws.specs.HostOf.{HostMatchesLogAndSeen, OwnersAreCurrent};
 ghost use Rattle.mp_host.specs.Ready.{IsReadyHere};
 ghost use Rattle.mp_worker_invariant.specs.Parts.{Parts as PartsFacts};
@@ -17,19 +19,17 @@ ghost use Rattle.mp_worker_steps.specs.Applied.{IsApplying};
 ghost use Rattle.mp_worker_steps.specs.Onward.{GoOnward};
 ghost use Rattle.mp_worker_refinement.specs.State.{CanMake};
 ghost use Rattle.mp_worker_refinement.specs.Steps.{StepsAlone};
-ghost use Rattle.mp_worker_steps.specs.Applying.{HasRoomToApply, IsEnoughFor, SomeGroupIsReady};
+ghost use Rattle.mp_worker_steps.specs.Applying.{GroupIsReady, HasRoomToApply, IsEnoughFor};
 ghost use Rattle.mp_worker_steps.specs.Kept.{IsKept};
 
 use crate::changes::{one_less, one_more, push_more};
 use crate::onward::{count_onward, hold_records, hold_rows, location_after, make_room_onward};
 use crate::parts::Parts;
-use mp_bins::Owners;
-use mp_host::{Applied, Host};
+use mp_host::{Applied, Host, ReadyGroup};
 use mp_model::{Naming, Query};
 use mp_msg::Names;
 use mp_names::{Loc, Name};
 use mp_rows::{Change, LogList};
-use mp_stamps::Seen;
 use std::alloc::{AllocError, Global};
 
 impl<'a, Q: Query, J: Naming> Parts<'a, Q, J> {
@@ -41,24 +41,24 @@ impl<'a, Q: Query, J: Naming> Parts<'a, Q, J> {
         ensures { let o = outline_of (table_of Q.facts J.job) J.job in
             StepsAlone o (Apply stage) self.old.worker self.new.worker result }
     {
-        let Some(most) = self.most_of_ready(stage) else {
+        let Some(group) = self.ready_group(stage) else {
             return Ok(None);
         };
-        self.make_room_to_apply(stage as usize + 1, most)?;
-        self.apply_ready(stage)
+        self.make_room_to_apply(stage as usize + 1, group.most)?;
+        self.apply_ready(stage, group)
     }
 
-    // No fewer than the outputs and the wakes of the group of a stage that may be applied, `None` exactly where there is none.
-    fn most_of_ready(&self, stage: u32) -> Option<u64>
+    // The group of a stage that may be applied, with how much it may give; `None` exactly where there is none.
+    fn ready_group(&self, stage: u32) -> Option<ReadyGroup>
         requires stage { stage < J.job.shape.stages }
         ensures none { let o = outline_of (table_of Q.facts J.job) J.job in
             IfNone result ((x : Name) → CanMake o (Apply stage) self.now.worker x → ⊥) }
-        ensures ready { IfSome result (λ _. SomeGroupIsReady J.job stage self.now) }
-        ensures enough { IfSome result (λ most. most + 2 < 2 ^ 64
-            → IsEnoughFor (table_of Q.facts J.job) J.job stage most self.now) }
+        ensures ready { IfSome result (λ g. GroupIsReady J.job stage g.time g.key self.now) }
+        ensures enough { IfSome result (λ g. g.most + 2 < 2 ^ 64
+            → IsEnoughFor (table_of Q.facts J.job) J.job stage g.time g.key g.most self.now) }
     {
         let host = &self.hosts[stage as usize];
-        host.most_if_ready(self.alloc, &self.seen, &self.owners)
+        host.ready_group(self.alloc, &self.seen, &self.owners)
     }
 
     // Makes room for a group that gives and wakes no more than `most` in all, and whose outputs go to a stage. `AllocError`: no
@@ -79,19 +79,18 @@ impl<'a, Q: Query, J: Naming> Parts<'a, Q, J> {
     }
 
     // Applies the group of a stage that may be applied. There is room for it.
-    fn apply_ready(&mut self, stage: u32) -> Result<Option<Names>, AllocError>
+    fn apply_ready(&mut self, stage: u32, group: ReadyGroup) -> Result<Option<Names>, AllocError>
         requires stage { stage < J.job.shape.stages }
-        requires ready { SomeGroupIsReady J.job stage self.old }
-        requires room { (most : ℕ)
-            × HasRoomToApply (stage + 1) most self.old
-            × IsEnoughFor (table_of Q.facts J.job) J.job stage most self.old }
+        requires ready { GroupIsReady J.job stage group.time group.key self.old }
+        requires room { HasRoomToApply (stage + 1) group.most self.old }
+        requires enough { IsEnoughFor (table_of Q.facts J.job) J.job stage group.time group.key group.most self.old }
         ensures { let o = outline_of (table_of Q.facts J.job) J.job in
             StepsAlone o (Apply stage) self.old.worker self.new.worker result }
     {
         let stages = self.job.shape().stages;
         let query = self.job.query();
         let host = &mut self.hosts[stage as usize];
-        let applied = apply_group(self.alloc, stage, host, &self.seen, &self.owners)?;
+        let applied = apply_group(self.alloc, stage, host, group)?;
         let name = Name::Group {
             stage,
             time: applied.time,
@@ -127,23 +126,19 @@ fn apply_group<'a, Q: Query, J: Naming>(
     alloc: Global,
     stage: u32,
     host: &mut Host<'a, Q, J>,
-    seen: &Seen,
-    owners: &Owners,
+    group: ReadyGroup,
 ) -> Result<Applied, AllocError>
     requires stage { stage < J.job.shape.stages }
-    requires shape { owners.now.layout ≡ layout_of J.job }
-    requires informed { let q = table_of Q.facts J.job in
-        (log : Log) × HostMatchesLogAndSeen q J.job log seen.now host.old × OwnersAreCurrent q J.job owners.now seen.now host.old.stage }
-    requires ready { ((t k : ℕ) → IsReadyHere J.job seen.now owners.now host.old t k → ⊥) → ⊥ }
+    requires ready { let q = table_of Q.facts J.job in
+        (seen : SeenFacts) × (notes : Notes) × IsReadyHere J.job seen notes host.old group.time group.key
+        × ((log : Log) × HostMatchesLogAndSeen q J.job log seen host.old × OwnersAreCurrent q J.job notes seen host.old.stage) }
+    ensures group { IfOk result (λ a. (a.time ≡ group.time) × (a.key ≡ group.key)) }
     ensures told { let q = table_of Q.facts J.job in IfOk result (λ a. (its : JobFacts) (p : PartsFacts Q.Cell)
-        → IsKept q J.job its p → host.old ≡ get_or p.hosts stage host.old → seen.now ≡ p.seen → owners.now ≡ p.notes
+        → IsKept q J.job its p → host.old ≡ get_or p.hosts stage host.old → IsReadyHere J.job p.seen p.notes host.old group.time group.key
         → IsApplying q J.job p stage a.time a.key a.outputs.items a.woke.items host.new) }
     ensures unchanged { OnErr result (host.new ≡ host.old) }
 {
-    let Some(applied) = host.apply(alloc, seen, owners)? else {
-        unreachable!()
-    };
-    Ok(applied)
+    host.apply_ready(alloc, group)
 }
 
 // How many outputs of a group of a stage go on: those that make a record of the next stage, and after the last stage all.
