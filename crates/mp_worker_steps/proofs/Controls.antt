@@ -1,5 +1,5 @@
 -- The control records that worker 0 sends, and that a worker takes.
-use Rattle.std.proofs.Common.{◌≡◌, ◌∙◌, ℕ, ◌<◌, ◌≤◌, ◌-◌, ◌^◌, Bool, false, List, length, sym, ap, subst, arith}
+use Rattle.std.proofs.Common.{◌≡◌, ◌∙◌, ℕ, ◌<◌, ◌-◌, ◌^◌, Bool, false, List, length, sym, ap, subst, arith}
 use Rattle.mp_names.specs.declared.controls.Control.{Control}
 use Rattle.mp_names.specs.declared.kinds.Kind.TheVariants.{SendControl}
 use Rattle.mp_names.specs.declared.names.Name.{Name}

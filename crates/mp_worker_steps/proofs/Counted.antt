@@ -1,8 +1,6 @@
 -- What a group gives is counted: how many names of the next stage are its outputs; and when it is.
-use Rattle.std.proofs.Common.{◌≡◌, ◌≢◌, ℕ, suc, ◌+◌, ◌-◌, ◌<◌, ◌≤◌, ◌==◌, Bool, true, Option, None, Some, List, [], ◌∷◌, All, AllPairs, Contains, IsSome, count_by, filter, length, map, not, refl, sym, ap, ◌∙◌, subst, arith}
-use Rattle.std.specs.List.{cons_option}
-use Rattle.std.specs.Option.{option_map}
-use Rattle.std.proofs.lemmas.Bool.{and_from, and_parts, eq-eqb, eqb-true, false≢true, ne_eqb}
+use Rattle.std.proofs.Common.{◌≡◌, ◌≢◌, ℕ, suc, ◌+◌, ◌-◌, ◌<◌, ◌≤◌, ◌==◌, Bool, true, Option, None, Some, List, [], ◌∷◌, All, AllPairs, Contains, count_by, filter, length, map, not, refl, sym, ap, ◌∙◌, subst, arith}
+use Rattle.std.proofs.lemmas.Bool.{and_from, and_parts, eq-eqb, eqb-true, ne_eqb}
 use Rattle.std.proofs.lemmas.List.{length-map}
 use Rattle.std.proofs.lemmas.List.Elements.{All-contains, All-filter, All-map, All-nil}
 use Rattle.mp_names.specs.declared.names.Name.{Name}
@@ -12,7 +10,6 @@ use Rattle.mp_names.specs.Outlines.{OutlineIsSound, groups_of}
 use Rattle.mp_names.proofs.Lists.{all_counted, same_count}
 use Rattle.mp_names.specs.Limits.{last_time}
 use Rattle.mp_names.proofs.NameParts.{same_row}
-use Rattle.mp_model.specs.declared.record.Rec.{Rec}
 use Rattle.mp_model.specs.declared.value.Value.{Value}
 use Rattle.mp_model.specs.Ascending.{ascending}
 use Rattle.mp_model.specs.Entry.{Entry}
@@ -37,7 +34,7 @@ use Rattle.mp_host_laws.specs.Hosted.{Hosted, waits_at}
 use Rattle.mp_host_laws.specs.Applying.{posts_here, woken_by}
 use Rattle.mp_worker_invariant.specs.Given.{outputs_given, records_made, values_given}
 use Rattle.mp_worker_invariant.proofs.Given.{made_once, outputs_come, outputs_stand, records_come, records_stand}
-use Rattle.mp_worker_steps.proofs.OneByOne.{outputs_from, records_from}
+use Rattle.mp_worker_steps.proofs.OneByOne.{outputs_from}
 
 -- Numbers of names
 

@@ -9,8 +9,6 @@ use Rattle.mp_names.specs.Names.{In}
 use Rattle.mp_names.specs.Outlines.{Outline, sender}
 use Rattle.mp_machine.specs.Steps.{AreNamesOf, KindFits, logged}
 use Rattle.mp_model.specs.Facts.{JobFacts, QueryFacts}
-use Rattle.mp_names.specs.declared.controls.Control.{Control}
-use Rattle.mp_names.specs.declared.controls.Shape.{Shape}
 use Rattle.mp_job.proofs.Runs.{run_controls, run_shape}
 use Rattle.mp_outline.specs.JobOutline.{outline_of}
 use Rattle.mp_rows.specs.WorkerLog.{WorkerLog}

@@ -1,5 +1,5 @@
 -- The states that a worker's hosts have in hand once its log is full are those of the bins that it owns at the end.
-use Rattle.std.proofs.Common.{◌≡◌, ◌≢◌, ◌↔◌, ◌⊎◌, ◌++◌, ◌∷◌, [], ℕ, ◌<◌, List, Option, Some, Ok, Err, Result, zero, suc, All, AllPairs, Any, Contains, get_or, length, map, slice_get, refl, sym, ap, ◌∙◌, subst, ⊎_elim, arith}
+use Rattle.std.proofs.Common.{◌≡◌, ◌≢◌, ◌++◌, ◌∷◌, [], ℕ, ◌<◌, List, Some, Ok, Err, Result, zero, suc, All, AllPairs, Contains, get_or, length, map, slice_get, refl, sym, ap, ◌∙◌, subst, arith}
 use Rattle.std.specs.List.{flat_map}
 use Rattle.std.specs.Prelude.{IfOk, OnOk}
 use Rattle.std.proofs.lemmas.List.{map-append}

@@ -1,5 +1,5 @@
 -- What a worker keeps to: its parts hold what its log says.
-use Rattle.std.specs.Prelude.{◌≡◌, List}
+use Rattle.std.specs.Prelude.{List}
 use Rattle.mp_names.specs.Logs.{Log}
 use Rattle.mp_names.specs.Outlines.{OutlineIsSound}
 use Rattle.mp_stamps.specs.declared.seen.Seen.{Seen}

@@ -1,4 +1,4 @@
-use Rattle.std.proofs.Common.{◌≡◌, ◌++◌, ◌∙◌, All, List, ℕ, ap, append_assoc, subst, sym}
+use Rattle.std.proofs.Common.{◌++◌, ◌∙◌, All, List, ℕ, ap, append_assoc, subst, sym}
 use Rattle.std.specs.List.{flat_map}
 use Rattle.std.specs.Vec.Iter.{into_iter_items}
 use Rattle.std.proofs.lemmas.List.Elements.{All-cons}

@@ -1,4 +1,4 @@
-use Rattle.std.proofs.Common.{◌≡◌, ◌∙◌, List, ap, count_by, is_some, length, sym, take}
+use Rattle.std.proofs.Common.{◌≡◌, ◌∙◌, List, ap, count_by, is_some, sym, take}
 use Rattle.std.proofs.lemmas.List.{take_all}
 use Rattle.mp_model.specs.declared.value.Value.{Value}
 use Rattle.mp_model.specs.Tables.{table_of}
