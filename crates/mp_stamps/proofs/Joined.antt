@@ -163,6 +163,20 @@ module _ (ps : List PieceState) (w : AreWhole ps) where
               (sym (joined_at ps f first w l inside) ∙ ap (λ (i : ℕ). get_or (joined ps) i (pos 0)) (sym e) ∙ z);
         }
 
+  -- the first piece with a count other than 0 has the first of them
+  pub span_in_piece : (b first end : ℕ) → b < length ps → ((k : ℕ) → k < b → IsZeroPiece ps k) → IsFirstOpen (piece_at ps b).counts first → first < 1024 → end ≤ 1024 * length ps → ((k : ℕ) → end ≤ k → IsZeroAt (joined ps) k) → IsSpan (joined ps) (1024 * b + first) end
+  span_in_piece b first end inside before own here within rest =
+      let is : IsFirst (IsZeroPiece ps) (length ps) b = record {
+        within = omega (arith, inside);
+        quiet = before;
+        open_there = λ l. open_inside b first l own here;
+      } in
+      record {
+        first_open = first_in_piece b is first (1024 * b + first) inside own refl;
+        within = omega (arith, within, joined_length ps w);
+        rest = rest;
+      }
+
   -- where each piece holds zeros, each count is 0
   pub none_in_pieces : ((b : ℕ) → b < length ps → IsZeroPiece ps b) → (k : ℕ) → IsZeroAt (joined ps) k
   none_in_pieces none k =

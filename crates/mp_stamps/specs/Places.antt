@@ -16,6 +16,15 @@ place_of (Move j) = 5 * j + 7
 place_of (State j) = 5 * j + 8
 place_of (Host j) = 5 * j + 9
 
+-- of which stage the location is, 0 of one without a stage
+abbrev pub stage_of : Loc → ℕ
+stage_of (Route j) = j
+stage_of (Mail j) = j
+stage_of (Move j) = j
+stage_of (State j) = j
+stage_of (Host j) = j
+stage_of _ = 0
+
 -- how many places a job of so many stages has
 abbrev pub places_of : ℕ → ℕ
 places_of stages = 5 * stages + 5

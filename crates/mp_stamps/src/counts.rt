@@ -12,7 +12,7 @@ ghost use Rattle.mp_stamps.specs.Flow.{IsFirstTime, KeepsFrontiers};
 ghost use Rattle.mp_stamps.specs.Places.{places_of};
 
 use crate::hints::Hints;
-use crate::least::{first_after, has_moved};
+use crate::least::follow_first;
 use crate::near::index_of;
 use crate::piece::PIECE;
 use crate::pieces::{has_no_piece_below, pieces_below};
@@ -103,11 +103,13 @@ impl Counts {
             return false;
         }
         let moved = self.rows[place].add(index, by);
-        let before = self.firsts[place];
-        let after = first_after(&self.times, &self.rows[place], before, moved);
-        self.firsts[place] = after;
         self.hints.note(time, index);
-        has_moved(before, after)
+        follow_first(
+            &mut self.firsts[place],
+            &self.times,
+            &self.rows[place],
+            moved,
+        )
     }
 
     /// Gives back the pieces of the counts of a location whose times are all below one, before which no count there is

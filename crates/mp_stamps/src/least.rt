@@ -19,19 +19,25 @@ fn first_in(times: &[Time], row: &Row) -> Frontier
     }
 }
 
-/// The least time with a count other than 0 in a row of counts at these times, which is as before unless the first such
-/// count moved; `Done` where there is none.
-pub(crate) fn first_after(times: &[Time], row: &Row, before: Frontier, moved: bool) -> Frontier
+/// Sees to it that this is the least time with a count other than 0 in a row of counts at these times, `Done` where there
+/// is none, after the first such count moved or didn't; and gives whether it is another one than before.
+pub(crate) fn follow_first(first: &mut Frontier, times: &[Time], row: &Row, moved: bool) -> bool
     requires rising { IsStrictlyIncreasing times.now }
     requires long { length times.now ≤ length row.now.counts }
-    requires still { moved ≡ false → IsFirstTime (count_of times.now row.now.counts) before }
-    ensures { IsFirstTime (count_of times.now row.now.counts) result }
+    requires still { moved ≡ false → IsFirstTime (count_of times.now row.now.counts) first.old }
+    ensures first { IsFirstTime (count_of times.now row.now.counts) first.new }
+    ensures moved { (result ≡ false) ↔ (first.new ≡ first.old) }
 {
-    if moved { first_in(times, row) } else { before }
+    if !moved {
+        return false;
+    }
+    let before = *first;
+    *first = first_in(times, row);
+    has_moved(before, *first)
 }
 
-/// Whether a least time is another one than before.
-pub(crate) fn has_moved(before: Frontier, after: Frontier) -> bool
+// Whether a least time is another one than before.
+fn has_moved(before: Frontier, after: Frontier) -> bool
     ensures { (result ≡ false) ↔ (after ≡ before) }
 {
     after != before

@@ -11,6 +11,7 @@ const DOUBLINGS: u32 = 8;
 /// The index of a time among times that ascend, or where it would stand. It takes one look where the time is at the index
 /// `hint`, else time by the logarithm of how far it is from the index `near`, where it is there and no more than 256 away,
 /// else by that of how many they are.
+#[inline]
 pub(crate) fn index_of(times: &[Time], hint: usize, near: usize, time: Time) -> Result<usize, usize>
     ensures { IsBinarySearchResult (λ t. nat_cmp t time) times.now result }
 {
@@ -21,6 +22,7 @@ pub(crate) fn index_of(times: &[Time], hint: usize, near: usize, time: Time) -> 
 }
 
 // The index of a time, looked for from an index on: that and the next one first.
+#[inline(never)]
 fn index_from(times: &[Time], near: usize, time: Time) -> Result<usize, usize>
     ensures { IsBinarySearchResult (λ t. nat_cmp t time) times.now result }
 {

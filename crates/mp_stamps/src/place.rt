@@ -1,7 +1,7 @@
 //! The places of locations: first those without a stage, then five for each stage.
 ghost use Rattle.std.specs.Prelude.{◌≡◌, ◌<◌, ◌+◌, ◌*◌};
 ghost use Rattle.mp_names.specs.declared.locations.Loc.{Loc};
-ghost use Rattle.mp_stamps.specs.Places.{place_of};
+ghost use Rattle.mp_stamps.specs.Places.{place_of, stage_of};
 
 use mp_names::Loc;
 
@@ -12,17 +12,39 @@ pub(crate) const PLACES: usize = 25;
 pub fn place_of(loc: Loc) -> usize
     ensures { result ≡ place_of loc }
 {
+    5 * stage_of(loc) as usize + place_in_stage(loc)
+}
+
+// Of which stage a location is, 0 of one without a stage.
+fn stage_of(loc: Loc) -> u32
+    ensures { result ≡ stage_of loc }
+{
+    match loc {
+        Loc::Route(stage)
+        | Loc::Mail(stage)
+        | Loc::Move(stage)
+        | Loc::State(stage)
+        | Loc::Host(stage) => stage,
+        _ => 0,
+    }
+}
+
+// The place of a location, as if it were of the first stage.
+fn place_in_stage(loc: Loc) -> usize
+    ensures few { result < 10 }
+    ensures is { 5 * stage_of loc + result ≡ place_of loc }
+{
     match loc {
         Loc::Ctl => 0,
         Loc::CtlMail => 1,
         Loc::Source => 2,
         Loc::OutRoute => 3,
         Loc::OutMail => 4,
-        Loc::Route(stage) => 5 * stage as usize + 5,
-        Loc::Mail(stage) => 5 * stage as usize + 6,
-        Loc::Move(stage) => 5 * stage as usize + 7,
-        Loc::State(stage) => 5 * stage as usize + 8,
-        Loc::Host(stage) => 5 * stage as usize + 9,
+        Loc::Route(_) => 5,
+        Loc::Mail(_) => 6,
+        Loc::Move(_) => 7,
+        Loc::State(_) => 8,
+        Loc::Host(_) => 9,
     }
 }
 

@@ -183,7 +183,27 @@ fn span_after(pieces: &[Piece], span: Span, index: usize, is_open: bool) -> Span
 
 // Where counts other than 0 stand, from the piece at a place on, before which there is none, to an index from which on
 // there is none.
-fn next_span(pieces: &[Piece], from: usize, end: usize) -> Span
+fn next_span(pieces: &[Piece], place: usize, end: usize) -> Span
+    requires whole { AreWhole pieces.now }
+    requires few { 1024 * length pieces.now ≤ 2 ^ 63 }
+    requires inside { place < length pieces.now }
+    requires within { end ≤ 1024 * length pieces.now }
+    requires quiet { (b : ℕ) → b < place → IsZeroPiece pieces.now b }
+    requires rest { (k : ℕ) → end ≤ k → IsZeroAt (joined pieces.now) k }
+    ensures { IsSpan (joined pieces.now) result.first result.end }
+{
+    let first = pieces[place].first();
+    if first < PIECE {
+        return Span {
+            first: PIECE * place + first,
+            end,
+        };
+    }
+    span_from(pieces, place + 1, end)
+}
+
+// The same, where there may be no more pieces.
+fn span_from(pieces: &[Piece], from: usize, end: usize) -> Span
     requires whole { AreWhole pieces.now }
     requires few { 1024 * length pieces.now ≤ 2 ^ 63 }
     requires within { end ≤ 1024 * length pieces.now }

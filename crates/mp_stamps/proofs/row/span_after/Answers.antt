@@ -1,5 +1,5 @@
 -- The pieces before the first count hold zeros.
-use Rattle.std.proofs.Common.{◌≡◌, ◌+◌, ◌*◌, length, rules, arith}
+use Rattle.std.proofs.Common.{◌≡◌, ◌+◌, ◌*◌, ◌<◌, length, rules, arith}
 use Rattle.mp_stamps.specs.Rows.{IsZeroAt, joined}
 use Rattle.mp_stamps.proofs.Firsts.{is_closed, quiet_to}
 use Rattle.mp_stamps.proofs.Joined.{joined_length, zero_piece}
@@ -14,4 +14,6 @@ next_span-requires-clause-quiet c =
     let i = c.args.index in
     let z : IsZeroAt (joined ps) i = is_closed _ c.args.is_open c.requires.open c.if-is_open.false in
     let e : i ≡ c.args.span.first = search rules in
-    λ b l m. zero_piece ps c.requires.whole b m (λ k n. quiet_to (IsZeroAt (joined ps)) (length (joined ps)) c.args.span.first i c.requires.before.first_but z e (1024 * b + k) (omega (arith, e, l, n)))
+    λ b l.
+    let m : b < length ps = omega (arith, l, c.requires.index) in
+    zero_piece ps c.requires.whole b m (λ k n. quiet_to (IsZeroAt (joined ps)) (length (joined ps)) c.args.span.first i c.requires.before.first_but z e (1024 * b + k) (omega (arith, e, l, n)))

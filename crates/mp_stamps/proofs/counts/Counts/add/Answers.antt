@@ -73,8 +73,8 @@ add-moved-requires-clause-fits c =
     let by : SFits w64 c.args.by = search rules in
     added_fits inside c.args.self.now t c.self.invariant.0 c.self.view_is c.args.loc p c.place_of-place.ensures place c.index_of.result c.in-Ok.index there c.in-Ok.is row.counts own _ c.args.by (to_z-of_z w64 c.args.by by) kept c.requires
 
-pub first_after-after-requires-clause-long : goal.first_after-after-requires-clause-long
-first_after-after-requires-clause-long c =
+pub follow_first-requires-clause-long : goal.follow_first-requires-clause-long
+follow_first-requires-clause-long c =
     let rows : List RowState = c.self.inside.rows.items in
     let inside : CountTable = table_of_rows c.self.inside.stages c.self.inside.times.items rows in
     let t = c.args.time in
@@ -93,8 +93,8 @@ first_after-after-requires-clause-long c =
     let enough = long_row (length inside.times) new long in
     omega (arith, enough, ap (λ (r : RowState). length r.counts) read, ap (λ (ts : List ℕ). length ts) c.deref-2.ensures.value)
 
-pub first_after-after-requires-clause-still : goal.first_after-after-requires-clause-still
-first_after-after-requires-clause-still c =
+pub follow_first-requires-clause-still : goal.follow_first-requires-clause-still
+follow_first-requires-clause-still c =
     let rows : List RowState = c.self.inside.rows.items in
     let inside : CountTable = table_of_rows c.self.inside.stages c.self.inside.times.items rows in
     let t = c.args.time in
@@ -207,7 +207,7 @@ invariant_of-self c =
     let new = c.add-moved.new.self.counts in
     let long : IsRowFor (length inside.times) new = subst (IsRowFor (length inside.times)) (sym c.add-moved.ensures.counts) (row_set (length inside.times) row.counts c.in-Ok.index _ found.0 each) in
     let firsts = c.self.inside.firsts in
-    let first = c.first_after-after.result in
+    let first = c.follow_first.new.first in
     let is : IsFirstTime (count_of inside.times new) first = search rules in
     let inner : p < length firsts = search rules in (
       subst IsTable (sym then) (still_table inside p new c.self.invariant.0 long),
@@ -231,13 +231,13 @@ returns-clause-still c =
     let new = c.add-moved.new.self.counts in
     let long : IsRowFor (length inside.times) new = subst (IsRowFor (length inside.times)) (sym c.add-moved.ensures.counts) (row_set (length inside.times) row.counts c.in-Ok.index _ found.0 each) in
     let firsts = c.self.inside.firsts in
-    let first = c.first_after-after.result in
+    let first = c.follow_first.new.first in
     let is : IsFirstTime (count_of inside.times new) first = search rules in
     let inner : p < length firsts = search rules in
     let now = c.args.self.now in
     let was : AreFirstTimes now firsts = subst (λ (t : CountTable). AreFirstTimes t firsts) c.self.view_is c.self.invariant.1 in
     λ still at f h.
-    let same : first ≡ get_or firsts p Done = c.has_moved.ensures.0 still ∙ get_or_default firsts p (At 0) Done inner in
+    let same : first ≡ get_or firsts p Done = c.follow_first.ensures.moved.0 still ∙ get_or_default firsts p (At 0) Done inner in
     let is_now = firsts_still inside p new c.self.invariant.0 long firsts first place is c.self.invariant.1 same in
     subst (λ (table : CountTable). IsFrontierOf (count_in table) at f) (sym then) (frontier_still (count_in now) (count_in (with_row inside p new c.self.invariant.0 long)) (λ a. get_or firsts (place_of a) Done) was is_now at f h)
 
@@ -258,7 +258,7 @@ returns-clause-moved c =
     let new = c.add-moved.new.self.counts in
     let long : IsRowFor (length inside.times) new = subst (IsRowFor (length inside.times)) (sym c.add-moved.ensures.counts) (row_set (length inside.times) row.counts c.in-Ok.index _ found.0 each) in
     let firsts = c.self.inside.firsts in
-    let first = c.first_after-after.result in
+    let first = c.follow_first.new.first in
     let is : IsFirstTime (count_of inside.times new) first = search rules in
     let inner : p < length firsts = search rules in
     let loc = c.args.loc in
@@ -267,4 +267,4 @@ returns-clause-moved c =
     λ moved f h k.
     let before : f ≡ get_or firsts p Done = first_time_once _ _ _ h (was loc) ∙ ap (λ i. get_or firsts i Done) (sym c.place_of-place.ensures) in
     let after : f ≡ first = first_time_once _ _ _ k is_now in
-    false≢true (sym (c.has_moved.ensures.1 (sym after ∙ before ∙ sym (get_or_default firsts p (At 0) Done inner))) ∙ moved)
+    false≢true (sym (c.follow_first.ensures.moved.1 (sym after ∙ before ∙ sym (get_or_default firsts p (At 0) Done inner))) ∙ moved)
