@@ -5,6 +5,9 @@ ghost use Rattle.std.specs.Ordering.{nat_cmp};
 
 use mp_names::Time;
 
+// How many times on from an index are looked at one by one, and the one before it.
+const BESIDE: usize = 4;
+
 // How often a step doubles. A time that is farther away is as quickly found among all.
 const DOUBLINGS: u32 = 8;
 
@@ -21,18 +24,25 @@ pub(crate) fn index_of(times: &[Time], hint: usize, near: usize, time: Time) -> 
     index_from(times, near, time)
 }
 
-// The index of a time, looked for from an index on: that and the next one first.
+// The index of a time, looked for from an index on: beside it first.
 #[inline(never)]
 fn index_from(times: &[Time], near: usize, time: Time) -> Result<usize, usize>
     ensures { IsBinarySearchResult (λ t. nat_cmp t time) times.now result }
 {
     let middle = near.min(times.len());
-    if stands_at(times, middle, time) {
-        return Ok(middle);
+    for index in middle.saturating_sub(1)..middle + BESIDE {
+        if stands_at(times, index, time) {
+            return Ok(index);
+        }
     }
-    if stands_at(times, middle + 1, time) {
-        return Ok(middle + 1);
-    }
+    index_around(times, middle, time)
+}
+
+// The index of a time, looked for from an index on in steps that double, in both directions.
+fn index_around(times: &[Time], middle: usize, time: Time) -> Result<usize, usize>
+    requires { middle ≤ length times.now }
+    ensures { IsBinarySearchResult (λ t. nat_cmp t time) times.now result }
+{
     let from = back_to(times, middle, time);
     let to = on_to(times, middle, time);
     match times[from..to].binary_search(&time) {
