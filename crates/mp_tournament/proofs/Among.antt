@@ -1,9 +1,10 @@
 -- The first among some wakes: of a longer list, and as the one wake that comes no later than each.
 use Rattle.std.proofs.Common.{◌≡◌, ◌++◌, ◌∷◌, [], ℕ, List, Option, None, Some, Contains, refl, sym, ◌∙◌, ap, subst, ⊎_elim}
 use Rattle.mp_postdated.specs.Wakes.{ComesNoLater}
+use Rattle.mp_postdated.proofs.Queued.{neither_later}
 use Rattle.mp_job.proofs.Members.{Contains-cases, Contains-here, Contains-later, nothing_in_nil}
 use Rattle.mp_tournament.specs.Firsts.{IsFirstAmong, earlier_of, first_among}
-use Rattle.mp_tournament.proofs.Earlier.{comes_first, earlier-cases, earlier-none, earlier_assoc, earlier_comm, neither_later}
+use Rattle.mp_tournament.proofs.Earlier.{comes_first, earlier-cases, earlier-none, earlier_assoc, earlier_comm}
 
 abbrev pub Wakes : Type 0
 Wakes = List (Option (ℕ × ℕ))

@@ -1,5 +1,5 @@
 -- Of two wakes the earlier one: in which order they are asked doesn't matter.
-use Rattle.std.proofs.Common.{◌≡◌, ◌<◌, ◌≤◌, ◌⊎◌, ◌==◌, ◌&&◌, ◌||◌, ℕ, nat_lt, Option, None, Some, refl, ◌∙◌, ap, inl, inr, arith}
+use Rattle.std.proofs.Common.{◌≡◌, ◌<◌, ◌≤◌, ◌⊎◌, ◌==◌, ◌&&◌, ◌||◌, ℕ, nat_lt, Option, None, Some, refl, inl, inr, arith}
 use Rattle.std.proofs.lemmas.Bool.{cond_both}
 use Rattle.std.proofs.lemmas.Bool.Decides.{nat_tests}
 use Rattle.mp_postdated.specs.Wakes.{ComesNoLater}
@@ -40,10 +40,3 @@ no_later a b c d e = grind (arith, nat_tests)
 pub comes_first : (a : Option (ℕ × ℕ)) (w : ℕ × ℕ) → earlier_of a (Some w) ≡ a → (v : ℕ × ℕ) × (a ≡ Some v) × ComesNoLater v w
 comes_first None w e = absurd cc
 comes_first (Some v) w e = (v, refl, no_later v.0 v.1 w.0 w.1 e)
-
-same_pair : (v w : ℕ × ℕ) → v.0 ≡ w.0 → v.1 ≡ w.1 → v ≡ w
-same_pair v w times keys = ap (λ t. (t, v.1)) times ∙ ap (λ k. (w.0, k)) keys
-
--- two neither of which comes later are the same
-pub neither_later : (v w : ℕ × ℕ) → ComesNoLater v w → ComesNoLater w v → v ≡ w
-neither_later v w l m = same_pair v w (grind arith) (grind arith)
