@@ -6,6 +6,4 @@ pub mod Moved
 pub mod Ranking
 pub mod Nexts
 pub mod Noting
-pub mod Hashing
 pub mod Sorted
-pub mod FirstTable

@@ -1,6 +1,5 @@
 pub mod Bins
 pub mod Changes
-pub mod FirstTable
 pub mod Laws
 pub mod Leaving
 pub mod Notes

@@ -1,20 +1,15 @@
 -- The control records that were noted, and what they say of owners and moves.
-use Rattle.std.specs.Prelude.{◌≡◌, ℕ, suc, ◌%◌, ◌<◌, Bool, true, false, cond, not, ◌&&◌, ◌||◌, ◌==◌, List, [], ◌∷◌, map, slice_index_or}
+use Rattle.std.specs.Prelude.{◌≡◌, ℕ, suc, Bool, true, false, cond, not, ◌&&◌, ◌||◌, ◌==◌, List, [], ◌∷◌, map, slice_index_or}
 use Rattle.std.specs.List.{All, prefix_len}
 use Rattle.std.specs.List.Sorted.{IsPartitionPoint}
 use Rattle.mp_names.specs.declared.names.Name.{Name}
-use Rattle.mp_names.specs.declared.controls.First.{First}
 use Rattle.mp_names.specs.declared.controls.Shape.{Shape}
 use Rattle.mp_names.specs.declared.controls.Control.{Control}
 use Rattle.mp_names.specs.declared.controls.Move.{Move}
 use Rattle.mp_names.specs.Names.{is_before}
 use Rattle.mp_names.specs.Controls.{no_control, owner_below, is_change, move_in, moves_in}
 use Rattle.mp_bins.specs.declared.owners.Note.{Note}
-
--- the shape of a job, and the first owners that a configuration says
-pub record Layout : Type 0 where
-  pub shape : Shape
-  pub firsts : List First
+pub use Rattle.mp_layout.specs.Layouts.{FirstFits, IsShape, IsWithin, Layout, first_among, first_owner}
 
 -- the layout of a job, what was noted, ascending by rank, and how many more notes there is room for
 pub record Notes : Type 0 where
@@ -62,30 +57,9 @@ abbrev pub IsSplitAt : List Note → ℕ → ℕ → ℕ → ℕ → Type 0
 IsSplitAt notes stage bin limit count =
     IsPartitionPoint (λ n. is_before (rank_of_note n) (stage ∷ bin ∷ limit ∷ []) ≡ true) (λ n. is_before (rank_of_note n) (stage ∷ bin ∷ limit ∷ []) ≡ false) notes count
 
--- there is at least one worker, bin and stage
-abbrev pub IsShape : Shape → Type 0
-IsShape shape = (0 < shape.workers) × (0 < shape.bins) × (0 < shape.stages)
-
--- the record names a worker, a bin and a stage of the job
-abbrev pub IsWithin : Shape → Control → Type 0
-IsWithin shape control = (control.worker < shape.workers) × (control.bin < shape.bins) × (control.stage < shape.stages)
-
 -- each record that was noted does
 abbrev pub AreWithin : Shape → List Note → Type 0
 AreWithin shape notes = All (λ n. IsWithin shape n.control) notes
-
--- a first owner is that of a worker, a bin and a stage of the job
-abbrev pub FirstFits : Shape → First → Type 0
-FirstFits shape first = (first.worker < shape.workers) × (first.bin < shape.bins) × (first.stage < shape.stages)
-
--- the first owner of a bin of a stage among these, else this worker
-abbrev pub first_among : List First → ℕ → ℕ → ℕ → ℕ
-first_among [] stage bin usual = usual
-first_among (f ∷ fs) stage bin usual = cond (f.stage == stage && f.bin == bin) f.worker (first_among fs stage bin usual)
-
--- the first owner of a bin of a stage: the worker that the configuration says, else the bin's number modulo the number of workers
-abbrev pub first_owner : Layout → ℕ → ℕ → ℕ
-first_owner layout stage bin = first_among layout.firsts stage bin (bin % layout.shape.workers)
 
 -- the owner of a bin just before a time, by what was noted
 abbrev pub owner_before : Notes → ℕ → ℕ → ℕ → ℕ

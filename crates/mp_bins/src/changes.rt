@@ -4,10 +4,10 @@ ghost use Rattle.mp_bins.specs.Notes.{AreInOrder, controls_in, is_noted, with_no
 ghost use Rattle.mp_bins.specs.Changes.{AreChangesOf, IsMoveThere, IsMoveThen};
 
 use crate::finding::{next_time, owner_below};
-use crate::firsts::FirstOwners;
 use crate::kept::{ByBin, ByOwner, StageBin};
 use crate::owners::Note;
 use crate::ranked::replace;
+use mp_layout::FirstOwners;
 use mp_names::{Control, Move, Time};
 use mp_ordered::OrderedBlocks;
 

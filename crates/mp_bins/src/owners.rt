@@ -5,9 +5,9 @@ ghost use Rattle.mp_bins.specs.Leaving.{IsNextLeaving, NoneLeaves};
 
 use crate::changes::put_down;
 use crate::finding::owner_below;
-use crate::firsts::{FirstOwners, bin_index};
 use crate::kept::{ByBin, ByOwner, StageBin};
 use crate::ranked::first_from;
+use mp_layout::{FirstOwners, bin_index};
 use mp_names::{Control, First, Move, Shape, Time, TimedBin};
 use mp_ordered::{OrderedBlocks, Spot};
 use std::alloc::{AllocError, Global};

@@ -3,7 +3,7 @@ use Rattle.std.proofs.Common.{ℕ, List}
 use Rattle.std.proofs.lemmas.List.Elements.{All-weaker}
 use Rattle.mp_model.specs.Facts.{QueryFacts}
 use Rattle.mp_opening.specs.Openings.{CellMayOpen, MayOpen, WakeMayOpen}
-use Rattle.mp_saved.specs.Checkpoints.{CheckpointOf}
+use Rattle.mp_opening.specs.Checkpoints.{CheckpointOf}
 use Rattle.mp_checkpoint_laws.specs.Files.{CellStands, CheckpointFits, WakeStands, format_of}
 
 module _ {Cell : Type 0} (number : ℕ) (values : List ℕ) (q : QueryFacts Cell) (text : ℕ → Cell → List ℕ) where

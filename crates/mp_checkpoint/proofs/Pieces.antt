@@ -5,12 +5,12 @@ use Rattle.std.proofs.lemmas.Grind.{flat_map-append}
 use Rattle.std.proofs.lemmas.List.{append-nil, length-map, take-append-drop}
 use Rattle.std.proofs.lemmas.List.Elements.{All-cons, All-head, All-nil, All-tail, All-weaker}
 use Rattle.mp_model.specs.Facts.{SavedWake}
-use Rattle.mp_saved.specs.declared.checkpoint.KeyCell.{KeyCell}
+use Rattle.mp_opening.specs.declared.checkpoint.KeyCell.{KeyCell}
 use Rattle.mp_outside.specs.Sink.{grown}
 use Rattle.mp_outside.proofs.SinkLemmas.{grown-grown, grown-nothing}
 use Rattle.mp_checkpoint_laws.specs.Files.{CellStands, CheckpointFits, Format, SavedLine, cell_line, cell_on, cells_on, file_text, first_line, is_in_front, last_line, line_text, lines_of, unlines, wake_line, with_cell}
 use Rattle.mp_checkpoint_laws.proofs.Parted.{cells_again}
-use Rattle.mp_saved.specs.Checkpoints.{CheckpointOf}
+use Rattle.mp_opening.specs.Checkpoints.{CheckpointOf}
 use Rattle.mp_checkpoint.specs.Items.{CellsMay}
 use Rattle.mp_checkpoint.specs.Written.{IsWrittenInPart, texts_of}
 

@@ -5,8 +5,8 @@ use Rattle.std.proofs.lemmas.List.{append_cancel_left}
 use Rattle.std.proofs.lemmas.List.Elements.{All-head, All-tail}
 use Rattle.mp_names.specs.Limits.{greatest_id, greatest_time, last_time, most_stages}
 use Rattle.mp_model.specs.Facts.{SavedWake}
-use Rattle.mp_saved.specs.declared.checkpoint.KeyCell.{KeyCell}
-use Rattle.mp_saved.specs.Checkpoints.{CheckpointOf}
+use Rattle.mp_opening.specs.declared.checkpoint.KeyCell.{KeyCell}
+use Rattle.mp_opening.specs.Checkpoints.{CheckpointOf}
 use Rattle.mp_checkpoint_laws.specs.Files.{CellStands, CheckpointFits, Format, SavedLine, WakeStands, cell_on, cells_on, file_text, first_line, last_line, line_text, lines_of, wake_on, wakes_on}
 use Rattle.mp_checkpoint_laws.proofs.Lines.{ended}
 use Rattle.mp_checkpoint_laws.proofs.Parted.{cells_again, wakes_again}

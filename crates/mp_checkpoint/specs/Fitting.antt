@@ -2,8 +2,8 @@
 use Rattle.std.specs.Prelude.{ℕ, List, All, AllPairs}
 use Rattle.mp_model.specs.Facts.{SavedWake}
 use Rattle.mp_model.specs.QueryLaws.{WakeIsBefore}
-use Rattle.mp_saved.specs.declared.checkpoint.KeyCell.{KeyCell}
-use Rattle.mp_saved.specs.Checkpoints.{KeyIsBefore}
+use Rattle.mp_opening.specs.declared.checkpoint.KeyCell.{KeyCell}
+use Rattle.mp_opening.specs.Checkpoints.{KeyIsBefore}
 use Rattle.mp_checkpoint_laws.specs.Files.{CellStands, Format, WakeStands}
 
 module _ {Cell : Type 0} (f : Format Cell) (t : ℕ) where

@@ -2,7 +2,7 @@
 ghost use Rattle.std.specs.Prelude.{◌≡◌, ◌<◌, ◌≤◌, ◌^◌, IfOk, IsErrOf, MatchOption, length};
 ghost use Rattle.mp_names.specs.Limits.{most_bytes};
 ghost use Rattle.mp_opening.specs.Openings.{MayOpen};
-ghost use Rattle.mp_saved.specs.Checkpoints.{CheckpointOf};
+ghost use Rattle.mp_opening.specs.Checkpoints.{CheckpointOf};
 ghost use Rattle.mp_checkpoint_laws.specs.Files.{IsFileOf, format_of};
 ghost use Rattle.mp_checkpoint.specs.declared.refused.CheckpointRefused.TheVariants.{BadCheckpoint};
 
@@ -12,7 +12,8 @@ use crate::fitting::fits;
 use crate::lines::put_first_line;
 use crate::matching::{behind, is_file_of};
 use crate::reading::read_items;
-use mp_saved::{Checkpoint, Saved};
+use mp_opening::Checkpoint;
+use mp_saved::Saved;
 use std::alloc::{AllocError, Global};
 
 /// The checkpoint that has this file, of at most 2^28 bytes, with this query and the values of its rules; a job may go on

@@ -2,13 +2,14 @@
 ghost use Rattle.std.specs.Prelude.{◌≡◌, ◌↔◌, ◌≤◌, IsTrue};
 ghost use Rattle.mp_names.specs.Limits.{greatest_time};
 ghost use Rattle.mp_model.specs.QueryLaws.{WakeIsBefore};
-ghost use Rattle.mp_saved.specs.Checkpoints.{KeyIsBefore};
+ghost use Rattle.mp_opening.specs.Checkpoints.{KeyIsBefore};
 ghost use Rattle.mp_checkpoint_laws.specs.Files.{CellStands, CheckpointFits, WakeStands, format_of};
 ghost use Rattle.mp_checkpoint.specs.Fitting.{CellsFit, WakesFit};
 
 use mp_model::Time;
 use mp_names::limits::{LAST_TIME, MAX_ID, MAX_TIME};
-use mp_saved::{Checkpoint, KeyCell, KeyWake, Saved};
+use mp_opening::{Checkpoint, KeyCell, KeyWake};
+use mp_saved::Saved;
 
 /// Whether a file may say this checkpoint of the query: its time is 1 to 2^47; its cells may be saved then, and ascend by
 /// stage and key; its wakes, which queries below q4 have none of, are of the first stage, from its time on, and ascend by

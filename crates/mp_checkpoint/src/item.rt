@@ -3,7 +3,7 @@ ghost use Rattle.std.specs.Prelude.{◌≡◌, ◌∷◌, [], MatchOption};
 ghost use Rattle.mp_checkpoint_laws.specs.Files.{is_in_front, lines_of};
 ghost use Rattle.mp_checkpoint.specs.Items.{line_said};
 
-use mp_saved::{KeyCell, KeyWake};
+use mp_opening::{KeyCell, KeyWake};
 use std::marker::Model;
 
 /// What one line of a checkpoint's file says.

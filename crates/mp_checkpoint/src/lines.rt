@@ -8,7 +8,8 @@ ghost use Rattle.mp_checkpoint.specs.Written.{texts_of};
 
 use crate::item::Item;
 use mp_model::Time;
-use mp_saved::{KeyCell, KeyWake, Saved, put_more};
+use mp_opening::{KeyCell, KeyWake};
+use mp_saved::{Saved, put_more};
 use mp_text::put_number;
 use std::alloc::AllocError;
 

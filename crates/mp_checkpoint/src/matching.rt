@@ -5,7 +5,8 @@ ghost use Rattle.mp_checkpoint.specs.Written.{texts_of};
 
 use crate::item::Items;
 use crate::lines::{put_first_line, put_item, put_last_line};
-use mp_saved::{Checkpoint, Saved};
+use mp_opening::Checkpoint;
+use mp_saved::Saved;
 use std::alloc::{AllocError, Global};
 
 /// Whether a text is the file of this checkpoint. `AllocError`: no memory.

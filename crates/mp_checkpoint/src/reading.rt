@@ -6,7 +6,8 @@ ghost use Rattle.mp_checkpoint.specs.Loose.{AreReadable, IsReadable};
 ghost use Rattle.mp_checkpoint.specs.Written.{texts_of};
 
 use memchr::memchr;
-use mp_saved::{KeyCell, KeyWake, Saved};
+use mp_opening::{KeyCell, KeyWake};
+use mp_saved::Saved;
 use mp_text::number;
 use std::alloc::{AllocError, Global};
 

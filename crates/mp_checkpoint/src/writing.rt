@@ -7,8 +7,9 @@ ghost use Rattle.mp_checkpoint.specs.Written.{IsWrittenInPart, texts_of};
 
 use crate::item::Items;
 use crate::lines::{put_first_line, put_item, put_last_line};
+use mp_opening::Checkpoint;
 use mp_outside::{Fault, Sink, write_piece};
-use mp_saved::{Checkpoint, Saved};
+use mp_saved::Saved;
 use std::alloc::Global;
 
 /// Writes the file of a checkpoint of this query, each line as one piece. `Failed`: only where the sink's count of faults

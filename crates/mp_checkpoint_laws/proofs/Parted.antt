@@ -1,6 +1,6 @@
 -- The lines of cells and wakes are those of the cells, and those of the wakes.
 use Rattle.std.proofs.Common.{◌≡◌, Bool, true, false, cond, List, [], ◌∷◌, refl, ap}
-use Rattle.mp_saved.specs.declared.checkpoint.KeyCell.{KeyCell}
+use Rattle.mp_opening.specs.declared.checkpoint.KeyCell.{KeyCell}
 use Rattle.mp_model.specs.Facts.{SavedWake}
 use Rattle.mp_checkpoint_laws.specs.Files.{SavedLine, cell_line, cells_on, is_in_front, lines_of, wake_line, wakes_on, with_cell}
 

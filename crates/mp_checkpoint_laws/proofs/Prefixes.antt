@@ -8,9 +8,9 @@ use Rattle.std.proofs.lemmas.List.Elements.{All-append, All-cons, All-head, All-
 use Rattle.mp_names.specs.Limits.{greatest_id, greatest_time, last_time}
 use Rattle.std.proofs.lemmas.Bool.{both_ways, eq-eqb}
 use Rattle.mp_model.proofs.PlainNumbers.{plain_number}
-use Rattle.mp_saved.specs.declared.checkpoint.KeyCell.{KeyCell}
+use Rattle.mp_opening.specs.declared.checkpoint.KeyCell.{KeyCell}
 use Rattle.mp_model.specs.Facts.{SavedWake}
-use Rattle.mp_saved.specs.Checkpoints.{CheckpointOf}
+use Rattle.mp_opening.specs.Checkpoints.{CheckpointOf}
 use Rattle.mp_checkpoint_laws.specs.Files.{lines_of, Format, IsFileOf, SavedLine, cell_on, cells_on, first_line, last_line, line_text, unlines, wake_on, wakes_on}
 use Rattle.mp_checkpoint_laws.specs.Laws.{CutFilesAreRefused, FormatIsPlain}
 use Rattle.mp_checkpoint_laws.proofs.Parted.{cells_again, wakes_again}

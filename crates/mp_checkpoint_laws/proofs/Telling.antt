@@ -9,9 +9,9 @@ use Rattle.std.proofs.lemmas.List.{append_cancel_left, append_cancel_right}
 use Rattle.std.proofs.lemmas.List.Elements.{All-weaker}
 use Rattle.mp_names.specs.Limits.{greatest_id, greatest_time, last_time}
 use Rattle.mp_model.proofs.PlainNumbers.{plain_number}
-use Rattle.mp_saved.specs.declared.checkpoint.KeyCell.{KeyCell}
+use Rattle.mp_opening.specs.declared.checkpoint.KeyCell.{KeyCell}
 use Rattle.mp_model.specs.Facts.{SavedWake}
-use Rattle.mp_saved.specs.Checkpoints.{CheckpointOf}
+use Rattle.mp_opening.specs.Checkpoints.{CheckpointOf}
 use Rattle.mp_checkpoint_laws.specs.Files.{lines_of, CheckpointFits, Format, IsFileOf, SavedLine, cell_on, cells_on, first_line, last_line, line_text, wake_on, wakes_on}
 use Rattle.mp_checkpoint_laws.specs.Laws.{FilesTellCheckpoints, FormatIsPlain, TextsTell}
 use Rattle.mp_checkpoint_laws.proofs.Parted.{cells_again, wakes_again}

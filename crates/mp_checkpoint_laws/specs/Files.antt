@@ -6,8 +6,8 @@ use Rattle.std.specs.List.{flat_map, join_with_byte}
 use Rattle.mp_names.specs.Limits.{greatest_id, greatest_time, last_time}
 use Rattle.mp_model.specs.Facts.{QueryFacts, SavedWake}
 use Rattle.mp_model.specs.QueryLaws.{WakeIsBefore}
-use Rattle.mp_saved.specs.declared.checkpoint.KeyCell.{KeyCell}
-use Rattle.mp_saved.specs.Checkpoints.{CheckpointOf, KeyIsBefore}
+use Rattle.mp_opening.specs.declared.checkpoint.KeyCell.{KeyCell}
+use Rattle.mp_opening.specs.Checkpoints.{CheckpointOf, KeyIsBefore}
 
 -- What a query says of its files: its number, the values of its rules, how many stages it has, the texts of the cells of each stage, and which may be saved
 pub record Format (Cell : Type 0) : Type 0 where

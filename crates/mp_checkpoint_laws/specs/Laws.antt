@@ -1,6 +1,6 @@
 -- What holds of the files of checkpoints.
 use Rattle.std.specs.Prelude.{◌≡◌, ◌≢◌, ◌<◌, ◌^◌, ◌++◌, ℕ, List, All, length, true}
-use Rattle.mp_saved.specs.Checkpoints.{CheckpointOf}
+use Rattle.mp_opening.specs.Checkpoints.{CheckpointOf}
 use Rattle.mp_checkpoint_laws.specs.Files.{Format, IsFileOf}
 
 module _ {Cell : Type 0} where

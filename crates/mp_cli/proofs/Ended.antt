@@ -10,7 +10,7 @@ use Rattle.mp_names.specs.declared.kinds.Kept.{Kept}
 use Rattle.mp_outline.specs.JobOutline.{outline_of}
 use Rattle.mp_outside.specs.Fault.{Rose}
 use Rattle.mp_outside.specs.Files.{Files}
-use Rattle.mp_saved.specs.Checkpoints.{CheckpointOf}
+use Rattle.mp_opening.specs.Checkpoints.{CheckpointOf}
 use Rattle.mp_words.specs.Values.{From, Options, SpanAsked, Until, Whole}
 use Rattle.mp_words.specs.Words.{Run}
 use Rattle.mp_command.specs.declared.flow.Flow.{Flow}

@@ -17,8 +17,8 @@ use Rattle.mp_model.proofs.LastTimes.{IsInTime, stage_in_time}
 use Rattle.mp_model.proofs.LegalRecords.{input_records_legal}
 use Rattle.mp_job.specs.Legal.{StopFits}
 use Rattle.mp_job.proofs.Members.{Contains-later, nothing_in_nil}
-use Rattle.mp_saved.specs.declared.checkpoint.KeyCell.{KeyCell}
-use Rattle.mp_saved.specs.Checkpoints.{CheckpointOf, KeyIsBefore}
+use Rattle.mp_opening.specs.declared.checkpoint.KeyCell.{KeyCell}
+use Rattle.mp_opening.specs.Checkpoints.{CheckpointOf, KeyIsBefore}
 use Rattle.mp_saved.specs.Leaving.{LeavesWhatMayBeSaved}
 use Rattle.mp_checkpoint_laws.specs.Files.{CellStands, CheckpointFits, WakeStands, format_of}
 use Rattle.mp_restart_laws.specs.Laws.{HasTheBeginning}

@@ -15,8 +15,8 @@ use Rattle.mp_model.specs.QueryLaws.{LaterStagesPostNothing, WakeIsBefore}
 use Rattle.mp_model.specs.Stages.{stage_records}
 use Rattle.mp_outline.specs.JobOutline.{outline_of}
 use Rattle.mp_postdated.specs.Wakes.{Has}
-use Rattle.mp_saved.specs.declared.checkpoint.KeyCell.{KeyCell}
-use Rattle.mp_saved.specs.Checkpoints.{CheckpointOf, KeyIsBefore}
+use Rattle.mp_opening.specs.declared.checkpoint.KeyCell.{KeyCell}
+use Rattle.mp_opening.specs.Checkpoints.{CheckpointOf, KeyIsBefore}
 use Rattle.mp_restart_laws.specs.Saves.{HoldsWhatIsLeft, IsLeft, StandsInOrder, cell_in}
 use Rattle.mp_restart_laws.proofs.OneWay.{AllPairs-to_Pairs, stands, stands_for}
 use Rattle.mp_msg.specs.LastStates.{AreAllStates, end_time}

@@ -10,7 +10,7 @@ use Rattle.mp_outline.proofs.Found.{found, found_there}
 use Rattle.mp_outline.proofs.Pairs.{Pairs, Pairs-append}
 use Rattle.mp_outline.proofs.PairsMade.{Pairs-map}
 use Rattle.mp_postdated.specs.Wakes.{wake_cmp}
-use Rattle.mp_saved.specs.declared.checkpoint.KeyCell.{KeyCell}
+use Rattle.mp_opening.specs.declared.checkpoint.KeyCell.{KeyCell}
 use Rattle.mp_msg.specs.States.{BinContent}
 use Rattle.mp_collect.specs.Gathered.{as_cell, as_wake, cells_of, wakes_of}
 use Rattle.mp_collect.proofs.Owned.{AreLast, IsLast, bin_of_state}

@@ -13,8 +13,8 @@ use Rattle.std.specs.declared.cmp.Ordering.TheVariants.{Less, Equal, Greater}
 use Rattle.mp_model.specs.Facts.{SavedWake}
 use Rattle.mp_model.specs.QueryLaws.{WakeIsBefore}
 use Rattle.mp_outline.proofs.Pairs.{AllPairs-Pairs, Pairs, Pairs-weaker}
-use Rattle.mp_saved.specs.declared.checkpoint.KeyCell.{KeyCell}
-use Rattle.mp_saved.specs.Checkpoints.{KeyIsBefore}
+use Rattle.mp_opening.specs.declared.checkpoint.KeyCell.{KeyCell}
+use Rattle.mp_opening.specs.Checkpoints.{KeyIsBefore}
 use Rattle.mp_collect.specs.Gathered.{pair_cmp, place_of_cell, place_of_wake, triple_cmp}
 
 module _ {K : Type 0} {R : K → K → Ordering} (o : IsTotalOrder R) {X : Type 0} (key : X → K) where

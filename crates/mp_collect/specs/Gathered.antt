@@ -4,7 +4,7 @@ use Rattle.std.specs.List.{flat_map}
 use Rattle.std.specs.Ordering.{nat_cmp, ordering_then}
 use Rattle.std.specs.declared.cmp.Ordering.{Ordering}
 use Rattle.mp_model.specs.Facts.{SavedWake}
-use Rattle.mp_saved.specs.declared.checkpoint.KeyCell.{KeyCell}
+use Rattle.mp_opening.specs.declared.checkpoint.KeyCell.{KeyCell}
 use Rattle.mp_msg.specs.States.{BinContent}
 
 -- a wake of a stage, which is a time and a key

@@ -5,7 +5,7 @@ use Rattle.mp_model.specs.Facts.{JobFacts, QueryFacts}
 use Rattle.mp_model.specs.Legal.{EventsAreLegal}
 use Rattle.mp_model.specs.Plain.{EventsArePlain}
 use Rattle.mp_model.specs.Tables.{table_of}
-use Rattle.mp_saved.specs.Checkpoints.{CheckpointOf, saved_in}
+use Rattle.mp_opening.specs.Checkpoints.{CheckpointOf, saved_in}
 use Rattle.mp_restart_laws.specs.Laws.{AreTwoJobs}
 use Rattle.mp_restart_laws.specs.Saves.{HoldsWhatIsLeft, StandsInOrder}
 

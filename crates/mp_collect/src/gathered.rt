@@ -6,8 +6,8 @@ ghost use Rattle.mp_collect.specs.Gathered.{as_cell, as_wake, cells_of, wakes_of
 
 use indexmap::IndexMap;
 use mp_msg::BinState;
+use mp_opening::{KeyCell, KeyWake};
 use mp_postdated::Wakes;
-use mp_saved::{KeyCell, KeyWake};
 use std::alloc::{AllocError, Global};
 
 /// The cells of the states of all workers, and their wakes, in no order. `AllocError`: no memory.

@@ -4,7 +4,7 @@ ghost use Rattle.std.specs.List.Sorted.{IsSortedByKey};
 ghost use Rattle.mp_collect.specs.Gathered.{pair_cmp, place_of_cell, place_of_wake, triple_cmp};
 
 use mp_model::Time;
-use mp_saved::{KeyCell, KeyWake};
+use mp_opening::{KeyCell, KeyWake};
 
 /// Puts cells in the order of their stages, and then of their keys. Takes n log n comparisons of n cells.
 pub fn put_cells_in_order<C: Drop>(cells: &mut Vec<KeyCell<C>>)

@@ -11,7 +11,8 @@ use crate::gathered::gather;
 use crate::in_order::{put_cells_in_order, put_wakes_in_order};
 use mp_model::{Naming, Time};
 use mp_msg::BinState;
-use mp_saved::{Checkpoint, Saved};
+use mp_opening::Checkpoint;
+use mp_saved::Saved;
 use std::alloc::{AllocError, Global};
 
 /// The checkpoint of what all workers have at the end of a job that stops at this time: the cells that aren't fresh and the

@@ -8,7 +8,7 @@ use Rattle.mp_model.specs.Tables.{table_of}
 use Rattle.mp_restart_laws.proofs.OfJobs.{job_stops}
 use Rattle.mp_restart_laws.specs.Laws.{HasTheBeginning}
 use Rattle.mp_restart_laws.specs.Saves.{HoldsWhatIsLeft, StandsInOrder}
-use Rattle.mp_saved.specs.Checkpoints.{CheckpointOf}
+use Rattle.mp_opening.specs.Checkpoints.{CheckpointOf}
 use Rattle.mp_command.specs.Spans.{IsLeftAt}
 
 module _ {Cell : Type 0} (facts : List ℕ → QueryFacts Cell) (job : JobFacts) (begins : BeginsFresh (facts job.values)) (later : PostsAreLater (facts job.values)) (nothing : LaterStagesPostNothing (facts job.values))

@@ -4,7 +4,7 @@ use Rattle.mp_checkpoint_laws.specs.Files.{Format, IsFileOf, format_of}
 use Rattle.mp_model.specs.declared.record.Event.{Event}
 use Rattle.mp_model.specs.Facts.{JobFacts, QueryFacts}
 use Rattle.mp_restart_laws.specs.Saves.{HoldsWhatIsLeft, StandsInOrder}
-use Rattle.mp_saved.specs.Checkpoints.{CheckpointOf, saved_in}
+use Rattle.mp_opening.specs.Checkpoints.{CheckpointOf, saved_in}
 use Rattle.mp_words.specs.Values.{From, SpanAsked, Until, Whole}
 
 -- the job where it stops at a time: only control records of earlier times are left

@@ -14,7 +14,7 @@ use Rattle.mp_outside.specs.Files.{Files, with_file}
 use Rattle.mp_report.specs.Journal.{journal_text}
 use Rattle.mp_report.specs.Report.{IsReport}
 use Rattle.mp_restart_laws.specs.Times.{lines_below}
-use Rattle.mp_saved.specs.Checkpoints.{CheckpointOf}
+use Rattle.mp_opening.specs.Checkpoints.{CheckpointOf}
 use Rattle.mp_words.specs.declared.options.Schedule.{Schedule}
 use Rattle.mp_words.specs.Values.{From, MakeAsked, Options, SpanAsked, Until, Whole}
 use Rattle.mp_words.specs.Words.{Asked, Run, Check, Make, Demo, Audit}

@@ -7,7 +7,7 @@ ghost use Rattle.mp_model.specs.Legal.{EventsAreLegal};
 ghost use Rattle.mp_model.specs.Rules.{numbers_with};
 ghost use Rattle.mp_model.specs.Tables.{table_of};
 ghost use Rattle.mp_names.specs.Limits.{greatest_time, most_bytes, most_workers};
-ghost use Rattle.mp_saved.specs.Checkpoints.{CheckpointOf};
+ghost use Rattle.mp_opening.specs.Checkpoints.{CheckpointOf};
 ghost use Rattle.mp_words.specs.Limits.{IsBinCount, IsPositiveUpTo};
 ghost use Rattle.mp_words.specs.Values.{From};
 ghost use Rattle.mp_command.specs.Config.{SettingsFit, job_with, shape_with};

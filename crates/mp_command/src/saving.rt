@@ -16,8 +16,9 @@ use mp_collect::collect;
 use mp_job::{Job, Time};
 use mp_model::Naming;
 use mp_msg::BinState;
+use mp_opening::Checkpoint;
 use mp_outside::{Depot, DepotSink};
-use mp_saved::{Checkpoint, Saved};
+use mp_saved::Saved;
 use std::alloc::{AllocError, Global};
 use std::marker::Brand;
 

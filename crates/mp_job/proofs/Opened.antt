@@ -7,8 +7,8 @@ use Rattle.mp_opening.specs.Below.{bin_of_key}
 use Rattle.mp_model.specs.Facts.{QueryFacts, SavedCell, SavedState, SavedWake}
 use Rattle.mp_model.specs.QueryLaws.{TextsTellCells}
 use Rattle.mp_model.specs.Tables.{cell_among, opening_wakes}
-use Rattle.mp_opening.specs.Below.{KeyCell}
-use Rattle.mp_opening.specs.Below.{KeyIsBefore, saved_in}
+use Rattle.mp_opening.specs.declared.checkpoint.KeyCell.{KeyCell}
+use Rattle.mp_opening.specs.Checkpoints.{KeyIsBefore, saved_in}
 use Rattle.mp_opening.specs.Openings.{AreCellsOf, AreWakesOf, CellMayOpen, MayOpen, OpeningOf}
 use Rattle.mp_job.specs.Openings.{AreOpeningCells, AreOpeningWakes}
 use Rattle.mp_job.specs.Parts.{OpeningFits, table_in}

@@ -14,8 +14,8 @@ use Rattle.mp_model.specs.QueryLaws.{BeginsFresh, CellIsBefore, SavedFits, Saved
 use Rattle.mp_model.specs.Tables.{cell_among, counts, is_after_saved, opening_cell, table_of}
 use Rattle.mp_model.specs.Legal.{EventsAreLegal}
 use Rattle.mp_job.specs.Legal.{ControlsFit, FirstsFit, JobIsLegal, KeepsToJob, ShapeIsLegal, StopFits}
-use Rattle.mp_opening.specs.Below.{KeyCell}
-use Rattle.mp_opening.specs.Below.{CheckpointOf, saved_in}
+use Rattle.mp_opening.specs.declared.checkpoint.KeyCell.{KeyCell}
+use Rattle.mp_opening.specs.Checkpoints.{CheckpointOf, saved_in}
 use Rattle.mp_opening.specs.Openings.{CellMayOpen, MayOpen, OpeningOf, WakeMayOpen}
 use Rattle.mp_job.specs.Parts.{OpeningFits, job_in, job_of, saved_of, table_in}
 use Rattle.mp_job.specs.Times.{opening_times, wake_times}

@@ -8,7 +8,7 @@ use Rattle.mp_model.specs.declared.record.Event.{Event}
 use Rattle.mp_names.specs.Limits.{most_bytes}
 use Rattle.mp_model.specs.Facts.{QueryFacts, JobFacts, SavedState}
 use Rattle.mp_model.specs.Tables.{table_of}
-use Rattle.mp_opening.specs.Below.{saved_in}
+use Rattle.mp_opening.specs.Checkpoints.{saved_in}
 use Rattle.mp_opening.specs.Openings.{MayOpen, OpeningOf}
 use Rattle.mp_job.specs.Legal.{JobIsLegal}
 use Rattle.mp_job.specs.Records.{share_of}

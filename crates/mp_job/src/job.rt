@@ -4,7 +4,7 @@ ghost use Rattle.mp_names.specs.Limits.{greatest_time};
 ghost use Rattle.mp_names.specs.Outlines.{IsBeforeStop, is_before_stop};
 ghost use Rattle.mp_model.specs.Legal.{EventsAreLegal};
 ghost use Rattle.mp_model.specs.Tables.{is_after_saved, table_of};
-ghost use Rattle.mp_opening.specs.Below.{saved_in};
+ghost use Rattle.mp_opening.specs.Checkpoints.{saved_in};
 ghost use Rattle.mp_opening.specs.Openings.{MayOpen};
 ghost use Rattle.mp_opening.specs.Below.{first_owner};
 ghost use Rattle.mp_job.specs.Legal.{ControlsFit, FirstsFit, JobIsLegal, ShapeIsLegal, StopFits};

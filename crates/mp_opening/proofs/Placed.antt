@@ -9,9 +9,9 @@ use Rattle.std.proofs.lemmas.List.Kept.{AllPairs-filter}
 use Rattle.std.proofs.lemmas.List.Sorted.{All-permutation, Contains-permutation}
 use Rattle.std.proofs.lemmas.Map.Keys.{IsDistinct-IsPermutation, IsDistinct-from_apart, apart_from_distinct}
 use Rattle.std.proofs.lemmas.Option.{get_or_from_slice_get, slice_get-get_or, slice_get_cases, slice_get_within}
-use Rattle.mp_bins.specs.Bins.{bin_of_key}
-use Rattle.mp_saved.specs.declared.checkpoint.KeyCell.{KeyCell}
-use Rattle.mp_saved.specs.Checkpoints.{KeyIsBefore}
+use Rattle.mp_layout.specs.Bins.{bin_of_key}
+use Rattle.mp_opening.specs.declared.checkpoint.KeyCell.{KeyCell}
+use Rattle.mp_opening.specs.Checkpoints.{KeyIsBefore}
 use Rattle.mp_opening.specs.declared.places.CellPlace.{CellPlace}
 use Rattle.mp_opening.specs.ByBin.{AreByBin, cell_at, is_of_bin, place_at, places_from}
 use Rattle.mp_opening.specs.Openings.{AreCellsOf, OpeningOf}

@@ -8,7 +8,7 @@ use Rattle.std.proofs.lemmas.List.Sorted.{Contains-permutation, IsPermutation-sy
 use Rattle.std.specs.List.Sorted.{IsSortedByKey}
 use Rattle.std.specs.Ordering.{nat_cmp}
 use Rattle.std.specs.declared.cmp.Ordering.TheVariants.{Less}
-use Rattle.mp_bins.specs.Bins.{bin_of_key}
+use Rattle.mp_layout.specs.Bins.{bin_of_key}
 use Rattle.mp_model.specs.Facts.{SavedWake}
 use Rattle.mp_model.specs.QueryLaws.{WakeIsBefore}
 use Rattle.mp_opening.specs.declared.places.CellPlace.{CellPlace}

@@ -4,11 +4,11 @@ use Rattle.std.specs.Option.{option_map}
 use Rattle.std.specs.List.Sorted.{IsSortedByKey}
 use Rattle.std.specs.Ordering.{nat_cmp, ordering_then}
 use Rattle.std.specs.declared.cmp.Ordering.{Ordering}
-use Rattle.mp_bins.specs.Bins.{IsBinCount, bin_of_key}
+use Rattle.mp_layout.specs.Bins.{IsBinCount, bin_of_key}
 use Rattle.mp_model.specs.Facts.{SavedWake}
 use Rattle.mp_model.specs.QueryLaws.{WakeIsBefore}
-use Rattle.mp_saved.specs.declared.checkpoint.KeyCell.{KeyCell}
-use Rattle.mp_saved.specs.Checkpoints.{CheckpointOf, KeyIsBefore}
+use Rattle.mp_opening.specs.declared.checkpoint.KeyCell.{KeyCell}
+use Rattle.mp_opening.specs.Checkpoints.{CheckpointOf, KeyIsBefore}
 use Rattle.mp_opening.specs.declared.places.CellPlace.{CellPlace}
 
 -- by the first number, and then by the second

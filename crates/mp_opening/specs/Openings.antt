@@ -1,11 +1,11 @@
 -- What a job goes on from, by its bins.
 use Rattle.std.specs.Prelude.{◌≡◌, ◌≢◌, ◌↔◌, ◌⊎◌, ◌<◌, ◌≤◌, ℕ, true, List, All, AllPairs, Contains}
 use Rattle.mp_names.specs.Limits.{greatest_id, greatest_time, last_time}
-use Rattle.mp_bins.specs.Bins.{bin_of_key}
+use Rattle.mp_layout.specs.Bins.{bin_of_key}
 use Rattle.mp_model.specs.Facts.{QueryFacts, SavedWake}
 use Rattle.mp_model.specs.QueryLaws.{WakeIsBefore}
-use Rattle.mp_saved.specs.declared.checkpoint.KeyCell.{KeyCell}
-use Rattle.mp_saved.specs.Checkpoints.{CheckpointOf, KeyIsBefore}
+use Rattle.mp_opening.specs.declared.checkpoint.KeyCell.{KeyCell}
+use Rattle.mp_opening.specs.Checkpoints.{CheckpointOf, KeyIsBefore}
 
 -- the checkpoint that a job goes on from, and how many bins each of its stages has
 pub record OpeningOf (Cell : Type 0) : Type 0 where

@@ -1,14 +1,14 @@
 //! A checkpoint with the places of its cells and its wakes by bin.
 ghost use Rattle.std.specs.Prelude.{◌≡◌, ◌↔◌, ℕ, All, AllPairs, Contains, IfOk, length, map};
-ghost use Rattle.mp_bins.specs.Bins.{IsBinCount};
+ghost use Rattle.mp_layout.specs.Bins.{IsBinCount};
 ghost use Rattle.mp_model.specs.QueryLaws.{WakeIsBefore};
-ghost use Rattle.mp_saved.specs.Checkpoints.{KeyIsBefore};
+ghost use Rattle.mp_opening.specs.Checkpoints.{KeyIsBefore};
 ghost use Rattle.mp_opening.specs.Openings.{AreCellsOf, AreWakesOf};
 
+use crate::checkpoint::Checkpoint;
 use crate::places::{CellPlace, copy_at, places_by_bin, places_of};
 use crate::wakes::{wakes_by_bin, wakes_of_bin};
 use mp_model::{Query, Time};
-use mp_saved::Checkpoint;
 use std::alloc::{AllocError, Global};
 use std::marker::Model;
 

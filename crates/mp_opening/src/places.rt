@@ -2,12 +2,12 @@
 ghost use Rattle.std.specs.Prelude.{◌≡◌, ◌≤◌, ◌<◌, true, false, All, IfOk, IsPermutation, Some, filter, length, map};
 ghost use Rattle.std.specs.List.Sorted.{IsPartitionPoint, IsSortedByKey};
 ghost use Rattle.std.specs.Ordering.{is_le, is_lt};
-ghost use Rattle.mp_bins.specs.Bins.{IsBinCount};
+ghost use Rattle.mp_layout.specs.Bins.{IsBinCount};
 ghost use Rattle.mp_opening.specs.ByBin.{cell_at, is_of_bin, pair_cmp, places_from, rank_of_place};
 
-use mp_bins::bin_of;
+use crate::checkpoint::KeyCell;
+use mp_layout::bin_of;
 use mp_model::Query;
-use mp_saved::KeyCell;
 use std::alloc::{AllocError, Global};
 
 /// Where a cell stands in a checkpoint, and the bin of its key.

@@ -2,12 +2,12 @@
 ghost use Rattle.std.specs.Prelude.{◌≡◌, ◌≤◌, true, false, IfOk, IsPermutation, filter, length, map};
 ghost use Rattle.std.specs.List.Sorted.{IsPartitionPoint, IsSortedByKey};
 ghost use Rattle.std.specs.Ordering.{is_le, is_lt, nat_cmp};
-ghost use Rattle.mp_bins.specs.Bins.{IsBinCount, bin_of_key};
+ghost use Rattle.mp_layout.specs.Bins.{IsBinCount, bin_of_key};
 ghost use Rattle.mp_opening.specs.ByBin.{rank_of_wake, time_and_key, triple_cmp, wakes_in};
 
-use mp_bins::bin_of;
+use crate::checkpoint::KeyWake;
+use mp_layout::bin_of;
 use mp_model::Time;
-use mp_saved::KeyWake;
 use std::alloc::{AllocError, Global};
 
 /// Wakes, each a time and a key, by bin, then by time, and then by key. Takes n log n comparisons of n wakes. `AllocError`:

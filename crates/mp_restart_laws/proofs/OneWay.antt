@@ -8,8 +8,8 @@ use Rattle.mp_model.specs.Facts.{SavedWake}
 use Rattle.mp_model.specs.Folds.{cell_before}
 use Rattle.mp_model.specs.Stages.{stage_records}
 use Rattle.mp_model.specs.QueryLaws.{WakeIsBefore}
-use Rattle.mp_saved.specs.declared.checkpoint.KeyCell.{KeyCell}
-use Rattle.mp_saved.specs.Checkpoints.{CheckpointOf, KeyIsBefore}
+use Rattle.mp_opening.specs.declared.checkpoint.KeyCell.{KeyCell}
+use Rattle.mp_opening.specs.Checkpoints.{CheckpointOf, KeyIsBefore}
 use Rattle.mp_restart_laws.specs.Saves.{HoldsWhatIsLeft, IsLeft, StandsInOrder, cell_in}
 use Rattle.mp_outline.proofs.Found.{found, found_there}
 use Rattle.mp_job.proofs.Members.{Contains-cases, Contains-filter, Contains-here, Contains-later, Contains-map, filter-Contains, map-Contains, nothing_in_nil}

@@ -9,8 +9,8 @@ use Rattle.mp_model.specs.QueryLaws.{TextsTellCells}
 use Rattle.mp_model.specs.Tables.{cell_among, opening_wakes}
 use Rattle.mp_job.proofs.Members.{Contains-filter, Contains-map, filter-Contains, map-Contains}
 use Rattle.mp_outline.proofs.Found.{found, found_there}
-use Rattle.mp_saved.specs.declared.checkpoint.KeyCell.{KeyCell}
-use Rattle.mp_saved.specs.Checkpoints.{CheckpointOf, saved_in}
+use Rattle.mp_opening.specs.declared.checkpoint.KeyCell.{KeyCell}
+use Rattle.mp_opening.specs.Checkpoints.{CheckpointOf, saved_in}
 use Rattle.mp_restart_laws.specs.Saves.{HoldsWhatIsLeft, SaysWhatIsLeft, cell_in}
 
 module _ {Cell : Type 0} (q : QueryFacts Cell) (text : ℕ → Cell → List ℕ) (tells : TextsTellCells text q) where

@@ -7,7 +7,7 @@ use Rattle.mp_model.specs.Folds.{cell_before}
 use Rattle.mp_model.specs.Legal.{EventsAreLegal}
 use Rattle.mp_model.specs.Stages.{answer_rows, stage_records}
 use Rattle.mp_model.specs.Tables.{table_of}
-use Rattle.mp_saved.specs.Checkpoints.{CheckpointOf, saved_in}
+use Rattle.mp_opening.specs.Checkpoints.{CheckpointOf, saved_in}
 use Rattle.mp_restart_laws.specs.Saves.{HoldsWhatIsLeft, IsLeft, SaysWhatIsLeft, StandsInOrder}
 use Rattle.mp_restart_laws.specs.Times.{lines_below, outputs_below, outputs_from, records_below}
 

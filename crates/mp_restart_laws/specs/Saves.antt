@@ -6,8 +6,8 @@ use Rattle.mp_model.specs.Facts.{QueryFacts, SavedState}
 use Rattle.mp_model.specs.Folds.{cell_before}
 use Rattle.mp_model.specs.Stages.{stage_records}
 use Rattle.mp_model.specs.QueryLaws.{WakeIsBefore}
-use Rattle.mp_saved.specs.declared.checkpoint.KeyCell.{KeyCell}
-use Rattle.mp_saved.specs.Checkpoints.{CheckpointOf, KeyIsBefore}
+use Rattle.mp_opening.specs.declared.checkpoint.KeyCell.{KeyCell}
+use Rattle.mp_opening.specs.Checkpoints.{CheckpointOf, KeyIsBefore}
 use Rattle.mp_model.specs.Tables.{opening_cell, opening_wakes}
 
 module _ {Cell : Type 0} where

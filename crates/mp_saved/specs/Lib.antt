@@ -1,4 +1,3 @@
 -- What the contracts of this crate cite.
-pub mod Checkpoints
 pub mod Numbers
 pub mod Leaving

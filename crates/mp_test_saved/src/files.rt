@@ -1,11 +1,12 @@
 //! Checkpoints are written as their files, and read from them; what no file may say is told.
 use mp_checkpoint::{CheckpointRefused, fits, read_checkpoint, write_checkpoint};
 use mp_model::Query;
+use mp_opening::{Checkpoint, KeyCell, KeyWake};
 use mp_outside::{Fault, MemSink, Op};
 use mp_q_auction::Q4;
 use mp_q_join::Q8;
 use mp_q_window::Q7;
-use mp_saved::{Checkpoint, KeyCell, KeyWake, Saved};
+use mp_saved::Saved;
 use std::alloc::Global;
 use std::process::Abort;
 use std::test::Fail;

@@ -3,7 +3,7 @@ use Rattle.std.proofs.Common.{◌≡◌, length, sym, subst, lit<}
 use Rattle.std.proofs.lemmas.Bool.{both_ways}
 use Rattle.std.proofs.lemmas.Option.{MatchOption-at_none, MatchOption-at_some}
 use Rattle.mp_names.specs.Limits.{most_bytes}
-use Rattle.mp_saved.specs.Checkpoints.{CheckpointOf}
+use Rattle.mp_opening.specs.Checkpoints.{CheckpointOf}
 use Rattle.mp_checkpoint_laws.specs.Files.{CheckpointFits, IsFileOf, format_of}
 use Rattle.mp_checkpoint_laws.proofs.Prefixes.{fits}
 use Rattle.mp_checkpoint.proofs.Opening.{may_open}

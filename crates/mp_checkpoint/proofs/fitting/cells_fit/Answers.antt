@@ -1,6 +1,6 @@
 -- One more of them stands behind the one before it.
 use Rattle.std.proofs.Common.{◌+◌, ◌-◌, refl, arith}
-use Rattle.mp_saved.specs.Checkpoints.{KeyIsBefore}
+use Rattle.mp_opening.specs.Checkpoints.{KeyIsBefore}
 use Rattle.mp_checkpoint_laws.specs.Files.{CellStands, format_of}
 use Rattle.mp_checkpoint.proofs.Ascending.{keys_rise, one_fits, at_place, pair_at}
 use Rattle.mp_checkpoint.proofs.fitting.cells_fit.Goals as goal

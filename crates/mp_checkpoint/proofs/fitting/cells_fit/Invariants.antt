@@ -1,5 +1,5 @@
 -- The first of them stand, and ascend.
-use Rattle.mp_saved.specs.Checkpoints.{KeyIsBefore}
+use Rattle.mp_opening.specs.Checkpoints.{KeyIsBefore}
 use Rattle.mp_checkpoint_laws.specs.Files.{CellStands, format_of}
 use Rattle.mp_checkpoint.proofs.Ascending.{FirstFit}
 use Rattle.mp_checkpoint.proofs.fitting.cells_fit.Given as goal

@@ -2,7 +2,7 @@
 use Rattle.std.proofs.Common.{◌++◌, ◌∷◌, [], List, sym, ap, ◌∙◌, ⊎_elim, append_assoc, append-nil}
 use Rattle.std.proofs.lemmas.Bool.{both_ways}
 use Rattle.mp_model.specs.Facts.{SavedWake}
-use Rattle.mp_saved.specs.declared.checkpoint.KeyCell.{KeyCell}
+use Rattle.mp_opening.specs.declared.checkpoint.KeyCell.{KeyCell}
 use Rattle.mp_checkpoint_laws.specs.Files.{SavedLine, cell_on, cells_on, format_of, last_line, line_text, wake_on, wakes_on}
 use Rattle.mp_checkpoint.specs.Written.{texts_of}
 use Rattle.mp_checkpoint.proofs.LineSteps.{begins}

@@ -3,7 +3,7 @@ use Rattle.std.proofs.Common.{◌≡◌, ◌++◌, ◌+◌, ◌∷◌, [], ℕ, 
 use Rattle.std.proofs.lemmas.Result.{on_err_weaker, on_ok_weaker}
 use Rattle.mp_outside.specs.Sink.{grown}
 use Rattle.mp_outside.proofs.SinkLemmas.{grown-grown, grown-nothing}
-use Rattle.mp_saved.specs.Checkpoints.{CheckpointOf}
+use Rattle.mp_opening.specs.Checkpoints.{CheckpointOf}
 use Rattle.mp_checkpoint_laws.specs.Files.{file_text, first_line, format_of, last_line, lines_of}
 use Rattle.mp_checkpoint.specs.Written.{texts_of}
 use Rattle.mp_checkpoint.proofs.Pieces.{count_lines, file_in_parts, nothing_written, on_err, part_of_next, part_of_piece}

@@ -3,7 +3,7 @@ use Rattle.mp_model.specs.declared.record.Event.{Event}
 use Rattle.mp_model.specs.Legal.{EventsAreLegal}
 use Rattle.mp_model.specs.Plain.{EventsArePlain}
 use Rattle.mp_model.specs.Tables.{table_of}
-use Rattle.mp_saved.specs.Checkpoints.{saved_in}
+use Rattle.mp_opening.specs.Checkpoints.{saved_in}
 use Rattle.mp_restart_laws.proofs.OfJobs.{two_jobs}
 use Rattle.mp_restart_laws.proofs.Saying.{says}
 use Rattle.mp_collect.proofs.Fitting.{allowed}

@@ -1,7 +1,7 @@
 use Rattle.std.proofs.Common.{of_calls, rules, ℕ}
 use Rattle.std.proofs.lemmas.Cmp.{nat_cmp_total}
 use Rattle.std.proofs.lemmas.Fn.{always_returns_same}
-use Rattle.mp_bins.specs.Bins.{bin_of_key}
+use Rattle.mp_layout.specs.Bins.{bin_of_key}
 use Rattle.mp_opening.proofs.Runs.{goes_before, parted_before}
 use Rattle.mp_opening.proofs.wakes.count_before.Goals as goal
 

@@ -5,7 +5,7 @@ use Rattle.std.proofs.lemmas.List.{take_rest}
 use Rattle.std.proofs.lemmas.List.Elements.{filter_agree}
 use Rattle.std.specs.List.Sorted.{IsPartitionPoint, IsSortedByKey}
 use Rattle.std.specs.Ordering.{is_eq, is_le, nat_cmp}
-use Rattle.mp_bins.specs.Bins.{bin_of_key}
+use Rattle.mp_layout.specs.Bins.{bin_of_key}
 use Rattle.mp_opening.specs.ByBin.{wakes_in}
 use Rattle.mp_opening.proofs.Orders.{is_number}
 use Rattle.mp_opening.proofs.Runs.{run_is, sorted_drop}

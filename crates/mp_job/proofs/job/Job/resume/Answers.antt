@@ -1,7 +1,7 @@
 use Rattle.std.proofs.Common.{◌≡◌, ◌&&◌, ◌∙◌, List, All, None, Some, ap, nat_le, subst, sym, true}
 use Rattle.std.proofs.lemmas.Result.{IfOk-weaker}
 use Rattle.mp_names.specs.declared.controls.Control.{Control}
-use Rattle.mp_opening.specs.Below.{CheckpointOf, saved_in}
+use Rattle.mp_opening.specs.Checkpoints.{CheckpointOf, saved_in}
 use Rattle.mp_opening.specs.Openings.{OpeningOf}
 use Rattle.mp_job.specs.Legal.{ControlsFit}
 use Rattle.mp_job.specs.Parts.{job_in}

@@ -1,7 +1,7 @@
 -- What stands at the places of the bin is copied.
 use Rattle.std.proofs.Common.{◌∙◌, ◌<◌, All, List, ap, filter, length, map, sym, subst}
 use Rattle.std.proofs.lemmas.Result.{IfOk-weaker}
-use Rattle.mp_saved.specs.declared.checkpoint.KeyCell.{KeyCell}
+use Rattle.mp_opening.specs.declared.checkpoint.KeyCell.{KeyCell}
 use Rattle.mp_opening.specs.declared.opening.Opening.TheInside.{Inside}
 use Rattle.mp_opening.specs.declared.places.CellPlace.{CellPlace}
 use Rattle.mp_opening.specs.ByBin.{cell_at, is_of_bin}

@@ -2,7 +2,7 @@
 use Rattle.std.specs.Prelude.{◌≡◌, ◌<◌, ◌*◌, ◌%◌, ◌/◌, ℕ, List, length, slice_index_or}
 use Rattle.mp_names.specs.declared.controls.First.{First}
 use Rattle.mp_names.specs.declared.controls.Shape.{Shape}
-use Rattle.mp_bins.specs.Notes.{first_owner}
+use Rattle.mp_layout.specs.Layouts.{first_owner}
 
 -- by stage and bin, the first owner of each
 abbrev pub AreOwnersBy : Shape → List First → List ℕ → Type 0

@@ -1,6 +1,6 @@
 //! The bin of a key.
 ghost use Rattle.std.specs.Prelude.{◌≡◌, ◌<◌};
-ghost use Rattle.mp_bins.specs.Bins.{IsBinCount, bin_of_key};
+ghost use Rattle.mp_layout.specs.Bins.{IsBinCount, bin_of_key};
 
 /// What keys are multiplied by: 2^64 divided by the golden ratio, made odd, as in Fibonacci hashing.
 const MULTIPLIER: u64 = 0x9E37_79B9_7F4A_7C15;

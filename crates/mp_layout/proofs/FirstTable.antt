@@ -9,8 +9,8 @@ use Rattle.std.proofs.lemmas.List.Elements.{All-head, All-tail}
 use Rattle.std.proofs.lemmas.Nat.{div-mul-add, mod-mul-add, row_fits_turned}
 use Rattle.mp_names.specs.declared.controls.First.{First}
 use Rattle.mp_names.specs.declared.controls.Shape.{Shape}
-use Rattle.mp_bins.specs.FirstTable.{AreOwnersBy}
-use Rattle.mp_bins.specs.Notes.{FirstFits, first_among, first_owner}
+use Rattle.mp_layout.specs.FirstTable.{AreOwnersBy}
+use Rattle.mp_layout.specs.Layouts.{FirstFits, first_among, first_owner}
 
 module _ (shape : Shape) where
   -- a first owner is a worker of the job

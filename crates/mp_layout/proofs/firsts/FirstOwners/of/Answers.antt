@@ -1,8 +1,8 @@
 use Rattle.std.proofs.Common.{◌∙◌, ◌<◌, ◌%◌, ℕ, ap, arith, mod-lt, subst, sym}
 use Rattle.std.specs.Prelude.{slice_index_or}
-use Rattle.mp_bins.proofs.FirstTable.{among_is_worker, none_outside, owner_there}
-use Rattle.mp_bins.proofs.firsts.FirstOwners.of.Goals as goal
-use Rattle.mp_bins.proofs.firsts.FirstOwners.of.Goals.{else-stage-shape-via-then-stage-shape+else-bin-shape, else-stage-shape-via-else-stage-shape}
+use Rattle.mp_layout.proofs.FirstTable.{among_is_worker, none_outside, owner_there}
+use Rattle.mp_layout.proofs.firsts.FirstOwners.of.Goals as goal
+use Rattle.mp_layout.proofs.firsts.FirstOwners.of.Goals.{else-stage-shape-via-then-stage-shape+else-bin-shape, else-stage-shape-via-else-stage-shape}
 
 pub returns-then-bin-shape-clause-owner : goal.returns-then-bin-shape-clause-owner
 returns-then-bin-shape-clause-owner c =

@@ -1,7 +1,7 @@
 -- What is saved at a time, with its cells, and as the state that a job goes on from.
 use Rattle.std.specs.Prelude.{◌≡◌, ◌⊎◌, ◌<◌, ℕ, List, map}
 use Rattle.mp_model.specs.Facts.{SavedState, SavedWake}
-use Rattle.mp_saved.specs.declared.checkpoint.KeyCell.{KeyCell}
+use Rattle.mp_opening.specs.declared.checkpoint.KeyCell.{KeyCell}
 
 -- a time, and the cells and wakes that are left just before it
 pub record CheckpointOf (Cell : Type 0) : Type 0 where

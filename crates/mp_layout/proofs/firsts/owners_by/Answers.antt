@@ -1,9 +1,9 @@
 use Rattle.std.proofs.Common.{◌≡◌, ◌<◌, ◌-◌, ◌+◌, ℕ, suc, arith, drop, length, slice_index_or, subst}
 use Rattle.std.proofs.Math.Seq.{drop-cons}
 use Rattle.mp_names.specs.declared.controls.First.{First}
-use Rattle.mp_bins.specs.FirstTable.{AreOwnersBy}
-use Rattle.mp_bins.proofs.FirstTable.{put_down}
-use Rattle.mp_bins.proofs.firsts.owners_by.Goals as goal
+use Rattle.mp_layout.specs.FirstTable.{AreOwnersBy}
+use Rattle.mp_layout.proofs.FirstTable.{put_down}
+use Rattle.mp_layout.proofs.firsts.owners_by.Goals as goal
 
 pub loop-put-preserved : goal.loop-put-preserved
 loop-put-preserved c =

@@ -46,7 +46,7 @@ impl Model for KeyWake {
 }
 
 impl<Q: Query> Model for Checkpoint<Q> {
-    ghost use Rattle.mp_saved.specs.Checkpoints.{CheckpointOf};
+    ghost use Rattle.mp_opening.specs.Checkpoints.{CheckpointOf};
 
     ghost Value = { CheckpointOf Q.Cell };
 

@@ -1,7 +1,7 @@
 //! The first owners of bins.
 ghost use Rattle.std.specs.Prelude.{◌≡◌, ◌<◌, ◌*◌, ◌+◌, [], All, IfOk};
-ghost use Rattle.mp_bins.specs.FirstTable.{AreOwnersBy};
-ghost use Rattle.mp_bins.specs.Notes.{FirstFits, IsShape, first_owner};
+ghost use Rattle.mp_layout.specs.FirstTable.{AreOwnersBy};
+ghost use Rattle.mp_layout.specs.Layouts.{FirstFits, IsShape, first_owner};
 
 use mp_names::{First, Shape};
 use std::alloc::{AllocError, Global};
@@ -18,8 +18,8 @@ pub struct FirstOwners {
 
 impl Model for FirstOwners {
     ghost use Rattle.std.specs.Prelude.{All};
-    ghost use Rattle.mp_bins.specs.FirstTable.{AreOwnersBy};
-    ghost use Rattle.mp_bins.specs.Notes.{FirstFits, IsShape, Layout};
+    ghost use Rattle.mp_layout.specs.FirstTable.{AreOwnersBy};
+    ghost use Rattle.mp_layout.specs.Layouts.{FirstFits, IsShape, Layout};
 
     ghost Value = { Layout };
 

@@ -1,5 +1,0 @@
-use Rattle.mp_bins.proofs.Hashing.{bins_are_leading}
-use Rattle.mp_bins.proofs.laws.bins_are_leading_bits.Goals as goal
-
-pub returns : goal.returns
-returns c = bins_are_leading
