@@ -19,7 +19,6 @@ use std::marker::Model;
 use std::snapshot::Snapshot;
 
 /// A board of a job with this outline. Contracts see a `Posted`.
-#[derive(Drop)]
 pub struct Board<O: Outlined> {
     // What the workers posted, by their numbers; of it contracts alone see anything.
     logs: Vec<Snapshot<Log<O>>>,
@@ -27,6 +26,18 @@ pub struct Board<O: Outlined> {
     counts: Counts,
     seen: Seen,
     stopped: Option<Cause>,
+}
+
+// By hand, so that crates above call it and don't write out the drop of each field.
+impl<O: Outlined> Drop for Board<O> {
+    fn drop(self) {
+        let Board {
+            logs: _,
+            counts: _,
+            seen: _,
+            stopped: _,
+        } = self;
+    }
 }
 
 impl<O: Outlined> Model for Board<O> {

@@ -35,19 +35,10 @@ impl<'a, Q: Query, J: Naming> Plain<'a, Q, J> {
             None => &[],
         }
     }
-
-    // The same of all workers, by their numbers, which are done with. `AllocError`: no memory for the list of lists.
-    pub(crate) fn into_kept(self, alloc: Global) -> Result<Vec<Vec<Kept>>, AllocError>
-        ensures { IfOk result (λ lists. map (λ kept. kept.items) lists.items
-            ≡ map (λ s. unwrap_or s.steps []) self.entry.state.workers) }
-    {
-        let Plain { workers, .. } = self;
-        lists_of(alloc, workers)
-    }
 }
 
-// What each of the workers has kept. `AllocError`: no memory for the list of lists.
-fn lists_of<Q: Query, J: Naming>(
+/// What each of the workers has kept. `AllocError`: no memory for the list of lists.
+pub(crate) fn lists_of<Q: Query, J: Naming>(
     alloc: Global,
     workers: Vec<Worker<'_, Q, J>>,
 ) -> Result<Vec<Vec<Kept>>, AllocError>

@@ -5,7 +5,6 @@
 #![tactic(auto)]
 
 mod journals;
-mod last;
 mod list;
 mod ownership;
 mod pacing;

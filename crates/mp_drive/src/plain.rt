@@ -1,6 +1,6 @@
 //! The workers of a job on one thread.
 ghost use Rattle.std.specs.Prelude.{◌≡◌, ◌≢◌, ◌≤◌, ◌↔◌, ◌∷◌, ◌+◌, ◌*◌, [], ℕ, All, Err, IfOk, IsTrue, List, OnErr, OnOk};
-ghost use Rattle.std.specs.Prelude.{None, Option, Some, false, length, replicate, slice_get, take, true};
+ghost use Rattle.std.specs.Prelude.{None, Option, Some, false, length, map, replicate, slice_get, take, true, unwrap_or};
 ghost use Rattle.mp_names.specs.declared.kinds.Kind.TheVariants.{Write};
 ghost use Rattle.mp_names.specs.Logs.{empty_log};
 ghost use Rattle.mp_names.specs.Outlines.{name_count};
@@ -13,6 +13,7 @@ ghost use Rattle.mp_outline.specs.JobOutline.{outline_of};
 ghost use Rattle.mp_machine.specs.Worlds.{start_of_machine};
 ghost use Rattle.mp_output.specs.Rows.{GivesRows};
 ghost use Rattle.mp_board.specs.Boards.{ShowsFrontiers};
+ghost use Rattle.mp_msg.specs.LastStates.{AreAllStates};
 ghost use Rattle.mp_worker_refinement.specs.Laws.{IsNewWorker};
 ghost use Rattle.mp_worker_refinement.specs.State.{WorkerState};
 ghost use Rattle.mp_worker_refinement.specs.SystemState.{Refines};
@@ -22,21 +23,21 @@ ghost use Rattle.mp_worker.specs.Keeping.{no_steps};
 ghost use Rattle.mp_board.specs.declared.causes.Cause.TheVariants as cause;
 ghost use Rattle.mp_drive.specs.Driven.{AllKnowTheEnd, HasKept, HasWritten, LeadsOn, first_log, made_by, turn_in};
 
+use crate::journals::lists_of;
 use mp_board::{Board, Cause, OutlineOf};
 use mp_job::Job;
 use mp_mailbox::PlainPost;
 use mp_model::{Naming, Query};
-use mp_msg::Msg;
-use mp_names::Kind;
+use mp_msg::{BinState, Msg};
+use mp_names::{Kept, Kind};
 use mp_outside::Sink;
 use mp_stamps::Seen;
-use mp_worker::{RunPlan, Stop, Turn, Worker, new_workers};
+use mp_worker::{RunPlan, Stop, Turn, Worker, last_states, new_workers};
 use std::alloc::{AllocError, Global};
 use std::marker::Model;
 
 /// The workers of the job J, their board and the mailboxes between them, for one thread. Contracts see a
 /// `SystemState`, and how many steps were made.
-#[derive(Drop)]
 pub struct Plain<'a, Q: Query, J: Naming> {
     pub(crate) job: &'a Job<Q>,
     // By their numbers.
@@ -45,6 +46,19 @@ pub struct Plain<'a, Q: Query, J: Naming> {
     pub(crate) post: PlainPost<Msg<Q, J>>,
     // How many steps were made.
     made: u64,
+}
+
+// By hand, so that crates above call it and don't write out the drop of each field.
+impl<'a, Q: Query, J: Naming> Drop for Plain<'a, Q, J> {
+    fn drop(self) {
+        let Plain {
+            job: _,
+            workers: _,
+            board: _,
+            post: _,
+            made: _,
+        } = self;
+    }
 }
 
 impl<'a, Q: Query, J: Naming> Model for Plain<'a, Q, J> {
@@ -219,6 +233,44 @@ impl<'a, Q: Query, J: Naming> Plain<'a, Q, J> {
             ≡ take k (one_thread_answer q J.job.events)) }
     {
         self.workers.iter().all(|worker| worker.is_finished())
+    }
+}
+
+impl<'a, Q: Query, J: Naming> Plain<'a, Q, J> {
+    /// What the bins of the job have at its end, just before its stop time or after all where it has none, by the numbers of
+    /// the workers that own them then: each state once, with its stage, from 0. Each worker knows that all is over; they
+    /// are done with. `AllocError`: no memory, and the states are gone.
+    pub fn into_states(
+        self,
+        alloc: Global,
+    ) -> Result<Vec<Vec<(u32, BinState<Q::Cell>)>>, AllocError>
+        requires finished { AllKnowTheEnd (outline_of (table_of Q.facts J.job) J.job) self.state }
+        ensures { let q = table_of Q.facts J.job in
+            IfOk result (λ all. AreAllStates q J.job (map (λ states. states.items) all.items)) }
+    {
+        let Plain {
+            job: _,
+            workers,
+            board: _,
+            post: _,
+            made: _,
+        } = self;
+        last_states(alloc, workers)
+    }
+
+    // The steps that each worker has kept, by their numbers; the workers are done with. `AllocError`: no memory for the list of lists.
+    pub(crate) fn into_kept(self, alloc: Global) -> Result<Vec<Vec<Kept>>, AllocError>
+        ensures { IfOk result (λ lists. map (λ kept. kept.items) lists.items
+            ≡ map (λ s. unwrap_or s.steps []) self.entry.state.workers) }
+    {
+        let Plain {
+            job: _,
+            workers,
+            board: _,
+            post: _,
+            made: _,
+        } = self;
+        lists_of(alloc, workers)
     }
 }
 

@@ -27,7 +27,6 @@ use std::marker::{Model, PhantomData};
 /// What one worker has to hand off of a stage of the job J: the times of control records that it has noted and not
 /// settled, and which of the packets that it owes it has sent, with how many keys each. It owes them by time and then by
 /// bin, so the last one tells which are sent. Contracts see a `MoversState`.
-#[derive(Drop)]
 pub struct Movers<Q: Query, J: Naming> {
     stage: u32,
     worker: u32,
@@ -38,6 +37,20 @@ pub struct Movers<Q: Query, J: Naming> {
     // In the order in which they were sent.
     sent: Vec<Sent>,
     of: PhantomData<(Q, J)>,
+}
+
+// By hand, so that crates above call it and don't write out the drop of each field.
+impl<Q: Query, J: Naming> Drop for Movers<Q, J> {
+    fn drop(self) {
+        let Movers {
+            stage: _,
+            worker: _,
+            unsettled: _,
+            last: _,
+            sent: _,
+            of: _,
+        } = self;
+    }
 }
 
 impl<Q: Query, J: Naming> Model for Movers<Q, J> {

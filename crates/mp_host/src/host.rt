@@ -10,6 +10,7 @@ ghost use Rattle.mp_host_laws.specs.HostOf.{IsHostOf};
 ghost use Rattle.mp_host.specs.Hosts.{AreAtFirst};
 ghost use Rattle.mp_host.specs.Telling.{TakesRecord};
 ghost use Rattle.mp_model.specs.Tables.{table_of};
+ghost use Rattle.mp_host_laws.specs.Last.{EndsWithLastStates};
 
 use crate::order::ByGroup;
 use mp_host_laws::Held;
@@ -21,7 +22,6 @@ use std::alloc::{AllocError, Global};
 use std::marker::{Model, PhantomData};
 
 /// The hosting half of a stage of the job J on one worker. Contracts see a `Hosted`.
-#[derive(Drop)]
 pub struct Host<'a, Q: Query, J: Naming> {
     pub(crate) job: &'a Job<Q>,
     pub(crate) stage: u32,
@@ -31,6 +31,20 @@ pub struct Host<'a, Q: Query, J: Naming> {
     pub(crate) states: InHand<Q::Cell>,
     pub(crate) of: PhantomData<J>,
     ghost each_bin: { states.bins ≡ job.now.shape.bins },
+}
+
+// By hand, so that crates above call it and don't write out the drop of each field.
+impl<'a, Q: Query, J: Naming> Drop for Host<'a, Q, J> {
+    fn drop(self) {
+        let Host {
+            job: _,
+            stage: _,
+            worker: _,
+            records: _,
+            states: _,
+            of: _,
+        } = self;
+    }
 }
 
 impl<'a, Q: Query, J: Naming> Model for Host<'a, Q, J> {
@@ -99,6 +113,30 @@ impl<'a, Q: Query, J: Naming> Host<'a, Q, J> {
         ensures never_refused_with_room { 0 < self.old.room → IsOk result }
     {
         self.records.insert(rec)
+    }
+
+    /// The stage that it is the host of.
+    pub fn stage(&self) -> u32
+        ensures { result ≡ self.now.stage }
+    {
+        self.stage
+    }
+
+    /// The states of bins that it has in hand; the host is done with. Where its worker has done all that it has to do they
+    /// are those of the bins of the stage that the worker owns at the end of the job, of each bin one, with what it has then.
+    pub fn into_states(self) -> Vec<Held<Q::Cell>>
+        ensures held { result.items ≡ self.entry.held }
+        ensures last { EndsWithLastStates (table_of Q.facts J.job) J.job self.entry }
+    {
+        let Host {
+            job: _,
+            stage: _,
+            worker: _,
+            records: _,
+            states,
+            of: _,
+        } = self;
+        states.into_states()
     }
 }
 

@@ -9,7 +9,6 @@ mod applying;
 mod counting;
 mod groups;
 mod host;
-mod last;
 mod moving;
 mod order;
 mod reading;

@@ -19,7 +19,6 @@ use std::alloc::{AllocError, Global};
 use std::marker::Model;
 
 /// The states of bins that a host has in hand. Contracts see `States`.
-#[derive(Drop)]
 pub struct InHand<C: Drop> {
     bins: u32,
     // Each as the packet that brought it left it and the groups applied since.
@@ -28,6 +27,18 @@ pub struct InHand<C: Drop> {
     spans: Spans,
     // The first wake of those of each bin. Kept, since each look at what is ready asks the first of all.
     firsts: Firsts,
+}
+
+// By hand, so that crates above call it and don't write out the drop of each field.
+impl<C: Drop> Drop for InHand<C> {
+    fn drop(self) {
+        let InHand {
+            bins: _,
+            held: _,
+            spans: _,
+            firsts: _,
+        } = self;
+    }
 }
 
 impl<C: Drop> Model for InHand<C> {
@@ -72,7 +83,12 @@ impl<C: Drop> InHand<C> {
     pub fn into_states(self) -> Vec<Held<C>>
         ensures { result.items ≡ self.held }
     {
-        let InHand { held, .. } = self;
+        let InHand {
+            bins: _,
+            held,
+            spans: _,
+            firsts: _,
+        } = self;
         held
     }
 

@@ -29,7 +29,6 @@ const MOST_WAKES: usize = 1 << 28;
 
 /// A query with its events, its control records and its shape; and, made from them once, the share of each worker
 /// and the times at which something happens. Contracts see what is told of the job, a `JobFacts`.
-#[derive(Drop)]
 pub struct Job<Q: Query> {
     source: Source<Q>,
     events: Vec<Event>,
@@ -40,6 +39,21 @@ pub struct Job<Q: Query> {
     shares: Vec<Share>,
     times: Vec<Time>,
     post_times: usize,
+}
+
+// By hand, so that crates above call it and don't write out the drop of each field.
+impl<Q: Query> Drop for Job<Q> {
+    fn drop(self) {
+        let Job {
+            source: _,
+            events: _,
+            controls: _,
+            owners: _,
+            shares: _,
+            times: _,
+            post_times: _,
+        } = self;
+    }
 }
 
 impl<Q: Query> Model for Job<Q> {

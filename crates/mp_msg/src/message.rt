@@ -44,10 +44,16 @@ pub enum Body<C: Drop> {
 }
 
 /// A message of the job J of the query Q. Contracts see its names.
-#[derive(Drop)]
 pub struct Msg<Q: Query, J: Naming> {
     body: Body<Q::Cell>,
     of: PhantomData<(Q, J)>,
+}
+
+// By hand, so that crates above call it and don't write out the drop of each field.
+impl<Q: Query, J: Naming> Drop for Msg<Q, J> {
+    fn drop(self) {
+        let Msg { body: _, of: _ } = self;
+    }
 }
 
 impl<Q: Query, J: Naming> Model for Msg<Q, J> {

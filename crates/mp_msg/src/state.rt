@@ -41,9 +41,15 @@ impl<C: Drop> BinState<C> {
 
 /// The state of a bin in a place of its own on the heap, as a message carries it, so that all messages are small. Contracts
 /// see the state.
-#[derive(Drop)]
 pub struct BoxedState<C: Drop> {
     state: Box<BinState<C>>,
+}
+
+// By hand, so that crates above call it and don't write out the drop of each field.
+impl<C: Drop> Drop for BoxedState<C> {
+    fn drop(self) {
+        let BoxedState { state: _ } = self;
+    }
 }
 
 impl<C: Drop> Model for BoxedState<C> {

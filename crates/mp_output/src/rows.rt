@@ -42,11 +42,21 @@ pub enum Wrote {
 
 /// The answer rows of the job J of the query Q that worker 0 has received and not written. Contracts see an `Unwritten`:
 /// the rows in the order of their places, and how many more there is room for.
-#[derive(Drop)]
 pub struct Rows<Q: Query, J: Naming> {
     alloc: Global,
     rows: OrderedBlocks<Output, ByPlace>,
     of: PhantomData<(Q, J)>,
+}
+
+// By hand, so that crates above call it and don't write out the drop of each field.
+impl<Q: Query, J: Naming> Drop for Rows<Q, J> {
+    fn drop(self) {
+        let Rows {
+            alloc: _,
+            rows: _,
+            of: _,
+        } = self;
+    }
 }
 
 impl<Q: Query, J: Naming> Model for Rows<Q, J> {

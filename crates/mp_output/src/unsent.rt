@@ -13,10 +13,16 @@ use std::marker::{Model, PhantomData};
 
 /// The answer rows of the job J of the query Q that a worker has to send to worker 0 and hasn't sent. Contracts see an
 /// `Unwritten`: the rows in the order of their places, and how many more there is room for.
-#[derive(Drop)]
 pub struct Unsent<Q: Query, J: Naming> {
     rows: OrderedBlocks<Output, ByPlace>,
     of: PhantomData<(Q, J)>,
+}
+
+// By hand, so that crates above call it and don't write out the drop of each field.
+impl<Q: Query, J: Naming> Drop for Unsent<Q, J> {
+    fn drop(self) {
+        let Unsent { rows: _, of: _ } = self;
+    }
 }
 
 impl<Q: Query, J: Naming> Model for Unsent<Q, J> {

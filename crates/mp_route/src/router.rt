@@ -26,11 +26,21 @@ use std::marker::{Model, PhantomData};
 /// The records of a stage of the job J that a worker has and hasn't sent. As in Megaphone, a record is held until the
 /// frontier of control records has passed its time: from then on it is known who owns its key. Contracts see a
 /// `Routed`.
-#[derive(Drop)]
 pub struct Router<Q: Query, J: Naming> {
     stage: u32,
     held: OrderedBlocks<Rec, ByTag>,
     of: PhantomData<(Q, J)>,
+}
+
+// By hand, so that crates above call it and don't write out the drop of each field.
+impl<Q: Query, J: Naming> Drop for Router<Q, J> {
+    fn drop(self) {
+        let Router {
+            stage: _,
+            held: _,
+            of: _,
+        } = self;
+    }
 }
 
 impl<Q: Query, J: Naming> Model for Router<Q, J> {

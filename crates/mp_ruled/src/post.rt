@@ -10,12 +10,23 @@ use std::sync::Wait;
 
 /// The ends of one worker, a sender and a receiver for each worker, and the runtime by which their queues
 /// wait. It serves that worker alone, and may go to its thread. Contracts see the ends.
-#[derive(Drop)]
 pub struct RuledPost<M: Named, R> {
     rt: R,
     worker: u32,
     senders: Vec<SenderEnd<M>>,
     receivers: Vec<ReceiverEnd<M>>,
+}
+
+// By hand, so that crates above call it and don't write out the drop of each field.
+impl<M: Named + Drop, R: Drop> Drop for RuledPost<M, R> {
+    fn drop(self) {
+        let RuledPost {
+            rt: _,
+            worker: _,
+            senders: _,
+            receivers: _,
+        } = self;
+    }
 }
 
 impl<M: Named, R> Model for RuledPost<M, R> {

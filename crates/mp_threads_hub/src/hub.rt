@@ -14,10 +14,16 @@ use std::sync::{Arc, Wait};
 
 /// A share of the lock round the board, and the seat of one worker. It serves that worker alone, and may go to its
 /// thread. Contracts see the seat.
-#[derive(Drop)]
 pub struct SeatHub<O: Outlined> {
     lock: Arc<SeatLock<Shared<O>>, Global>,
     seat: Seat<Shared<O>>,
+}
+
+// By hand, so that crates above call it and don't write out the drop of each field.
+impl<O: Outlined> Drop for SeatHub<O> {
+    fn drop(self) {
+        let SeatHub { lock: _, seat: _ } = self;
+    }
 }
 
 impl<O: Outlined> Model for SeatHub<O> {

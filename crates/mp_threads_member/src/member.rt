@@ -16,11 +16,21 @@ use std::marker::Model;
 
 /// A worker, its ends of the mailboxes, and its seat at the board. It may go to a thread. Contracts see all three. By its
 /// invariant the ends stand for what the worker's log has as sent and taken, and the seat has what it posted last.
-#[derive(Drop)]
 pub struct Member<'a, Q: Query, J: Naming, R> {
     pub(crate) worker: Worker<'a, Q, J>,
     pub(crate) post: RuledPost<Msg<Q, J>, R>,
     pub(crate) hub: SeatHub<OutlineOf<Q, J>>,
+}
+
+// By hand, so that crates above call it and don't write out the drop of each field.
+impl<'a, Q: Query, J: Naming, R: Drop> Drop for Member<'a, Q, J, R> {
+    fn drop(self) {
+        let Member {
+            worker: _,
+            post: _,
+            hub: _,
+        } = self;
+    }
 }
 
 impl<'a, Q: Query, J: Naming, R> Model for Member<'a, Q, J, R> {

@@ -42,17 +42,6 @@ impl<'a, Q: Query, J: Naming> Worker<'a, Q, J> {
         }
     }
 
-    /// The same, of a worker that is done with.
-    pub fn into_steps(self) -> Vec<Kept>
-        ensures { result.items ≡ unwrap_or self.entry.steps [] }
-    {
-        let Worker { parts, kept } = self;
-        match kept {
-            Some(kept) => kept,
-            None => Vec::new(parts.alloc),
-        }
-    }
-
     /// Does nothing. What is known of the steps of each worker that keeps them: they are those that filled its log, and so, where
     /// it knows that all is over, those that it has to make.
     pub fn steps_are_known(&self)

@@ -1,35 +1,17 @@
 //! What the hosts of a worker have at the end.
 ghost use Rattle.std.specs.Prelude.{◌≡◌, ◌++◌, All, IfOk, OnOk};
 ghost use Rattle.std.specs.List.{flat_map};
-ghost use Rattle.mp_machine.specs.Promises.{LogIsFull};
 ghost use Rattle.mp_model.specs.Tables.{table_of};
-ghost use Rattle.mp_outline.specs.JobOutline.{outline_of};
-ghost use Rattle.mp_msg.specs.LastStates.{AreStatesOf};
 ghost use Rattle.mp_host_laws.specs.Last.{EndsWithLastStates};
 ghost use Rattle.mp_worker_steps.specs.Last.{staged};
 
-use crate::Parts;
 use mp_host::Host;
 use mp_model::{Naming, Query};
 use mp_msg::BinState;
 use std::alloc::{AllocError, Global};
 
-impl<'a, Q: Query, J: Naming> Parts<'a, Q, J> {
-    /// The states of the bins that the worker owns at the end of the job, each with its stage, by stage: what each bin has
-    /// just before the stop time, or after all where there is none. The worker has done all that it has to do; its parts
-    /// are done with. `AllocError`: no memory, and the states are gone.
-    pub fn into_states(self, alloc: Global) -> Result<Vec<(u32, BinState<Q::Cell>)>, AllocError>
-        requires { let o = outline_of (table_of Q.facts J.job) J.job in LogIsFull o self.worker.number self.worker.log }
-        ensures { IfOk result (λ states.
-            AreStatesOf (table_of Q.facts J.job) J.job self.entry.worker.number states.items) }
-    {
-        let Parts { hosts, .. } = self;
-        states_of(alloc, hosts)
-    }
-}
-
-// The states that hosts have in hand, each with its stage. `AllocError`: no memory, and the states are gone.
-fn states_of<Q: Query, J: Naming>(
+/// The states that hosts have in hand, each with its stage. `AllocError`: no memory, and the states are gone.
+pub(crate) fn states_of<Q: Query, J: Naming>(
     alloc: Global,
     hosts: Vec<Host<'_, Q, J>>,
 ) -> Result<Vec<(u32, BinState<Q::Cell>)>, AllocError>

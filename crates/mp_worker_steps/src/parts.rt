@@ -1,7 +1,11 @@
 //! The parts of a worker.
-ghost use Rattle.std.specs.Prelude.{◌≡◌, ◌<◌};
+ghost use Rattle.std.specs.Prelude.{◌≡◌, ◌<◌, IfOk};
 ghost use Rattle.mp_model.specs.Tables.{table_of};
+ghost use Rattle.mp_machine.specs.Promises.{LogIsFull};
+ghost use Rattle.mp_outline.specs.JobOutline.{outline_of};
+ghost use Rattle.mp_msg.specs.LastStates.{AreStatesOf};
 
+use crate::last::states_of;
 use crate::lists::ChangeLists;
 use mp_bins::Owners;
 use mp_controller::Controller;
@@ -9,11 +13,12 @@ use mp_handoff::Movers;
 use mp_host::Host;
 use mp_job::Job;
 use mp_model::{Naming, Query};
+use mp_msg::BinState;
 use mp_output::{Rows, Unsent};
 use mp_route::Router;
 use mp_rows::{Log, OutlineOf};
 use mp_stamps::Seen;
-use std::alloc::Global;
+use std::alloc::{AllocError, Global};
 use std::marker::Model;
 use std::snapshot::Snapshot;
 
@@ -21,7 +26,6 @@ use std::snapshot::Snapshot;
 /// `Contents`: the worker as its own contracts have it, and what the parts hold and have room for. By its invariant they
 /// hold what the log says, so a step's contract says what becomes of the log. The query's last stage gives rows alone.
 /// Fields are public for the steps of `mp_worker_sends`: whoever changes one has to prove the invariant again.
-#[derive(Drop)]
 pub struct Parts<'a, Q: Query, J: Naming> {
     /// Where its memory comes from.
     pub alloc: Global,
@@ -52,6 +56,27 @@ pub struct Parts<'a, Q: Query, J: Naming> {
     ghost posted_once: { log.posted ≡ posted.value.log },
 }
 
+// By hand, so that crates above call it and don't write out the drop of each field.
+impl<'a, Q: Query, J: Naming> Drop for Parts<'a, Q, J> {
+    fn drop(self) {
+        let Parts {
+            alloc: _,
+            job: _,
+            log: _,
+            posted: _,
+            seen: _,
+            owners: _,
+            controller: _,
+            routers: _,
+            hosts: _,
+            movers: _,
+            unsent: _,
+            rows: _,
+            lists: _,
+        } = self;
+    }
+}
+
 impl<'a, Q: Query, J: Naming> Model for Parts<'a, Q, J> {
     ghost use Rattle.std.specs.Prelude.{None};
     ghost use Rattle.mp_worker_steps.specs.Contents.{Contents};
@@ -76,4 +101,32 @@ impl<'a, Q: Query, J: Naming> Model for Parts<'a, Q, J> {
     ghost invariant = { λ p.
         IsKept (table_of Q.facts J.job) J.job p.job.now
         (parts_with p.log p.posted.value.log p.seen p.owners p.controller p.routers.items p.hosts.items p.movers.items p.unsent p.rows) };
+}
+
+impl<'a, Q: Query, J: Naming> Parts<'a, Q, J> {
+    /// The states of the bins that the worker owns at the end of the job, each with its stage, by stage: what each bin has
+    /// just before the stop time, or after all where there is none. The worker has done all that it has to do; its parts
+    /// are done with. `AllocError`: no memory, and the states are gone.
+    pub fn into_states(self, alloc: Global) -> Result<Vec<(u32, BinState<Q::Cell>)>, AllocError>
+        requires { let o = outline_of (table_of Q.facts J.job) J.job in LogIsFull o self.worker.number self.worker.log }
+        ensures { IfOk result (λ states.
+            AreStatesOf (table_of Q.facts J.job) J.job self.entry.worker.number states.items) }
+    {
+        let Parts {
+            alloc: _,
+            job: _,
+            log: _,
+            posted: _,
+            seen: _,
+            owners: _,
+            controller: _,
+            routers: _,
+            hosts,
+            movers: _,
+            unsent: _,
+            rows: _,
+            lists: _,
+        } = self;
+        states_of(alloc, hosts)
+    }
 }
