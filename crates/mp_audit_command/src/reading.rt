@@ -14,7 +14,7 @@ ghost use Rattle.mp_command.specs.Reading.{ReadsAll, ReadsAs, RefusesAs, Refuses
 ghost use Rattle.mp_command.specs.Refused.{EndsAs, outcome_of};
 ghost use Rattle.mp_audit_command.specs.Audited.{found_in};
 
-use mp_command::{Flow, InputFiles, Inputs, Refusal, read_inputs, read_named};
+use mp_command::{Flow, InputFiles, Inputs, OnOneThread, Refusal, read_inputs, read_named};
 use mp_journal::{JournalRefused, Kept, read_journal};
 use mp_outside::Depot;
 use mp_words::AuditOptions;
@@ -56,7 +56,7 @@ pub fn read_audited<'a, D: Depot>(
         → LacksOne D.found (inputs_of (Audit (audit_in options.now))) depot.new) }
     ensures files { D.files depot.new ≡ D.files depot.old }
 {
-    let inputs = read_inputs(alloc, depot, &InputFiles::of_audit(options))?;
+    let inputs = read_inputs(alloc, depot, &InputFiles::of_audit(options), &OnOneThread)?;
     let answer = read_named(alloc, depot, options.out)?;
     let journal = journal_in(alloc, depot, options.journal, &inputs.flow)?;
     Ok(Audited {

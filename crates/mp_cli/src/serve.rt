@@ -11,9 +11,10 @@ use crate::demo::demo;
 use crate::writing::write_answer;
 use mp_audit_command::audit;
 use mp_command::{Refusal, check, make, read_run};
+use mp_events_threads::OnThreads;
 use mp_gate::Gate;
 use mp_outside::Depot;
-use mp_words::{Command, RunOptions, WordsRefused, parse};
+use mp_words::{Command, RunOptions, Schedule, WordsRefused, parse};
 use std::sync::Wait;
 use std::thread::Threads;
 
@@ -59,7 +60,8 @@ fn carry_out<'a, D: Depot, G: Gate + Sync, R: Threads + Wait + Sync + AllocGloba
     }
 }
 
-/// Carries out a run: reads its files, and writes the answer and what else is asked for. It says nothing.
+/// Carries out a run: reads its files, the events on as many threads as the run has, and writes the answer and what else is asked
+/// for. It says nothing.
 fn answer<'a, D: Depot, G: Gate + Sync, R: Threads + Wait + Sync + AllocGlobal>(
     rt: &R,
     depot: &mut D,
@@ -72,7 +74,16 @@ fn answer<'a, D: Depot, G: Gate + Sync, R: Threads + Wait + Sync + AllocGlobal>(
     ensures left { Leaves IsKeptBy (Run (options_in options.now)) (outcome_in result)
         (D.files depot.old) (D.files depot.new) }
 {
-    let read = read_run(rt.alloc(), depot, options)?;
+    let reader = OnThreads::new(rt, reading_threads(options));
+    let read = read_run(rt.alloc(), depot, options, &reader)?;
     write_answer(rt, depot, options, read, gate)?;
     Ok(Vec::new(rt.alloc()))
+}
+
+// On how many threads a run reads its events: one for each worker, where the workers are on threads.
+fn reading_threads(options: &RunOptions) -> u32 {
+    match options.schedule {
+        Schedule::Threads => options.workers,
+        Schedule::Seeded(_) => 1,
+    }
 }

@@ -10,6 +10,7 @@ ghost use Rattle.mp_command.specs.Writing.{NoneKept};
 
 use crate::reading::{InputFiles, read_inputs};
 use crate::refusal::Refusal;
+use mp_events::OnOneThread;
 use mp_outside::Depot;
 use mp_text::put_number;
 use mp_words::CheckOptions;
@@ -28,7 +29,7 @@ pub fn check<'a, D: Depot>(
     ensures left { Leaves NoneKept (Check (check_in options.now)) (outcome_in result)
         (D.files depot.old) (D.files depot.new) }
 {
-    let read = read_inputs(alloc, depot, &InputFiles::of_check(options))?;
+    let read = read_inputs(alloc, depot, &InputFiles::of_check(options), &OnOneThread)?;
     let parts = read.parts;
     Ok(ok_line(alloc, parts.events.len(), parts.settings.controls.len())?)
 }

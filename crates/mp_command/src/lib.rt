@@ -21,6 +21,7 @@ pub use checking::check;
 pub use flow::{Flow, FlowQuery};
 pub use jobs::{job_after, job_for, job_until};
 pub use making::make;
+pub use mp_events::OnOneThread;
 pub use reading::{InputFiles, Inputs, JobParts, read_inputs, read_named};
 pub use refusal::Refusal;
 pub use reporting::{journal_to, report_to};

@@ -19,7 +19,7 @@ ghost use Rattle.mp_command.specs.Refused.{EndsAs, outcome_of};
 use crate::flow::{Flow, FlowQuery};
 use crate::refusal::Refusal;
 use mp_control::{ControlRefused, Settings, read_settings};
-use mp_events::{EventsRefused, read_events};
+use mp_events::{EventReading, EventsRefused};
 use mp_model::Event;
 use mp_names::limits::MAX_BYTES;
 use mp_outside::{Depot, ReadRefused, read_all};
@@ -108,13 +108,15 @@ pub struct Inputs {
     pub parts: JobParts,
 }
 
-/// Reads the events, then the pipeline, where one is asked for, and then the configuration, for a dataflow with a worker and a bin.
+/// Reads the events, by this reader, then the pipeline, where one is asked for, and then the configuration, for a dataflow with a worker
+/// and a bin.
 /// `NoFile`, `ReadFault`, `TooLarge` and `NoMemory`: a file can't be read; `EventsRefused`, `PipeRefused`, `ConfigRefused`: its
 /// first bad line.
-pub fn read_inputs<'a, D: Depot>(
+pub fn read_inputs<'a, D: Depot, E: EventReading>(
     alloc: Global,
     depot: &mut D,
     files: &InputFiles<'a>,
+    reader: &E,
 ) -> Result<Inputs, Refusal<'a>>
     requires workers { 0 < files.now.workers }
     requires bins { 0 < files.now.bins }
@@ -136,7 +138,7 @@ pub fn read_inputs<'a, D: Depot>(
     ensures reads { D.read_faults depot.old ≤ D.read_faults depot.new }
     ensures writes { D.write_faults depot.new ≡ D.write_faults depot.old }
 {
-    let events = events_in(alloc, depot, files.events)?;
+    let events = events_in(alloc, depot, files.events, reader)?;
     let query = query_in(alloc, depot, files.query)?;
     let flow = Flow {
         query,
@@ -152,12 +154,13 @@ pub fn read_inputs<'a, D: Depot>(
     Ok(Inputs { flow, parts })
 }
 
-/// The events of the event file of this name.
+/// The events of the event file of this name, by this reader.
 /// `NoFile`, `ReadFault`, `TooLarge` and `NoMemory`: the file can't be read; `EventsRefused`: its first bad line.
-fn events_in<'a, D: Depot>(
+fn events_in<'a, D: Depot, E: EventReading>(
     alloc: Global,
     depot: &mut D,
     name: &'a str,
+    reader: &E,
 ) -> Result<Vec<Event>, Refusal<'a>>
     ensures events { IfOk result (λ v. (found : Found)
         → ReadsAs (D.files depot.old) (EventFile, name.now) found (record found { events = v.items })) }
@@ -174,7 +177,7 @@ fn events_in<'a, D: Depot>(
     ensures writes { D.write_faults depot.new ≡ D.write_faults depot.old }
 {
     let text = read_named(alloc, depot, name)?;
-    match read_events(alloc, text.as_slice()) {
+    match reader.read_events(alloc, text.as_slice()) {
         Ok(events) => Ok(events),
         Err(EventsRefused::BadLine { line, why }) => Err(Refusal::EventsRefused { line, why }),
         Err(EventsRefused::NoMemory) => Err(Refusal::NoMemory),

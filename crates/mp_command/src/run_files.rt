@@ -18,16 +18,18 @@ ghost use Rattle.mp_command.specs.Refused.{EndsAs, outcome_of};
 
 use crate::reading::{InputFiles, Inputs, JobParts, read_inputs, read_named};
 use crate::refusal::Refusal;
+use mp_events::EventReading;
 use mp_outside::Depot;
 use mp_words::{RunOptions, Span};
 use std::alloc::Global;
 
-/// Reads the events, then the pipeline, where one is asked for, then the configuration, and then the bytes of the checkpoint that the run
-/// goes on from, where it does. The refusals are those of each file that is read; whether the bytes are a checkpoint isn't told.
-pub fn read_run<'a, D: Depot>(
+/// Reads the events, by this reader, then the pipeline, where one is asked for, then the configuration, and then the bytes of the
+/// checkpoint that the run goes on from, where it does. The refusals are those of each file that is read; whether the bytes are a checkpoint isn't told.
+pub fn read_run<'a, D: Depot, E: EventReading>(
     alloc: Global,
     depot: &mut D,
     options: &RunOptions<'a>,
+    reader: &E,
 ) -> Result<Inputs, Refusal<'a>>
     requires { AreWithinLimits options.now }
     ensures found { let asked = Run (options_in options.now) in IfOk result (λ read.
@@ -48,7 +50,7 @@ pub fn read_run<'a, D: Depot>(
     ensures files { D.files depot.new ≡ D.files depot.old }
     ensures writes { D.write_faults depot.new ≡ D.write_faults depot.old }
 {
-    let Inputs { flow, parts } = read_inputs(alloc, depot, &InputFiles::of_run(options))?;
+    let Inputs { flow, parts } = read_inputs(alloc, depot, &InputFiles::of_run(options), reader)?;
     let checkpoint = checkpoint_in(alloc, depot, options.span)?;
     let parts = JobParts {
         checkpoint,

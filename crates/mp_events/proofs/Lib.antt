@@ -8,3 +8,4 @@ mod UsualLines
 mod UsualNumbers
 mod WrittenLines
 mod Numbers
+mod Pieces

@@ -2,6 +2,7 @@
 pub mod Events
 pub mod Kinds
 pub mod Lines
+pub mod Pieces
 pub mod Read
 pub mod Reasons
 pub mod Usual

@@ -1,18 +1,18 @@
 //! The events of a whole file.
 ghost use Rattle.std.specs.Prelude.{◌≡◌, ◌≤◌, ◌<◌, ◌+◌, ◌^◌, ◌++◌, ◌∷◌, [], All, Ok, Err, IfOk, IfErr, OnOk, length, vec_len};
 ghost use Rattle.mp_events.specs.Events.{events_of};
-ghost use Rattle.mp_events.specs.Usual.{AreReadFirst, refused_behind};
+ghost use Rattle.mp_events.specs.Pieces.{IsPieceOf};
+ghost use Rattle.mp_events.specs.Usual.{refused_behind};
 ghost use Rattle.mp_lines.specs.Refusals.{IfBadLine};
 ghost use Rattle.mp_model.specs.Legal.{EventIsLegal};
 ghost use Rattle.mp_model.specs.Plain.{EventsArePlain};
 ghost use Rattle.mp_names.specs.Limits.{most_events};
 
 use crate::line::read_line;
-use crate::usual_line::event_before;
+use crate::piece::{Piece, join, read_piece};
 use crate::{EventsReason, EventsRefused};
 use mp_lines::{LineReader, LineRefused, read_lines};
 use mp_model::Event;
-use mp_names::limits::MAX_EVENTS;
 use mp_text::FieldList;
 use std::alloc::{AllocError, Global};
 use std::marker::Model;
@@ -31,35 +31,48 @@ pub fn read_events(alloc: Global, text: &[u8]) -> Result<Vec<Event>, EventsRefus
     ensures bad_line { IfErr result (λ refused.
         IfBadLine refused (λ line why. events_of text.now ≡ Err (line, why))) }
 {
-    let first = read_first(alloc, text)?;
-    let lines = first.events.len() as u64;
-    match read_lines(alloc, &EventReader, first.events, first.rest) {
+    let first = read_piece(alloc, text, 0, text.len())?;
+    read_behind(alloc, text, first)
+}
+
+/// As [`read_events`], where pieces of the file were read already. They count as far as each begins where the one before it ends,
+/// from the beginning of the file on, and as long as there are not too many events. What is behind them is read line by line.
+pub fn read_events_behind(
+    alloc: Global,
+    text: &[u8],
+    pieces: Vec<Piece>,
+) -> Result<Vec<Event>, EventsRefused>
+    requires { All (IsPieceOf text.now) pieces.items }
+    ensures events { IfOk result (λ events. events_of text.now ≡ Ok events.items) }
+    ensures legal { IfOk result (λ events. All EventIsLegal events.items) }
+    ensures few { IfOk result (λ events. vec_len events ≤ most_events) }
+    ensures plain { IfOk result (λ events. EventsArePlain events.items) }
+
+    ensures bad_line { IfErr result (λ refused.
+        IfBadLine refused (λ line why. events_of text.now ≡ Err (line, why))) }
+{
+    let first = join(alloc, text, pieces)?;
+    read_behind(alloc, text, first)
+}
+
+// The events of a file that begins with this piece.
+fn read_behind(alloc: Global, text: &[u8], first: Piece) -> Result<Vec<Event>, EventsRefused>
+    requires piece { IsPieceOf text.now first }
+    requires start { first.start ≡ 0 }
+    ensures events { IfOk result (λ events. events_of text.now ≡ Ok events.items) }
+    ensures legal { IfOk result (λ events. All EventIsLegal events.items) }
+    ensures few { IfOk result (λ events. vec_len events ≤ most_events) }
+    ensures plain { IfOk result (λ events. EventsArePlain events.items) }
+
+    ensures bad_line { IfErr result (λ refused.
+        IfBadLine refused (λ line why. events_of text.now ≡ Err (line, why))) }
+{
+    let (events, end) = first.into_parts();
+    let lines = events.len() as u64;
+    match read_lines(alloc, &EventReader, EventList { events }, &text[end..]) {
         Ok(list) => Ok(list.into_events()),
         Err(refused) => Err(behind(refused, lines)),
     }
-}
-
-// The events of the first lines, and what is behind these.
-#[derive(Drop)]
-struct FirstEvents<'a> {
-    events: EventList,
-    rest: &'a [u8],
-}
-
-// The events of the first lines, as far as these are as lines mostly are. `AllocError`: no memory.
-fn read_first<'a>(alloc: Global, text: &'a [u8]) -> Result<FirstEvents<'a>, AllocError>
-    ensures { IfOk result (λ first. AreReadFirst text.now first.events first.rest.now) }
-{
-    let mut events = EventList::new(alloc);
-    let mut rest = text;
-    'lines: while events.len() < MAX_EVENTS {
-        let Some(found) = event_before(alloc, rest)? else {
-            break;
-        };
-        events.push(found.event)?;
-        rest = found.rest;
-    }
-    Ok(FirstEvents { events, rest })
 }
 
 // A refusal of what is behind so many lines, as one of the whole file.
@@ -92,15 +105,6 @@ impl Model for EventList {
 }
 
 impl EventList {
-    // None.
-    fn new(alloc: Global) -> EventList
-        ensures { result ≡ [] }
-    {
-        EventList {
-            events: Vec::new(alloc),
-        }
-    }
-
     // How many there are.
     fn len(&self) -> usize
         ensures { result ≡ length self.now }

@@ -13,6 +13,8 @@ mod events;
 #[cfg(test)]
 mod made;
 #[cfg(test)]
+mod pieces;
+#[cfg(test)]
 mod plans;
 #[cfg(test)]
 mod words;
