@@ -25,7 +25,6 @@ pub struct Note {
 
 /// Who owns each bin of each stage at each time, by the control records noted so far. Records may be
 /// noted in any order: they count in the order of their indices.
-#[derive(Drop)]
 pub struct Owners {
     first: FirstOwners,
     // In the order of their ranks: by stage, bin, time and index.
@@ -37,6 +36,19 @@ pub struct Owners {
     // Where the last look for each bin of each stage ended, by stage and bin. A look tests what stands there, and searches
     // where it isn't the note that counts: no clause sees these hints.
     hints: Vec<Cell<Spot>>,
+}
+
+// By hand, so that crates above call it and don't write out the drop of each field.
+impl Drop for Owners {
+    fn drop(self) {
+        let Owners {
+            first: _,
+            notes: _,
+            changes: _,
+            room: _,
+            hints: _,
+        } = self;
+    }
 }
 
 impl Model for Owners {

@@ -8,12 +8,22 @@ use std::alloc::{AllocError, Global};
 use std::marker::Model;
 
 /// Who owns each bin of each stage before any control record is noted. Contracts see a `Layout`.
-#[derive(Drop)]
 pub struct FirstOwners {
     shape: Shape,
     firsts: Vec<First>,
     // By stage and bin.
     owners: Vec<u32>,
+}
+
+// By hand, so that crates above call it and don't write out the drop of each field.
+impl Drop for FirstOwners {
+    fn drop(self) {
+        let FirstOwners {
+            shape: _,
+            firsts: _,
+            owners: _,
+        } = self;
+    }
 }
 
 impl Model for FirstOwners {

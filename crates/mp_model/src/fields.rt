@@ -27,9 +27,16 @@ impl Clone for Field {
 
 /// At most four fields, in order. Contracts see the list of them.
 // They stand on the heap, since a value is moved often and few values are rows.
-#[derive(Drop, Debug)]
+#[derive(Debug)]
 pub struct Fields {
     fields: Vec<Field>,
+}
+
+// By hand, so that crates above call it and don't write out the drop of each field.
+impl Drop for Fields {
+    fn drop(self) {
+        let Fields { fields: _ } = self;
+    }
 }
 
 impl Model for Fields {

@@ -6,9 +6,16 @@ use arrayvec::ArrayVec;
 use std::marker::Model;
 
 /// At most six times, in order. Contracts see the list of them.
-#[derive(Drop, Debug)]
+#[derive(Debug)]
 pub struct PostList {
     times: ArrayVec<Time, 6>,
+}
+
+// By hand, so that crates above call it and don't write out the drop of each field.
+impl Drop for PostList {
+    fn drop(self) {
+        let PostList { times: _ } = self;
+    }
 }
 
 impl Model for PostList {

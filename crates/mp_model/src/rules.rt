@@ -19,9 +19,16 @@ pub struct Rule {
 }
 
 /// At most two rules, in order. Contracts see a `RuleFacts` for each.
-#[derive(Drop, Debug)]
+#[derive(Debug)]
 pub struct RuleList {
     rules: ArrayVec<Rule, 2>,
+}
+
+// By hand, so that crates above call it and don't write out the drop of each field.
+impl Drop for RuleList {
+    fn drop(self) {
+        let RuleList { rules: _ } = self;
+    }
 }
 
 impl Model for RuleList {

@@ -7,9 +7,16 @@ use std::sync::ArcSlice;
 
 /// Bytes of any value, such as the name of a person. Contracts see the list of the bytes.
 // A value holds up to three of these and is moved often, so a text is one pointer, and its clones share the bytes.
-#[derive(Drop, Debug)]
+#[derive(Debug)]
 pub struct Text {
     bytes: ArcSlice<u8>,
+}
+
+// By hand, so that crates above call it and don't write out the drop of each field.
+impl Drop for Text {
+    fn drop(self) {
+        let Text { bytes: _ } = self;
+    }
 }
 
 impl Model for Text {

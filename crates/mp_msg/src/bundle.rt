@@ -9,10 +9,16 @@ use std::marker::Model;
 
 /// Records of one stage, in the order of their tags. A message takes only those of one time, sender and receiver, at most
 /// [`MAX_BUNDLE`](mp_names::limits::MAX_BUNDLE). Contracts see a `Bundled`.
-#[derive(Drop)]
 pub struct Bundle {
     stage: u32,
     recs: Vec<Rec>,
+}
+
+// By hand, so that crates above call it and don't write out the drop of each field.
+impl Drop for Bundle {
+    fn drop(self) {
+        let Bundle { stage: _, recs: _ } = self;
+    }
 }
 
 impl Model for Bundle {
@@ -49,7 +55,8 @@ impl Bundle {
     pub fn into_recs(self) -> Vec<Rec>
         ensures { result.items ≡ self.recs }
     {
-        self.recs
+        let Bundle { stage: _, recs } = self;
+        recs
     }
 
     /// What they are called in the workers' logs.

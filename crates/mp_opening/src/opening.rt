@@ -14,7 +14,6 @@ use std::marker::Model;
 
 /// What a job goes on from: a checkpoint, and the bins of its cells and wakes. Contracts see the checkpoint and the number
 /// of bins of a stage.
-#[derive(Drop)]
 pub struct Opening<Q: Query> {
     checkpoint: Checkpoint<Q>,
     bins: u32,
@@ -22,6 +21,18 @@ pub struct Opening<Q: Query> {
     places: Vec<CellPlace>,
     // By bin, then by time, and then by key.
     wakes: Vec<(Time, u64)>,
+}
+
+// By hand, so that crates above call it and don't write out the drop of each field.
+impl<Q: Query> Drop for Opening<Q> {
+    fn drop(self) {
+        let Opening {
+            checkpoint: _,
+            bins: _,
+            places: _,
+            wakes: _,
+        } = self;
+    }
 }
 
 impl<Q: Query> Model for Opening<Q> {

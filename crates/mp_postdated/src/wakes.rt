@@ -13,12 +13,18 @@ use std::marker::Model;
 
 /// The keys that are to be woken, each with a time, as Megaphone's post-dated records. Contracts see the pairs of a
 /// time and a key, each once, ascending by time and then by key.
-#[derive(Drop)]
 pub struct Wakes {
     // Those that are to come.
     live: IndexSet<(Time, u64)>,
     // Each of them, the earliest first, and some that were taken out behind it.
     queue: Queue,
+}
+
+// By hand, so that crates above call it and don't write out the drop of each field.
+impl Drop for Wakes {
+    fn drop(self) {
+        let Wakes { live: _, queue: _ } = self;
+    }
 }
 
 impl Model for Wakes {

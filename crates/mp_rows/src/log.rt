@@ -30,7 +30,6 @@ const MOST_CHANGES: u64 = 1 << 24;
 
 /// The log of one worker of a job with this outline: how far its five lists of names have grown, and what that added to
 /// the counts since the log was posted last. The names themselves stand in contracts alone, which see a `WorkerLog`.
-#[derive(Drop)]
 pub struct Log<O: Outlined> {
     worker: u32,
     // The names, now and as they were posted last; and how many they are.
@@ -48,6 +47,26 @@ pub struct Log<O: Outlined> {
     room_for_names: u64,
     room_for_changes: u64,
     of: PhantomData<O>,
+}
+
+// By hand, so that crates above call it and don't write out the drop of each field.
+impl<O: Outlined> Drop for Log<O> {
+    fn drop(self) {
+        let Log {
+            worker: _,
+            names: _,
+            posted: _,
+            size: _,
+            posted_size: _,
+            ingested: _,
+            applied: _,
+            changes: _,
+            hints: _,
+            room_for_names: _,
+            room_for_changes: _,
+            of: _,
+        } = self;
+    }
 }
 
 impl<O: Outlined> Model for Log<O> {

@@ -161,9 +161,37 @@ impl<'a, Q: Query, J: Naming, R: Wait + Drop> Member<'a, Q, J, R> {
         Ok(made)
     }
 
+    // Makes steps of a kind, as `repeat_kind` does. Each kind has a loop of its own, in which the compiler knows it.
+    fn repeat<G: Gate, S: Sink>(&mut self, kind: Kind, gate: &G, sink: &mut S) -> Result<bool, Stop>
+        ensures drives { Drives (table_of Q.facts J.job) J.job S.written S.faults S.frame
+            result self.old self.new sink.old sink.new }
+        ensures made { result ≡ Ok true → HasComeFurther self.old self.new }
+        ensures idle { result ≡ Ok false
+            → WasHindered (outline_of (table_of Q.facts J.job) J.job) kind self.old self.new }
+    {
+        match kind {
+            Kind::Ingest => self.repeat_kind(Kind::Ingest, gate, sink),
+            Kind::SendControl => self.repeat_kind(Kind::SendControl, gate, sink),
+            Kind::Route(stage) => self.repeat_kind(Kind::Route(stage), gate, sink),
+            Kind::Receive(from) => self.repeat_kind(Kind::Receive(from), gate, sink),
+            Kind::Extract(stage) => self.repeat_kind(Kind::Extract(stage), gate, sink),
+            Kind::Settle(stage) => self.repeat_kind(Kind::Settle(stage), gate, sink),
+            Kind::Apply(stage) => self.repeat_kind(Kind::Apply(stage), gate, sink),
+            Kind::SendRow => self.repeat_kind(Kind::SendRow, gate, sink),
+            Kind::Write => self.repeat_kind(Kind::Write, gate, sink),
+            Kind::Exchange => self.repeat_kind(Kind::Exchange, gate, sink),
+        }
+    }
+
     // Makes steps of a kind, until one isn't made, an exchange was, or there were as many as a round has of a kind: whether
     // a step was made.
-    fn repeat<G: Gate, S: Sink>(&mut self, kind: Kind, gate: &G, sink: &mut S) -> Result<bool, Stop>
+    #[inline(always)]
+    fn repeat_kind<G: Gate, S: Sink>(
+        &mut self,
+        kind: Kind,
+        gate: &G,
+        sink: &mut S,
+    ) -> Result<bool, Stop>
         ensures drives { Drives (table_of Q.facts J.job) J.job S.written S.faults S.frame
             result self.old self.new sink.old sink.new }
         ensures made { result ≡ Ok true → HasComeFurther self.old self.new }

@@ -22,6 +22,7 @@ impl<'a, Q: Query, J: Naming, R: Wait + Drop> Member<'a, Q, J, R> {
     /// Passes the gate, and then makes one step of the worker, as `Worker::step` does with these ends, this seat and
     /// this sink: one step of the machine, of this worker. The answers are those of `Worker::step`. `Busy`: another
     /// thread may hold the board. `Other`: exactly where the seat sees that cause.
+    #[inline(always)]
     pub fn step<G: Gate, S: Sink>(
         &mut self,
         kind: Kind,

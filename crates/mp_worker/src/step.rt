@@ -39,6 +39,8 @@ impl<'a, Q: Query, J: Naming> Worker<'a, Q, J> {
     /// count of faults rose in this call or stands at its last value, 2^64 - 1. Only `Did` and `Seen` change the worker, its
     /// mailboxes and what is posted, and are kept where steps are; only a write changes the sink: where it answers `Memory`
     /// or `Write` a part of the lines from their front may be written.
+    // Inlined, so that where the kind is known nothing is asked of it, and of the answer only what is read is made.
+    #[inline(always)]
     pub fn step<P: Post<Msg<Q, J>>, H: Hub<OutlineOf<Q, J>>, S: Sink>(
         &mut self,
         kind: Kind,
@@ -77,6 +79,7 @@ impl<'a, Q: Query, J: Naming> Worker<'a, Q, J> {
 }
 
 // The same, of the parts of a worker and the steps that it keeps, where it keeps them.
+#[inline(always)]
 fn make_step<Q: Query, J: Naming, P: Post<Msg<Q, J>>, H: Hub<OutlineOf<Q, J>>, S: Sink>(
     parts: &mut Parts<'_, Q, J>,
     kept: &mut Option<Vec<Kept>>,
@@ -110,6 +113,7 @@ fn make_step<Q: Query, J: Naming, P: Post<Msg<Q, J>>, H: Hub<OutlineOf<Q, J>>, S
 }
 
 // A step of a kind that the job has, by parts of a worker that keeps its steps.
+#[inline(never)]
 fn step_and_keep<Q: Query, J: Naming, P: Post<Msg<Q, J>>, H: Hub<OutlineOf<Q, J>>, S: Sink>(
     parts: &mut Parts<'_, Q, J>,
     kept: &mut Vec<Kept>,
@@ -152,6 +156,7 @@ fn keep(kept: &mut Vec<Kept>, kind: Kind, answer: &Result<Turn, Stop>)
 }
 
 // A step of a kind that the job has, of which nothing is kept. An exchange takes no memory.
+#[inline(always)]
 fn step_alone<Q: Query, J: Naming, P: Post<Msg<Q, J>>, H: Hub<OutlineOf<Q, J>>, S: Sink>(
     parts: &mut Parts<'_, Q, J>,
     kind: Kind,
@@ -177,6 +182,7 @@ fn step_alone<Q: Query, J: Naming, P: Post<Msg<Q, J>>, H: Hub<OutlineOf<Q, J>>, 
 }
 
 // A step of a kind that the job has and that neither writes nor exchanges.
+#[inline(always)]
 fn step_by_mail<Q: Query, J: Naming, P: Post<Msg<Q, J>>>(
     parts: &mut Parts<'_, Q, J>,
     kind: Kind,
@@ -205,6 +211,7 @@ fn step_by_mail<Q: Query, J: Naming, P: Post<Msg<Q, J>>>(
 }
 
 // Whether a job of this shape has the stage or the sender that the kind names.
+#[inline(always)]
 fn fits(kind: Kind, shape: Shape) -> bool
     ensures { (o : Outline) → o.stages ≡ shape.stages → o.workers ≡ shape.workers → IsTrue result ↔ KindFits o kind }
 {
@@ -218,6 +225,7 @@ fn fits(kind: Kind, shape: Shape) -> bool
 }
 
 // The answer of a step that put these names into the log, or none.
+#[inline(always)]
 fn turn_of(made: Option<Names>) -> Turn
     ensures did { IfSome made (λ told. result ≡ turn.Did told.first told.count) }
     ensures not_now { IfNone made (result ≡ turn.NotNow) }

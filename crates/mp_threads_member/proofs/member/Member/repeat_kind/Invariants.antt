@@ -3,7 +3,7 @@ use Rattle.std.proofs.Common.{◌≡◌, ◌<◌}
 use Rattle.mp_model.specs.Tables.{table_of}
 use Rattle.mp_threads_member.specs.Driving.{GoesOn}
 use Rattle.mp_threads_member.specs.Rounds.{HasComeFurther}
-use Rattle.mp_threads_member.proofs.member.Member.repeat.Given as goal
+use Rattle.mp_threads_member.proofs.member.Member.repeat_kind.Given as goal
 
 abbrev pub invariant-loop-number : goal.invariant-loop-number
 invariant-loop-number g l = record {
