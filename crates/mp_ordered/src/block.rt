@@ -127,6 +127,7 @@ pub fn copied<T: Copy + Drop>(alloc: Global, blocks: &[VecDeque<T>]) -> Result<V
 }
 
 /// Puts an item at a place in a block, which has memory for it.
+#[inline(always)]
 pub fn put_in<T: Drop>(block: &mut VecDeque<T>, at: usize, item: T)
     requires inside { at ≤ length block.old.items }
     requires memory { length block.old.items < deque_capacity block.old }

@@ -114,6 +114,8 @@ impl<T: Drop, O: Order<T>> OrderedBlocks<T, O> {
 
     /// Puts an item at its place, in front of those of its rank. `AllocError`: no memory, never where there is
     /// room, and nothing changes.
+    // Inlined, as is what it calls, so that an item is moved to its place at once.
+    #[inline(always)]
     pub fn insert(&mut self, item: T) -> Result<(), AllocError>
         ensures put { OnOk result (self.new.items ≡ put_in_order O.rank item self.old.items) }
         ensures room { OnOk result (self.old.room ≤ self.new.room + 1) }
@@ -128,6 +130,7 @@ impl<T: Drop, O: Order<T>> OrderedBlocks<T, O> {
     }
 
     /// Puts an item at its place, in front of those of its rank, where there is room.
+    #[inline(always)]
     pub fn insert_reserved(&mut self, item: T)
         requires { 0 < self.old.room }
         ensures put { self.new.items ≡ put_in_order O.rank item self.old.items }

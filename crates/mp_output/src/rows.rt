@@ -20,7 +20,7 @@ ghost use Rattle.mp_output.specs.Holding.{AllAreWritten, HoldsUnwritten, WritesN
 ghost use Rattle.mp_output.specs.Unwritten.{IsDue, lines_of, place_rank, rows_at, rows_beside};
 ghost use Rattle.mp_output.specs.Wrote.{IfNothing, IfTime};
 
-use crate::lines::lines_of_first;
+use crate::lines::put_first;
 use crate::place::{ByPlace, OfTime};
 use crate::refused::OutRefused;
 use mp_model::{Fields, Naming, Output, Query, Time, Value};
@@ -43,8 +43,9 @@ pub enum Wrote {
 /// The answer rows of the job J of the query Q that worker 0 has received and not written. Contracts see an `Unwritten`:
 /// the rows in the order of their places, and how many more there is room for.
 pub struct Rows<Q: Query, J: Naming> {
-    alloc: Global,
     rows: OrderedBlocks<Output, ByPlace>,
+    // The lines that are written next: a list that serves each call.
+    lines: Vec<u8>,
     of: PhantomData<(Q, J)>,
 }
 
@@ -52,8 +53,8 @@ pub struct Rows<Q: Query, J: Naming> {
 impl<Q: Query, J: Naming> Drop for Rows<Q, J> {
     fn drop(self) {
         let Rows {
-            alloc: _,
             rows: _,
+            lines: _,
             of: _,
         } = self;
     }
@@ -79,8 +80,8 @@ impl<Q: Query, J: Naming> Rows<Q, J> {
         ensures held { HoldsUnwritten empty_log result.rows }
     {
         Rows {
-            alloc,
             rows: OrderedBlocks::new(alloc),
+            lines: Vec::new(alloc),
             of: PhantomData,
         }
     }
@@ -163,8 +164,8 @@ impl<Q: Query, J: Naming> Rows<Q, J> {
             return Ok(Wrote::Nothing);
         };
         let count = self.count_at(time);
-        let piece = lines_of_first(self.alloc, &self.rows, count)?;
-        write_piece(sink, piece.as_slice())?;
+        put_first(&mut self.lines, &self.rows, count)?;
+        write_piece(sink, self.lines.as_slice())?;
         self.rows.drop_first(count);
         Ok(Wrote::Time(time))
     }

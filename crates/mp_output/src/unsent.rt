@@ -60,6 +60,7 @@ impl<Q: Query, J: Naming> Unsent<Q, J> {
 
     /// Holds an answer row of the job, at its place. `AllocError`: no memory, never where there is room. The row is then
     /// lost, and the other rows are as they were.
+    #[inline(always)]
     pub fn hold(&mut self, row: Output) -> Result<(), AllocError>
         requires { Contains (answer_rows (table_of Q.facts J.job) J.job.events) row }
         ensures put { OnOk result (self.new.rows ≡ put_in_order place_rank row self.old.rows) }

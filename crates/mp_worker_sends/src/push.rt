@@ -16,6 +16,7 @@ use mp_rows::{Change, Log, LogList, NewNames, OutlineOf};
 
 // Pushes a message that the log's worker may send, and puts its names into the log, with what that
 // changes at the counts. `Err`: the mailbox was full; the message comes back, and the log is as it was.
+#[inline(always)]
 pub(crate) fn send<Q: Query, J: Naming, P: Post<Msg<Q, J>>>(
     log: &mut Log<OutlineOf<Q, J>>,
     post: &mut P,

@@ -23,6 +23,7 @@ use std::alloc::AllocError;
 
 impl<'a, Q: Query, J: Naming> Parts<'a, Q, J> {
     /// Takes a message that came to this worker to the part that it is for. There is room for it.
+    #[inline(always)]
     pub(crate) fn take(&mut self, message: Msg<Q, J>)
         requires new { AreOwedAndNew (outline_of (table_of Q.facts J.job) J.job) self.old.worker.number self.old.worker.log message }
         requires room { HasRoomToTake (table_of Q.facts J.job) J.job self.old }

@@ -13,11 +13,11 @@ use Rattle.mp_output.proofs.rows.Rows.write_due.Goals as goal
 pub returns-in_default-clause-none_passed : goal.returns-in_default-clause-none_passed
 returns-in_default-clause-none_passed g c = λ log t h l p. none_is_passed log (seen_at c.args.seen.now OutMail) c.args.self.now.rows t c.due.ensures.in_order c.in_default.ensures.none h l p
 
-pub returns-in_err-piece-clause-part : goal.returns-in_err-piece-clause-part
-returns-in_err-piece-clause-part g c = on_err c.from_residual.result (c.in-Some.time, 0, c.in-Some.ensures.some, omega arith, sym (grown-nothing (g.S.Sink.written c.args.sink.now)))
+pub returns-in_err-put_first-clause-part : goal.returns-in_err-put_first-clause-part
+returns-in_err-put_first-clause-part g c = on_err c.from_residual.result (c.in-Some.time, 0, c.in-Some.ensures.some, omega arith, sym (grown-nothing (g.S.Sink.written c.args.sink.now)))
 
-pub returns-in_err-piece-clause-part_of_answer : goal.returns-in_err-piece-clause-part_of_answer
-returns-in_err-piece-clause-part_of_answer g c =
+pub returns-in_err-put_first-clause-part_of_answer : goal.returns-in_err-put_first-clause-part_of_answer
+returns-in_err-put_first-clause-part_of_answer g c =
     let q = table_of g.Q.Query.facts g.J.Naming.job in
     let seen = seen_at c.args.seen.now OutMail in
     let rows = c.self.inside.rows.items in
@@ -34,8 +34,8 @@ returns-in_err-write_piece-clause-part_of_answer g c =
     on_err c.from_residual-in_err-write_piece.result
     (rw (← c.self.view_is) (λ log t h due. (due_is_least log seen rows t order due h, λ closed. time_is_whole q g.J.Naming.job log seen rows t order c.self.invariant due h closed)))
 
-pub invariant_of-self : goal.invariant_of-self
-invariant_of-self g c = rw c.drop_first.ensures.items (All-drop (Contains (answer_rows (table_of g.Q.Query.facts g.J.Naming.job) g.J.Naming.job.events)) c.count_at-count.result c.self.inside.rows.items c.self.invariant)
+pub invariant_of-self-2 : goal.invariant_of-self-2
+invariant_of-self-2 g c = rw c.drop_first.ensures.items (All-drop (Contains (answer_rows (table_of g.Q.Query.facts g.J.Naming.job) g.J.Naming.job.events)) c.count_at-count.result c.self.inside.rows.items c.self.invariant)
 
 pub returns-clause-next : goal.returns-clause-next
 returns-clause-next g c =

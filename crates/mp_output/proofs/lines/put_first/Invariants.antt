@@ -2,7 +2,7 @@
 use Rattle.std.proofs.Common.{◌≡◌, ◌+◌, length, take}
 use Rattle.mp_ordered.specs.Blocks.{items_of}
 use Rattle.mp_output.specs.Unwritten.{lines_of}
-use Rattle.mp_output.proofs.lines.lines_of_first.Given as goal
+use Rattle.mp_output.proofs.lines.put_first.Given as goal
 
 abbrev pub invariant-loop-block : goal.invariant-loop-block
 invariant-loop-block l = record {

@@ -5,7 +5,7 @@ use Rattle.mp_model.specs.declared.record.Output.{Output}
 use Rattle.mp_ordered.specs.Blocks.{items_of}
 use Rattle.mp_ordered.proofs.Fronts.{items_upto}
 use Rattle.mp_output.specs.Unwritten.{lines_of, place_of}
-use Rattle.mp_output.proofs.lines.lines_of_first.Goals as goal
+use Rattle.mp_output.proofs.lines.put_first.Goals as goal
 
 pub returns-then-left-len : goal.returns-then-left-len
 returns-then-left-len c =
