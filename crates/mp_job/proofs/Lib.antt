@@ -6,6 +6,5 @@ pub mod Members
 pub mod Opened
 pub mod Pairs
 pub mod Runs
-pub mod Same
 pub mod Sharing
 pub mod Whole

@@ -12,7 +12,7 @@ use Rattle.mp_opening.specs.Checkpoints.{KeyIsBefore, saved_in}
 use Rattle.mp_opening.specs.Openings.{AreCellsOf, AreWakesOf, CellMayOpen, MayOpen, OpeningOf}
 use Rattle.mp_job.specs.Openings.{AreOpeningCells, AreOpeningWakes}
 use Rattle.mp_job.specs.Parts.{OpeningFits, table_in}
-use Rattle.mp_job.proofs.Members.{nothing_in_nil, Contains-cases, Contains-filter, Contains-here, Contains-later, Contains-map, filter-Contains, map-Contains}
+use Rattle.mp_shares.proofs.Members.{nothing_in_nil, Contains-cases, Contains-filter, Contains-here, Contains-later, Contains-map, filter-Contains, map-Contains}
 use Rattle.mp_job.proofs.Whole.{may_as}
 use Rattle.mp_job.proofs.Pairs.{AllPairs-head, AllPairs-tail, All-from_Contains}
 

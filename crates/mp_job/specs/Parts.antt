@@ -1,6 +1,5 @@
 -- What a job holds.
-use Rattle.std.specs.Prelude.{◌≡◌, ◌++◌, ◌∷◌, [], ◌%◌, ◌≤◌, ℕ, Option, None, Some, false, List, length, map, slice_index_or, slice_set}
-use Rattle.std.specs.List.{range_with_len}
+use Rattle.std.specs.Prelude.{◌≡◌, [], ◌≤◌, ℕ, Option, None, Some, false, List, length}
 use Rattle.mp_names.specs.declared.controls.Control.{Control}
 use Rattle.mp_names.specs.declared.controls.First.{First}
 use Rattle.mp_names.specs.declared.controls.Shape.{Shape}
@@ -11,7 +10,7 @@ use Rattle.mp_model.specs.Tables.{table_of}
 use Rattle.mp_opening.specs.Checkpoints.{saved_in}
 use Rattle.mp_opening.specs.Openings.{MayOpen, OpeningOf}
 use Rattle.mp_job.specs.Legal.{JobIsLegal}
-use Rattle.mp_job.specs.Records.{share_of}
+use Rattle.mp_job.specs.Records.{shares_of}
 use Rattle.mp_job.specs.Times.{post_times_of, times_of}
 
 -- what is told of a job that is made of these
@@ -31,10 +30,6 @@ job_of values events controls shape firsts = record {
 abbrev pub job_in : List ℕ → List Event → List Control → Shape → List First → Option ℕ → Option SavedState → JobFacts
 job_in values events controls shape firsts stop saved = record (job_of values events controls shape firsts) { until = stop; from = saved }
 
--- the shares with one more index, in that of the worker whose number it is modulo the number of workers
-abbrev pub with_index : ℕ → List (List ℕ) → List (List ℕ)
-with_index i shares = slice_set shares (i % length shares) (slice_index_or shares (i % length shares) [] ++ i ∷ [])
-
 module _ {Cell : Type 0} where
   -- the state that a job goes on from, as the checkpoint with its bins says it
   abbrev pub saved_of : (ℕ → Cell → List ℕ) → Option (OpeningOf Cell) → Option SavedState
@@ -44,10 +39,6 @@ module _ {Cell : Type 0} where
   -- the table of a query in every job that stops at this time and goes on from this checkpoint, if they are given
   abbrev pub table_in : (List ℕ → QueryFacts Cell) → (ℕ → Cell → List ℕ) → List ℕ → Option ℕ → Option (OpeningOf Cell) → QueryFacts Cell
   table_in facts text values stop opening = table_of facts (job_in values [] [] (record { workers = 0; bins = 0; stages = 0 }) [] stop (saved_of text opening))
-
-  -- the shares of all workers, by their numbers
-  abbrev pub shares_of : QueryFacts Cell → List Event → ℕ → List (List ℕ)
-  shares_of q events workers = map (share_of q events workers) (range_with_len 0 workers)
 
   -- a job may go on from the checkpoint, if there is one, and it is cut into so many bins and has no more wakes than a job may
   abbrev pub OpeningFits : QueryFacts Cell → ℕ → Option (OpeningOf Cell) → Type 0

@@ -5,13 +5,13 @@ ghost use Rattle.mp_names.specs.Limits.{last_time};
 ghost use Rattle.mp_model.specs.Folds.{times_in};
 ghost use Rattle.mp_model.specs.Legal.{EventsAreLegal};
 ghost use Rattle.mp_model.specs.Stages.{input_records, record_of};
-ghost use Rattle.mp_job.specs.Parts.{shares_of, table_in, with_index};
-ghost use Rattle.mp_job.specs.Times.{AllStandIn, HoldSame};
+ghost use Rattle.mp_shares.specs.Records.{shares_of, with_index};
+ghost use Rattle.mp_shares.specs.Times.{AllStandIn, HoldSame};
+ghost use Rattle.mp_job.specs.Parts.{table_in};
 
-use crate::posted::Posted;
-use crate::shares::Share;
 use crate::source::Source;
-use mp_model::{Event, PostList, Query, Rec, Tag, Time, Value};
+use mp_model::{Event, Query, Rec, Tag, Time, Value};
+use mp_shares::{Posted, Share, add_index, add_posts, add_time};
 use std::alloc::{AllocError, Global};
 use std::mem;
 
@@ -87,43 +87,6 @@ fn take_in<Q: Query>(
     add_time(event.time, times)?;
     add_posts(posts, posted, times)?;
     Ok(())
-}
-
-// Adds a time, unless it is the last that was added.
-fn add_time(time: Time, times: &mut Vec<Time>) -> Result<(), AllocError>
-    ensures { OnOk result (HoldSame times.new.items (times.old.items ++ time ∷ [])) }
-{
-    if let Some(last) = times.last() {
-        if *last == time {
-            return Ok(());
-        }
-    }
-    times.push(time)?;
-    Ok(())
-}
-
-// Adds posts, unless they are those that were added last: neighbours in one window post the same.
-fn add_posts(posts: PostList, posted: &mut Posted, times: &mut Vec<Time>) -> Result<(), AllocError>
-    requires { AllStandIn posted.old.last times.old.items }
-    ensures times { OnOk result (HoldSame times.new.items (times.old.items ++ posts)) }
-    ensures posts { OnOk result (HoldSame posted.new.times (posted.old.times ++ posts)) }
-    ensures posted { OnOk result (AllStandIn posted.new.last times.new.items) }
-{
-    if posted.is_last(&posts) {
-        return Ok(());
-    }
-    times.extend_from_slice(posts.as_slice())?;
-    posted.add(posts)?;
-    Ok(())
-}
-
-// Puts an index into the share of its worker.
-fn add_index(shares: &mut [Share], index: u32) -> Result<(), AllocError>
-    requires { 0 < length shares.old }
-    ensures { OnOk result (shares.new ≡ with_index index shares.old) }
-{
-    let worker = index as usize % shares.len();
-    shares[worker].push(index)
 }
 
 // What stands in an event while its value is a record's.

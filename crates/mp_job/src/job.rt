@@ -13,14 +13,13 @@ ghost use Rattle.mp_job.specs.Parts.{OpeningFits, job_in, job_of, saved_of};
 ghost use Rattle.mp_job.specs.Records.{record_at, share_of};
 ghost use Rattle.mp_job.specs.Times.{post_times_of, times_of};
 
-use crate::gather::gather;
+use crate::gathered::gather_all;
 use crate::inputs::JobInputs;
 use crate::records::record_of;
-use crate::shares::{Share, empty_shares};
 use crate::source::Source;
-use crate::times::{add_control_times, add_wake_times, before, put_in_order, since};
 use mp_model::{Control, Event, First, Query, Rec, Shape, Time};
 use mp_opening::{Checkpoint, FirstOwners, Opening};
+use mp_shares::{Share, before, since};
 use std::alloc::{AllocError, Global};
 use std::marker::Model;
 
@@ -205,23 +204,15 @@ impl<Q: Query> Job<Q> {
             firsts,
         } = inputs;
         let owners = FirstOwners::new(alloc, shape, firsts.as_slice())?;
-        let mut shares = empty_shares(alloc, shape.workers)?;
-        let mut times = Vec::new(alloc);
-        let mut posts = gather(alloc, &source, &mut events, &mut shares, &mut times)?;
-        add_wake_times(&source.opening, &mut posts)?;
-        put_in_order(&mut posts);
-        add_control_times(&controls, &mut times)?;
-        add_wake_times(&source.opening, &mut times)?;
-        put_in_order(&mut times);
-        times.shrink_to_fit();
+        let gathered = gather_all(alloc, &source, &mut events, &controls, shape.workers)?;
         Ok(Job {
             source,
             events,
             controls,
             owners,
-            shares,
-            times,
-            post_times: posts.len(),
+            shares: gathered.shares,
+            times: gathered.times,
+            post_times: gathered.post_times,
         })
     }
 

@@ -5,18 +5,15 @@
 #![tactic(auto)]
 
 mod gather;
+mod gathered;
 mod inputs;
 mod job;
-mod laws;
-mod posted;
 mod records;
-mod shares;
 mod source;
 mod times;
 
 pub use inputs::JobInputs;
 pub use job::Job;
-pub use laws::{shares_hold_each_record_once, times_are_ascending};
 pub use mp_model::{Control, Event, First, Query, Rec, Shape, Time};
 pub use mp_opening::{Checkpoint, KeyCell, KeyWake};
-pub use times::put_in_order;
+pub use mp_shares::{put_in_order, shares_hold_each_record_once, times_are_ascending};

@@ -1,24 +1,44 @@
-//! The times at which something happens.
-ghost use Rattle.std.specs.Prelude.{◌≡◌, ◌++◌, OnOk, filter, map, nat_le, nat_lt};
+//! The times at which something happens, with those of the wakes that a job begins with.
+ghost use Rattle.std.specs.Prelude.{◌≡◌, ◌++◌, IfOk, OnOk, length};
 ghost use Rattle.mp_model.specs.Ascending.{ascending};
-ghost use Rattle.mp_job.specs.Times.{HoldSame, control_times, opening_times};
+ghost use Rattle.mp_shares.specs.Times.{HoldSame, control_times};
+ghost use Rattle.mp_job.specs.Times.{opening_times};
 
 use mp_model::{Control, Query, Time};
 use mp_opening::Opening;
+use mp_shares::{add_control_times, add_first_of, put_in_order};
 use std::alloc::AllocError;
 
-/// Adds the times of control records. `AllocError`: no memory.
-pub fn add_control_times(controls: &[Control], times: &mut Vec<Time>) -> Result<(), AllocError>
-    ensures { OnOk result (times.new.items ≡ times.old.items ++ control_times controls.now) }
+/// Adds the times of control records and of the wakes that a job begins with to others, and puts all in order, each once.
+/// `AllocError`: no memory.
+pub fn add_other_times<Q: Query>(
+    opening: &Option<Opening<Q>>,
+    controls: &[Control],
+    times: &mut Vec<Time>,
+) -> Result<(), AllocError>
+    ensures { OnOk result (times.new.items ≡ ascending ((times.old.items ++ control_times controls.now) ++ opening_times opening.now)) }
 {
-    for control in controls {
-        times.push(control.time)?;
-    }
+    add_control_times(controls, times)?;
+    add_wake_times(opening, times)?;
+    put_in_order(times);
+    times.shrink_to_fit();
     Ok(())
 }
 
-/// Adds the times of the wakes that a job begins with, in any order. `AllocError`: no memory.
-pub fn add_wake_times<Q: Query>(
+/// How many times these and the wakes have that a job begins with, each counted once. `AllocError`: no memory.
+pub fn count_with_wakes<Q: Query>(
+    opening: &Option<Opening<Q>>,
+    mut times: Vec<Time>,
+) -> Result<usize, AllocError>
+    ensures { IfOk result (λ count. count ≡ length (ascending (times.items ++ opening_times opening.now))) }
+{
+    add_wake_times(opening, &mut times)?;
+    put_in_order(&mut times);
+    Ok(times.len())
+}
+
+// Adds the times of the wakes that a job begins with, in any order. `AllocError`: no memory.
+fn add_wake_times<Q: Query>(
     opening: &Option<Opening<Q>>,
     times: &mut Vec<Time>,
 ) -> Result<(), AllocError>
@@ -28,38 +48,4 @@ pub fn add_wake_times<Q: Query>(
         Some(opening) => add_first_of(opening.wakes(), times),
         None => Ok(()),
     }
-}
-
-// Adds the times of wakes, each a time and a key. `AllocError`: no memory.
-fn add_first_of(wakes: &[(Time, u64)], times: &mut Vec<Time>) -> Result<(), AllocError>
-    ensures { OnOk result (times.new.items ≡ times.old.items ++ map (λ w. w.0) wakes.now) }
-{
-    for wake in wakes {
-        times.push(wake.0)?;
-    }
-    Ok(())
-}
-
-/// Puts times in order, and keeps each once.
-pub fn put_in_order(times: &mut Vec<Time>)
-    ensures { times.new.items ≡ ascending times.old.items }
-{
-    times.sort_unstable();
-    times.dedup();
-}
-
-/// The control records of earlier times than this, in their order.
-pub fn before(mut controls: Vec<Control>, time: Time) -> Vec<Control>
-    ensures { result.items ≡ filter (λ c. nat_lt c.time time) controls.items }
-{
-    controls.retain(|control| control.time < time);
-    controls
-}
-
-/// The control records of this time and later ones, in their order.
-pub fn since(mut controls: Vec<Control>, time: Time) -> Vec<Control>
-    ensures { result.items ≡ filter (λ c. nat_le time c.time) controls.items }
-{
-    controls.retain(|control| time <= control.time);
-    controls
 }

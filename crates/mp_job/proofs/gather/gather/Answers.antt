@@ -2,8 +2,8 @@ use Rattle.std.proofs.Common.{◌≡◌, ◌++◌, ◌∷◌, ◌<◌, ◌∙◌
 use Rattle.std.proofs.lemmas.List.{get_or_default, set-get_or}
 use Rattle.mp_model.specs.declared.record.Rec.{Rec}
 use Rattle.mp_job.specs.Parts.{table_in}
-use Rattle.mp_job.proofs.Same.{same_list, same_then}
-use Rattle.mp_job.proofs.Sharing.{none_left, taken_in, times_added, times_from}
+use Rattle.mp_shares.proofs.Same.{same_list, same_then}
+use Rattle.mp_shares.proofs.Sharing.{none_left, taken_in, times_added, times_from}
 use Rattle.mp_job.proofs.gather.gather.Goals as goal
 
 pub loop-index-preserved : goal.loop-index-preserved

@@ -5,8 +5,8 @@ use Rattle.std.specs.List.{enumerate_from, filter_map, flat_map, range_with_len}
 use Rattle.mp_model.specs.Folds.{times_in}
 use Rattle.mp_model.specs.Stages.{input_records, record_of}
 use Rattle.mp_job.specs.Parts.{table_in}
-use Rattle.mp_job.specs.Records.{is_taken_by}
-use Rattle.mp_job.specs.Times.{AllStandIn, HoldSame}
+use Rattle.mp_shares.specs.Records.{is_taken_by}
+use Rattle.mp_shares.specs.Times.{AllStandIn, HoldSame}
 use Rattle.mp_job.proofs.gather.gather.Given as goal
 
 abbrev pub invariant-loop-index : goal.invariant-loop-index

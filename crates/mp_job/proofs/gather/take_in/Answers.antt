@@ -1,7 +1,7 @@
 use Rattle.std.proofs.Common.{◌++◌, ◌∷◌, []}
 use Rattle.mp_job.specs.Parts.{table_in}
-use Rattle.mp_job.proofs.Same.{same_list, same_then, same_twice, stands_still}
-use Rattle.mp_job.proofs.Sharing.{posts_made, times_made}
+use Rattle.mp_shares.proofs.Same.{same_list, same_then, same_twice, stands_still}
+use Rattle.mp_shares.proofs.Sharing.{posts_made, times_made}
 use Rattle.mp_job.proofs.gather.take_in.Goals as goal
 
 pub add_posts-requires : goal.add_posts-requires

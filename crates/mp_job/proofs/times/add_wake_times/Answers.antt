@@ -1,7 +1,8 @@
 use Rattle.std.proofs.Common.{◌++◌, map, subst, sym}
 use Rattle.std.proofs.lemmas.Result.{on_ok_weaker}
-use Rattle.mp_job.specs.Times.{HoldSame, opening_times}
-use Rattle.mp_job.proofs.Same.{same_after, same_list, same_then}
+use Rattle.mp_shares.specs.Times.{HoldSame}
+use Rattle.mp_job.specs.Times.{opening_times}
+use Rattle.mp_shares.proofs.Same.{same_after, same_list, same_then}
 use Rattle.mp_job.proofs.times.add_wake_times.Goals as goal
 
 pub returns-in-Some : goal.returns-in-Some

@@ -1,7 +1,7 @@
 use Rattle.std.proofs.Common.{◌∙◌, arith}
 use Rattle.std.proofs.lemmas.Grind.{common_steps}
 use Rattle.mp_job.specs.Parts.{table_in}
-use Rattle.mp_job.proofs.Sharing.{length-shares, share-at}
+use Rattle.mp_shares.proofs.Sharing.{length-shares, share-at}
 use Rattle.mp_job.proofs.job.Job.share.Goals as goal
 
 pub index-requires : goal.index-requires

@@ -1,4 +1,0 @@
-use Rattle.mp_job.proofs.posted.Posted.is_last.Goals as goal
-
-pub returns-clause-stand : goal.returns-clause-stand
-returns-clause-stand c = rw (← c.self.view_is) c.self.invariant

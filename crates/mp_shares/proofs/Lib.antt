@@ -1,0 +1,5 @@
+pub mod Ascents
+pub mod Gathering
+pub mod Members
+pub mod Same
+pub mod Sharing
