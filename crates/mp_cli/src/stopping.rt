@@ -9,7 +9,7 @@ ghost use Rattle.mp_msg.specs.LastStates.{AreAllStates};
 ghost use Rattle.mp_output.specs.Rows.{GivesRows};
 ghost use Rattle.mp_outside.specs.Fault.{Rose};
 ghost use Rattle.mp_outside.specs.Files.{with_file};
-ghost use Rattle.mp_report.specs.Report.{AreTalliesOf};
+ghost use Rattle.mp_tally.specs.Tallies.{AreTalliesOf};
 ghost use Rattle.mp_words.specs.Limits.{AreWithinLimits};
 ghost use Rattle.mp_words.specs.Values.{Until, options_in};
 ghost use Rattle.mp_words.specs.Words.{Run};

@@ -6,7 +6,8 @@ ghost use Rattle.mp_output.specs.declared.refused.OutRefused.TheVariants.{WriteF
 ghost use Rattle.mp_outside.specs.Fault.{Rose};
 ghost use Rattle.mp_outside.specs.Sink.{OnlyAppends, grown};
 ghost use Rattle.mp_report.specs.Journal.{journal_text};
-ghost use Rattle.mp_report.specs.Report.{AreTalliesOf, IsReport};
+ghost use Rattle.mp_report.specs.Report.{IsReport};
+ghost use Rattle.mp_tally.specs.Tallies.{AreTalliesOf};
 ghost use Rattle.mp_command.specs.Calls.{StopsAnswer};
 ghost use Rattle.mp_command.specs.Refused.{EndsAs, outcome_of};
 ghost use Rattle.mp_command.specs.Writing.{Journal, Report, WritesAll, WritesSome, target_in};

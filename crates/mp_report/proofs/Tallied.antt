@@ -28,7 +28,8 @@ use Rattle.mp_tally.specs.declared.tally.Tally.{Tally}
 use Rattle.mp_tally.specs.Tallies.{MovedHasKeys, name_of_moved}
 use Rattle.mp_tally.proofs.Lists.{some_at}
 use Rattle.mp_report.specs.Lines.{line_of_worker}
-use Rattle.mp_report.specs.Report.{AreTalliesOf, IsReport, IsReportedInPart, MovesKeys, groups_owned, move_lines, worker_lines}
+use Rattle.mp_tally.specs.Tallies.{AreTalliesOf}
+use Rattle.mp_report.specs.Report.{IsReport, IsReportedInPart, MovesKeys, groups_owned, move_lines, worker_lines}
 use Rattle.mp_report.specs.Told.{groups_told, is_moved_by, keys_in, packets_of}
 use Rattle.mp_report.proofs.Prefixes.{joined_same, prefix_taken}
 

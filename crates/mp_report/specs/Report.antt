@@ -1,5 +1,5 @@
 -- The report of a job: its moves, each with how many keys moved, and then how many groups each worker owns. No run, worker's log or schedule is in it.
-use Rattle.std.specs.Prelude.{◌≡◌, ℕ, ◌++◌, List, All, Option, Some, flat_map, length, slice_get, take}
+use Rattle.std.specs.Prelude.{◌≡◌, ℕ, ◌++◌, List, All, Option, flat_map, length, take}
 use Rattle.mp_names.specs.declared.controls.Move.{Move}
 use Rattle.mp_names.specs.Logs.{owned_groups}
 use Rattle.mp_names.specs.Names.{joined_below}
@@ -8,8 +8,6 @@ use Rattle.mp_outside.specs.Sink.{grown}
 use Rattle.mp_model.specs.Facts.{JobFacts, QueryFacts}
 use Rattle.mp_outline.specs.JobOutline.{outline_of}
 use Rattle.mp_handoff.specs.Keys.{HasKeys}
-use Rattle.mp_tally.specs.declared.tally.Tally.{Tally}
-use Rattle.mp_tally.specs.Tallies.{IsTallyOf}
 use Rattle.mp_report.specs.Lines.{line_of_move, line_of_worker}
 
 -- the lines of moves, with these numbers of keys
@@ -38,11 +36,6 @@ module _ {Cell : Type 0} (q : QueryFacts Cell) (job : JobFacts) where
   -- a job has no two reports
   abbrev pub JobHasOneReport : Type 0
   JobHasOneReport = (a b : List ℕ) → IsReport a → IsReport b → a ≡ b
-
-  -- there is a tally of each worker, and each is the job's
-  pub record AreTalliesOf (tallies : List Tally) : Type 0 where
-    pub all : length tallies ≡ job.shape.workers
-    pub each : (w : ℕ) (t : Tally) → slice_get tallies w ≡ Some t → IsTallyOf q job w t
 
   -- on top of what was there before, the report stands
   abbrev pub IsReported : Option (List ℕ) → Option (List ℕ) → Type 0

@@ -5,7 +5,8 @@ ghost use Rattle.mp_outside.specs.Fault.{Rose};
 ghost use Rattle.mp_outside.specs.Sink.{OnlyAppends, grown};
 ghost use Rattle.mp_output.specs.declared.refused.OutRefused.TheVariants.{WriteFault};
 ghost use Rattle.mp_ordered.specs.InOrder.{IsInOrder};
-ghost use Rattle.mp_report.specs.Report.{AreTalliesOf, IsReported, IsReportedInPart, move_lines, worker_lines};
+ghost use Rattle.mp_report.specs.Report.{IsReported, IsReportedInPart, move_lines, worker_lines};
+ghost use Rattle.mp_tally.specs.Tallies.{AreTalliesOf};
 ghost use Rattle.mp_report.specs.Told.{groups_told, keys_in, rank_of_packet};
 ghost use Rattle.mp_model.specs.Tables.{table_of};
 

@@ -1,5 +1,5 @@
 -- What a worker tells of what it has done: the packets that it sent, and its groups.
-use Rattle.std.specs.Prelude.{◌≡◌, ◌↔◌, ℕ, All, List, filter, flat_map, length, map}
+use Rattle.std.specs.Prelude.{◌≡◌, ◌↔◌, ℕ, All, List, Some, filter, flat_map, length, map, slice_get}
 use Rattle.mp_names.specs.declared.names.Name.{Name}
 use Rattle.mp_names.specs.declared.names.Name.TheVariants.{Packet}
 use Rattle.mp_names.specs.Logs.{Log, owned_groups}
@@ -49,3 +49,8 @@ module _ {Cell : Type 0} (q : QueryFacts Cell) (job : JobFacts) where
         ↔ (IsMove (outline_of q job) j b t × (owner_before (outline_of q job) j b t ≡ w)))
     pub once : Distinct (map name_of_moved tally.moved.items)
     pub keys : All (MovedHasKeys q job) tally.moved.items
+
+  -- There is a tally of each worker, and each is the job's
+  pub record AreTalliesOf (tallies : List Tally) : Type 0 where
+    pub all : length tallies ≡ job.shape.workers
+    pub each : (w : ℕ) (t : Tally) → slice_get tallies w ≡ Some t → IsTallyOf w t

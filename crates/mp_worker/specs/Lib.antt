@@ -3,6 +3,7 @@ pub mod Done
 pub mod Exchanging
 pub mod Keeping
 pub mod Last
+pub mod Plans
 pub mod Stepping
 pub mod Stops
 pub mod Turns

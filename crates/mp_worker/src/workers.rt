@@ -1,14 +1,13 @@
 //! The workers of a run.
 ghost use Rattle.std.specs.Prelude.{◌≡◌, ℕ, All, IfOk, Some, length, replicate, slice_get};
 ghost use Rattle.mp_names.specs.Logs.{empty_log};
-ghost use Rattle.mp_job.specs.Runs.{IsRunOf};
 ghost use Rattle.mp_board.specs.Boards.{ShowsFrontiers};
 ghost use Rattle.mp_model.specs.Tables.{table_of};
 ghost use Rattle.mp_outline.specs.JobOutline.{outline_of};
-ghost use Rattle.mp_output.specs.Rows.{GivesRows};
 ghost use Rattle.mp_worker_refinement.specs.Laws.{IsNewWorker};
 ghost use Rattle.mp_worker_refinement.specs.State.{WorkerState};
 ghost use Rattle.mp_worker.specs.Keeping.{no_steps};
+ghost use Rattle.mp_worker.specs.Plans.{MayRun};
 
 use crate::{RunPlan, Worker};
 use mp_job::Job;
@@ -24,9 +23,7 @@ pub fn new_workers<'a, Q: Query, J: Naming>(
     seen: Seen,
     plan: RunPlan,
 ) -> Result<Vec<Worker<'a, Q, J>>, AllocError>
-    requires job { IsRunOf job.now J.job }
-    requires pace { J.job.paced ≡ plan.paced }
-    requires rows { GivesRows (table_of Q.facts J.job) }
+    requires run { MayRun (table_of Q.facts J.job) job.now J.job plan.paced }
     requires version { seen.version ≡ 0 }
     requires opening { let o = outline_of (table_of Q.facts J.job) J.job in
         ShowsFrontiers o (replicate J.job.shape.workers empty_log) seen }

@@ -3,7 +3,7 @@ use Rattle.std.proofs.Common.{ap, IfOk, subst, sym}
 use Rattle.mp_model.specs.Facts.{JobFacts, QueryFacts}
 use Rattle.mp_outline.specs.JobOutline.{outline_of}
 use Rattle.mp_output.specs.Rows.{GivesRows}
-use Rattle.mp_report.specs.Report.{AreTalliesOf}
+use Rattle.mp_tally.specs.Tallies.{AreTalliesOf}
 use Rattle.mp_model.specs.Rules.{numbers_with}
 use Rattle.mp_words.specs.Values.{options_in}
 use Rattle.mp_words.specs.Words.{Run}
