@@ -1,13 +1,11 @@
 //! A whole run on one thread.
 ghost use Rattle.std.specs.Prelude.{◌≡◌, ◌<◌, ℕ, [], IfOk, IsTrue, Some, false, length, map, slice_get};
-ghost use Rattle.mp_job.specs.Runs.{IsRunOf};
 ghost use Rattle.mp_model.specs.Tables.{table_of};
 ghost use Rattle.mp_outline.specs.JobOutline.{outline_of};
-ghost use Rattle.mp_output.specs.Rows.{GivesRows};
 ghost use Rattle.mp_answer_laws.specs.Runs.{RunLeaves};
 ghost use Rattle.mp_drive.specs.Schedule.{EndsAfter, IsKeptBySchedule};
-ghost use Rattle.mp_tally.specs.Tallies.{IsTallyOf};
-ghost use Rattle.mp_tally.specs.declared.tally.Tally.{Tally as Told};
+ghost use Rattle.mp_tally.specs.Tallies.{AreTalliesOf};
+ghost use Rattle.mp_worker.specs.Plans.{MayRun};
 
 use crate::{Plain, RunPlan};
 use mp_board::Cause;
@@ -32,9 +30,7 @@ pub fn replay<Q: Query, J: Naming, S: Sink, G: Gate>(
     gate: &G,
     sink: &mut S,
 ) -> Result<u64, Cause>
-    requires job { IsRunOf job.now J.job }
-    requires pace { J.job.paced ≡ plan.paced }
-    requires rows { GivesRows (table_of Q.facts J.job) }
+    requires run { MayRun (table_of Q.facts J.job) job.now J.job plan.paced }
     requires depth { 0 < plan.depth }
     ensures made { IfOk result (λ n. EndsAfter (outline_of (table_of Q.facts J.job) J.job) plan.depth seed n) }
     ensures leaves { let q = table_of Q.facts J.job in
@@ -76,15 +72,11 @@ pub fn replay_with_tallies<Q: Query, J: Naming, S: Sink, G: Gate>(
     gate: &G,
     sink: &mut S,
 ) -> Result<Replayed, Cause>
-    requires job { IsRunOf job.now J.job }
-    requires pace { J.job.paced ≡ plan.paced }
-    requires rows { GivesRows (table_of Q.facts J.job) }
+    requires run { MayRun (table_of Q.facts J.job) job.now J.job plan.paced }
     requires depth { 0 < plan.depth }
     ensures made { let o = outline_of (table_of Q.facts J.job) J.job in
         IfOk result (λ run. EndsAfter o plan.depth seed run.steps) }
-    ensures all { IfOk result (λ run. length run.tallies.items ≡ job.now.shape.workers) }
-    ensures tallies { IfOk result (λ run. (w : ℕ) (t : Told) → slice_get run.tallies.items w ≡ Some t
-        → IsTallyOf (table_of Q.facts job.now) job.now w t) }
+    ensures tallies { IfOk result (λ run. AreTalliesOf (table_of Q.facts job.now) job.now run.tallies.items) }
     ensures kept { let o = outline_of (table_of Q.facts J.job) J.job in
         IsTrue plan.keeps
         → IfOk result (λ run. IsKeptBySchedule o plan.depth seed (map (λ kept. kept.items) run.kept.items)) }

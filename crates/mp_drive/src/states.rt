@@ -1,14 +1,12 @@
 //! A whole run on one thread, with what the bins have at its end.
 ghost use Rattle.std.specs.Prelude.{◌≡◌, ◌<◌, ℕ, IfOk, Some, length, map, slice_get};
-ghost use Rattle.mp_job.specs.Runs.{IsRunOf};
 ghost use Rattle.mp_model.specs.Tables.{table_of};
 ghost use Rattle.mp_msg.specs.LastStates.{AreAllStates};
 ghost use Rattle.mp_outline.specs.JobOutline.{outline_of};
-ghost use Rattle.mp_output.specs.Rows.{GivesRows};
 ghost use Rattle.mp_answer_laws.specs.Runs.{RunLeaves};
 ghost use Rattle.mp_drive.specs.Schedule.{EndsAfter};
-ghost use Rattle.mp_tally.specs.Tallies.{IsTallyOf};
-ghost use Rattle.mp_tally.specs.declared.tally.Tally.{Tally as Told};
+ghost use Rattle.mp_tally.specs.Tallies.{AreTalliesOf};
+ghost use Rattle.mp_worker.specs.Plans.{MayRun};
 
 use crate::{Plain, RunPlan};
 use mp_board::Cause;
@@ -42,15 +40,11 @@ pub fn replay_with_states<Q: Query, J: Naming, S: Sink, G: Gate>(
     gate: &G,
     sink: &mut S,
 ) -> Result<ReplayedStates<Q::Cell>, Cause>
-    requires job { IsRunOf job.now J.job }
-    requires pace { J.job.paced ≡ plan.paced }
-    requires rows { GivesRows (table_of Q.facts J.job) }
+    requires run { MayRun (table_of Q.facts J.job) job.now J.job plan.paced }
     requires depth { 0 < plan.depth }
     ensures made { let o = outline_of (table_of Q.facts J.job) J.job in
         IfOk result (λ run. EndsAfter o plan.depth seed run.steps) }
-    ensures all { IfOk result (λ run. length run.tallies.items ≡ job.now.shape.workers) }
-    ensures tallies { IfOk result (λ run. (w : ℕ) (t : Told) → slice_get run.tallies.items w ≡ Some t
-        → IsTallyOf (table_of Q.facts job.now) job.now w t) }
+    ensures tallies { IfOk result (λ run. AreTalliesOf (table_of Q.facts job.now) job.now run.tallies.items) }
     ensures states { IfOk result (λ run. AreAllStates (table_of Q.facts job.now) job.now (map (λ own. own.items) run.states.items)) }
     ensures leaves { let q = table_of Q.facts J.job in
         RunLeaves q J.job S.written S.faults S.frame result sink.old sink.new }

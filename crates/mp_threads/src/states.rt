@@ -4,11 +4,10 @@ ghost use Rattle.mp_job.specs.Runs.{IsRunOf};
 ghost use Rattle.mp_model.specs.Tables.{table_of};
 ghost use Rattle.mp_msg.specs.LastStates.{AreAllStates};
 ghost use Rattle.mp_outline.specs.JobOutline.{outline_of};
-ghost use Rattle.mp_output.specs.Rows.{GivesRows};
-ghost use Rattle.mp_tally.specs.declared.tally.Tally.{Tally as Told};
-ghost use Rattle.mp_tally.specs.Tallies.{IsTallyOf};
+ghost use Rattle.mp_tally.specs.Tallies.{AreTalliesOf};
 ghost use Rattle.mp_threads.specs.Crews.{AreFinished};
 ghost use Rattle.mp_answer_laws.specs.Runs.{RunLeaves};
+ghost use Rattle.mp_worker.specs.Plans.{MayRun};
 
 use crate::tallies::tallies_of;
 use crate::{Crew, run_workers};
@@ -51,13 +50,9 @@ pub fn run_with_states<
     gate: &G,
     sink: &mut S,
 ) -> Result<EndedStates<Q::Cell>, Cause>
-    requires job { IsRunOf job.now J.job }
-    requires pace { J.job.paced ≡ plan.paced }
-    requires rows { GivesRows (table_of Q.facts J.job) }
+    requires run { MayRun (table_of Q.facts J.job) job.now J.job plan.paced }
     requires depth { 0 < plan.depth }
-    ensures all { IfOk result (λ run. length run.tallies.items ≡ job.now.shape.workers) }
-    ensures tallies { IfOk result (λ run. (w : ℕ) (t : Told) → slice_get run.tallies.items w ≡ Some t
-        → IsTallyOf (table_of Q.facts job.now) job.now w t) }
+    ensures tallies { IfOk result (λ run. AreTalliesOf (table_of Q.facts job.now) job.now run.tallies.items) }
     ensures states { IfOk result (λ run. AreAllStates (table_of Q.facts job.now) job.now (map (λ own. own.items) run.states.items)) }
     ensures leaves { let q = table_of Q.facts J.job in
         RunLeaves q J.job S.written S.faults S.frame result sink.old sink.new }
@@ -80,9 +75,7 @@ fn states_told_by<Q: Query, J: Naming>(
 ) -> Result<EndedStates<Q::Cell>, AllocError>
     requires job { IsRunOf job.now J.job }
     requires finished { AreFinished (outline_of (table_of Q.facts J.job) J.job) workers.items }
-    ensures all { IfOk result (λ run. length run.tallies.items ≡ J.job.shape.workers) }
-    ensures tallies { IfOk result (λ run. (w : ℕ) (t : Told) → slice_get run.tallies.items w ≡ Some t
-        → IsTallyOf (table_of Q.facts J.job) J.job w t) }
+    ensures tallies { IfOk result (λ run. AreTalliesOf (table_of Q.facts J.job) J.job run.tallies.items) }
     ensures states { IfOk result (λ run. AreAllStates (table_of Q.facts J.job) J.job (map (λ own. own.items) run.states.items)) }
 {
     let tallies = tallies_of(alloc, job, workers.as_slice())?;

@@ -3,14 +3,14 @@ ghost use Rattle.std.specs.Prelude.{◌≡◌, ◌<◌, [], ℕ, All, IfOk, Some
 ghost use Rattle.mp_job.specs.Runs.{IsRunOf};
 ghost use Rattle.mp_model.specs.Tables.{table_of};
 ghost use Rattle.mp_outline.specs.JobOutline.{outline_of};
-ghost use Rattle.mp_output.specs.Rows.{GivesRows};
 ghost use Rattle.mp_tally.specs.declared.tally.Tally.{Tally as Told};
-ghost use Rattle.mp_tally.specs.Tallies.{IsTallyOf};
+ghost use Rattle.mp_tally.specs.Tallies.{AreTalliesOf, IsTallyOf};
 ghost use Rattle.mp_threads_member.specs.Driving.{IsFinished};
 ghost use Rattle.mp_journal_laws.specs.Telling.{KeptTellFullLog};
 ghost use Rattle.mp_threads.specs.Crews.{AreFinished};
 ghost use Rattle.mp_threads.specs.Journals.{TellFullLogs};
 ghost use Rattle.mp_answer_laws.specs.Runs.{RunLeaves};
+ghost use Rattle.mp_worker.specs.Plans.{MayRun};
 
 use crate::{Crew, run_workers};
 use mp_board::Cause;
@@ -52,13 +52,9 @@ pub fn run_with_tallies<
     gate: &G,
     sink: &mut S,
 ) -> Result<Ended, Cause>
-    requires job { IsRunOf job.now J.job }
-    requires pace { J.job.paced ≡ plan.paced }
-    requires rows { GivesRows (table_of Q.facts J.job) }
+    requires run { MayRun (table_of Q.facts J.job) job.now J.job plan.paced }
     requires depth { 0 < plan.depth }
-    ensures all { IfOk result (λ run. length run.tallies.items ≡ job.now.shape.workers) }
-    ensures tallies { IfOk result (λ run. (w : ℕ) (t : Told) → slice_get run.tallies.items w ≡ Some t
-        → IsTallyOf (table_of Q.facts job.now) job.now w t) }
+    ensures tallies { IfOk result (λ run. AreTalliesOf (table_of Q.facts job.now) job.now run.tallies.items) }
     ensures kept { plan.keeps ≡ true → IfOk result (λ run.
         TellFullLogs (outline_of (table_of Q.facts J.job) J.job) (map (λ v. v.items) run.kept.items)) }
     ensures none_kept { plan.keeps ≡ false → IfOk result (λ run. run.kept.items ≡ []) }
@@ -85,9 +81,7 @@ fn told_by<Q: Query, J: Naming>(
     requires job { IsRunOf job.now J.job }
     requires finished { AreFinished (outline_of (table_of Q.facts J.job) J.job) workers.items }
     requires keeps { All (λ s. is_some s.steps ≡ keeps) workers.items }
-    ensures all { IfOk result (λ run. length run.tallies.items ≡ J.job.shape.workers) }
-    ensures tallies { IfOk result (λ run. (w : ℕ) (t : Told) → slice_get run.tallies.items w ≡ Some t
-        → IsTallyOf (table_of Q.facts J.job) J.job w t) }
+    ensures tallies { IfOk result (λ run. AreTalliesOf (table_of Q.facts J.job) J.job run.tallies.items) }
     ensures kept { keeps ≡ true → IfOk result (λ run.
         TellFullLogs (outline_of (table_of Q.facts J.job) J.job) (map (λ v. v.items) run.kept.items)) }
     ensures none_kept { keeps ≡ false → IfOk result (λ run. run.kept.items ≡ []) }
