@@ -39,3 +39,9 @@ returns-clause-times g c =
 pub returns-clause-posts : goal.returns-clause-posts
 returns-clause-posts g c =
     c.in_ok-post_times.ensures ∙ ap length (ascending-same _ _ (same_before _ _ (opening_times c.args.source.now.opening) c.in_ok-posts.ensures.posts))
+
+pub gather-requires-clause-legal : goal.gather-requires-clause-legal
+gather-requires-clause-legal g c κs within = c.requires.legal
+
+pub returns-clause-events : goal.returns-clause-events
+returns-clause-events g c = c.in_ok-posts.ensures.events

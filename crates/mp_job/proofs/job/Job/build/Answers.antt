@@ -1,12 +1,14 @@
 use Rattle.std.proofs.Common.{◌≡◌, ◌++◌, ◌∙◌, List, ℕ, ap, arith, drop, length, subst, sym, take}
+use Rattle.std.specs.Prelude.{All}
 use Rattle.std.specs.List.{flat_map}
 use Rattle.mp_model.specs.declared.record.Event.{Event}
 use Rattle.mp_model.specs.Ascending.{ascending}
 use Rattle.mp_model.specs.Folds.{times_in}
+use Rattle.mp_model.specs.Legal.{EventsAreLegal}
 use Rattle.mp_model.specs.Stages.{input_records}
 use Rattle.mp_names.specs.declared.controls.Control.{Control}
 use Rattle.mp_names.specs.declared.controls.First.{First}
-use Rattle.mp_opening.specs.Below.{Layout}
+use Rattle.mp_opening.specs.Below.{FirstFits, Layout}
 use Rattle.mp_shares.specs.Records.{shares_of}
 use Rattle.mp_shares.specs.Times.{control_times, post_times_of, times_of}
 use Rattle.mp_shares.proofs.Sharing.{written_back}
@@ -65,3 +67,29 @@ invariant_of-result g c =
     subst (λ (l : Layout). HoldsParts q (job_in values_of all controls l.shape l.firsts stop saved) gathered.shares.items gathered.times.items gathered.post_times opening) (sym layout)
     (subst (λ (es : List Event). HoldsParts q (job_in values_of es controls shape firsts stop saved) gathered.shares.items gathered.times.items gathered.post_times opening) (sym all_events)
     (record { legal = legal; opens = opens; shares_are = shares_are; times_are = times_are; posts_are = posts_are }))
+
+pub new-requires-clause-firsts : goal.new-requires-clause-firsts
+new-requires-clause-firsts g c = subst (λ (fs : List First). All (FirstFits c.args.shape) fs) (sym c.as_slice.ensures.value) c.requires.firsts.each
+
+pub gather_all-requires-clause-legal : goal.gather_all-requires-clause-legal
+gather_all-requires-clause-legal g c κs within = subst (λ (es : List Event). EventsAreLegal es) (sym c.deref_mut.ensures.value) c.requires.events
+
+pub gather_all-requires-clause-some_worker : goal.gather_all-requires-clause-some_worker
+gather_all-requires-clause-some_worker g c κs within = c.requires.shape.some_worker
+
+pub returns : goal.returns
+returns g c =
+    let values_of = g.Q.Query.values c.args.source.query in
+    let stop = c.args.source.stop in
+    let saved = saved_of g.Q.Query.text_of c.args.source.opening in
+    let events = c.args.inputs.events.items in
+    let controls = c.args.inputs.controls.items in
+    let shape = c.args.shape in
+    let firsts = c.args.inputs.firsts.items in
+    let stay : c.gather_all.new.events ≡ events = c.in_ok-gathered.ensures.events ∙ c.deref_mut.ensures.value in
+    let all = take c.args.inputs.events.len (c.gather_all.new.events ++ drop (length c.gather_all.new.events) events) in
+    let all_events : all ≡ events =
+    written_back c.gather_all.new.events events c.args.inputs.events.len (omega (arith, c.args.inputs.events.ok.0)) (ap length stay) ∙ stay
+    in
+    let layout : c.in_ok-owners.owners ≡ record { shape = shape; firsts = firsts } = c.in_ok-owners.ensures ∙ ap (λ (fs : List First). record { shape = shape; firsts = fs }) c.as_slice.ensures.value in
+    ap (λ (l : Layout). job_in values_of all controls l.shape l.firsts stop saved) layout ∙ ap (λ (es : List Event). job_in values_of es controls shape firsts stop saved) all_events

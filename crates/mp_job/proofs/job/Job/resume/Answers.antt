@@ -1,10 +1,11 @@
-use Rattle.std.proofs.Common.{◌≡◌, ◌&&◌, ◌∙◌, List, All, None, Some, ap, nat_le, subst, sym, true}
+use Rattle.std.proofs.Common.{◌≡◌, ◌≤◌, ◌&&◌, ◌∙◌, List, All, None, Some, ap, arith, length, nat_le, refl, subst, sym, true}
 use Rattle.std.proofs.lemmas.Result.{IfOk-weaker}
 use Rattle.mp_names.specs.declared.controls.Control.{Control}
+use Rattle.mp_names.specs.Limits.{most_bytes}
 use Rattle.mp_opening.specs.Checkpoints.{CheckpointOf, saved_in}
 use Rattle.mp_opening.specs.Openings.{OpeningOf}
 use Rattle.mp_job.specs.Legal.{ControlsFit}
-use Rattle.mp_job.specs.Parts.{job_in}
+use Rattle.mp_job.specs.Parts.{OpeningFits, job_in}
 use Rattle.mp_job.proofs.Before.{later, later_are, later_fit}
 use Rattle.mp_job.proofs.job.Job.resume.Goals as goal
 
@@ -37,3 +38,8 @@ returns g c =
     ∙ ap (λ (cs : List Control). job_in values events cs c.args.shape firsts None (Some (saved_in text opening.from))) kept
     ∙ ap (λ (o : OpeningOf g.row.Q-Cell.Denot). job_in values events (later c.args.from.time controls) c.args.shape firsts None (Some (saved_in text o.from))) c.in_ok-new.ensures)
     c.build.ensures
+
+pub build-requires-clause-opening : goal.build-requires-clause-opening
+build-requires-clause-opening g c κs within =
+    let few : length c.args.from.wakes ≤ most_bytes = omega (arith, c.if-len-gt-MOST_WAKES.false, c.len.ensures, ap (λ (v : CheckpointOf g.row.Q-Cell.Denot). length v.wakes) c.from.view_is) in
+    subst (λ (o : OpeningOf g.row.Q-Cell.Denot). OpeningFits (g.Q.Query.facts (g.Q.Query.values c.args.query)) c.args.shape.bins (Some o)) (sym c.in_ok-new.ensures) (c.requires.saved, refl, few)
