@@ -4,6 +4,7 @@ pub mod Answers
 pub mod Ascending
 pub mod Entry
 pub mod Facts
+pub mod Fields
 pub mod Folds
 pub mod Legal
 pub mod Plain

@@ -15,7 +15,7 @@ mod rules;
 mod text;
 mod value;
 
-pub use fields::{Field, Fields};
+pub use fields::{Field, FieldList, Fields};
 pub use group::Group;
 pub use laws::tables_keep_laws;
 pub use mp_names::{Control, First, Name, Shape, Tag, Time};

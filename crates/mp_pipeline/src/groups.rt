@@ -3,7 +3,7 @@ ghost use Rattle.std.specs.Prelude.{◌≡◌, IfOk};
 ghost use Rattle.mp_pipeline.specs.Groups.{added_by, after_group, at_start, fresh_by, given_by, grown, most_by, row, rows_of_records, said_total, total_rows, with_records};
 
 use crate::{Form, StageLine};
-use mp_model::{Field, Fields, Group, Rec, Value};
+use mp_model::{Fields, Group, Rec, Value};
 use std::alloc::{AllocError, Global};
 
 impl StageLine {
@@ -101,7 +101,7 @@ impl StageLine {
     {
         let mut rows = Vec::new(alloc);
         for rec in recs {
-            rows.push(row(alloc, key, self.value_of(rec))?)?;
+            rows.push(row(key, self.value_of(rec)))?;
         }
         Ok(rows)
     }
@@ -114,12 +114,11 @@ fn grown(number: u64, more: u64) -> u64
     number.saturating_add(more)
 }
 
-// The row of a key with this value. `AllocError`: no memory.
-fn row(alloc: Global, key: u64, value: u64) -> Result<Value, AllocError>
-    ensures { IfOk result (λ v. v ≡ row key value) }
+// The row of a key with this value.
+fn row(key: u64, value: u64) -> Value
+    ensures { result ≡ row key value }
 {
-    let fields = [Field::Number(key), Field::Number(value)];
-    Ok(Value::Row(Fields::of(alloc, fields)?))
+    Value::Row(Fields::two(key, value))
 }
 
 // The row of a key with this total, if there is one. `AllocError`: no memory.
@@ -128,7 +127,7 @@ fn one_row(alloc: Global, key: u64, total: Option<u64>) -> Result<Vec<Value>, Al
 {
     let mut rows = Vec::new(alloc);
     if let Some(total) = total {
-        rows.push(row(alloc, key, total)?)?;
+        rows.push(row(key, total))?;
     }
     Ok(rows)
 }

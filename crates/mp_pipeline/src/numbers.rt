@@ -2,7 +2,7 @@
 ghost use Rattle.std.specs.Prelude.{◌≡◌, get_or, map};
 ghost use Rattle.mp_pipeline.specs.Records.{number_in, number_of_field};
 
-use mp_model::{Field, Time, Value};
+use mp_model::{Field, FieldList, Fields, Time, Value};
 
 /// The number in a field of a record of this time, 0 where it has no such field. Fields are numbered from 0, the time.
 pub fn number_in(time: Time, value: &Value, field: u64) -> u64
@@ -26,7 +26,7 @@ pub fn number_in(time: Time, value: &Value, field: u64) -> u64
             if field == 0 {
                 time
             } else {
-                row_number(fields.as_slice(), field - 1)
+                row_number(fields, field - 1)
             }
         }
         _ => number_at(&[time], field),
@@ -44,11 +44,14 @@ fn number_at(numbers: &[u64], place: u64) -> u64
 }
 
 // The number of the field at a place of a row, 0 where it is none.
-fn row_number(fields: &[Field], place: u64) -> u64
+fn row_number(fields: &Fields, place: u64) -> u64
     ensures { result ≡ get_or (map number_of_field fields.now) place 0 }
 {
-    match fields.get(place as usize) {
-        Some(Field::Number(number)) => *number,
-        _ => 0,
+    match fields.list() {
+        FieldList::Numbers(numbers) => number_at(numbers, place),
+        FieldList::Mixed(fields) => match fields.get(place as usize) {
+            Some(Field::Number(number)) => *number,
+            _ => 0,
+        },
     }
 }

@@ -4,7 +4,7 @@ ghost use Rattle.std.specs.Prelude.{◌≡◌, IfOk};
 ghost use Rattle.mp_q_auction.specs.Closed.{key_of, posts_of, row_of, sale_by};
 
 use crate::{Bidding, Sales};
-use mp_model::{Field, Fields, Group, PostList, Query, Rec, RuleList, Time, Value};
+use mp_model::{Fields, Group, PostList, Query, Rec, RuleList, Time, Value};
 use mp_saved::{Saved, ValueList, read_numbers};
 use std::alloc::{AllocError, Global};
 
@@ -91,7 +91,7 @@ where
             Ok(outputs)
         } else {
             let sales = self.sales.after(alloc, &cell.sales, group.recs())?;
-            let outputs = row(alloc, group, self.sales.average(&sales))?
+            let outputs = row(group, self.sales.average(&sales))
                 .into_iter()
                 .collect(alloc)?;
             cell.sales = sales;
@@ -229,13 +229,12 @@ fn sale<S: Sales>(bidding: &Bidding, group: &Group) -> Option<Value>
     }
 }
 
-/// The row of a group that has records: its key, and this average. `AllocError`: no memory.
-fn row(alloc: Global, group: &Group, average: u64) -> Result<Option<Value>, AllocError>
-    ensures { IfOk result (λ row. row ≡ row_of group.now average) }
+/// The row of a group that has records: its key, and this average.
+fn row(group: &Group, average: u64) -> Option<Value>
+    ensures { result ≡ row_of group.now average }
 {
     if group.recs().is_empty() {
-        return Ok(None);
+        return None;
     }
-    let fields = [Field::Number(group.key()), Field::Number(average)];
-    Ok(Some(Value::Row(Fields::of(alloc, fields)?)))
+    Some(Value::Row(Fields::two(group.key(), average)))
 }

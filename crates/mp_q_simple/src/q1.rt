@@ -4,7 +4,7 @@ ghost use Rattle.mp_model.specs.Rules.{given_values};
 ghost use Rattle.mp_q_simple.specs.Q1.{q1_rules};
 
 use crate::{Bids, RowOf};
-use mp_model::{Field, Fields, Query, Rule, RuleList, Value};
+use mp_model::{Fields, Query, Rule, RuleList, Value};
 use mp_saved::ValueList;
 use std::alloc::{AllocError, Global};
 
@@ -72,12 +72,8 @@ impl RowOf for InEuros {
                 price,
             } => {
                 let euros = (*price as u128 * self.num as u128 / self.den as u128) as u64;
-                let fields = [
-                    Field::Number(*auction),
-                    Field::Number(*bidder),
-                    Field::Number(euros),
-                ];
-                Ok(Some(Value::Row(Fields::of(alloc, fields)?)))
+                let fields = Fields::three(alloc, *auction, *bidder, euros)?;
+                Ok(Some(Value::Row(fields)))
             }
             _ => Ok(None),
         }

@@ -4,7 +4,7 @@ ghost use Rattle.mp_model.specs.Rules.{given_values};
 ghost use Rattle.mp_q_simple.specs.Q2.{q2_rules};
 
 use crate::{Bids, RowOf};
-use mp_model::{Field, Fields, Query, Rule, RuleList, Value};
+use mp_model::{Fields, Query, Rule, RuleList, Value};
 use mp_saved::ValueList;
 use std::alloc::{AllocError, Global};
 
@@ -54,11 +54,10 @@ impl RowOf for OnMultiples {
 
     ghost rows = { λ vs. rows_with vs };
 
-    fn row_of(&self, alloc: Global, value: &Value) -> Result<Option<Value>, AllocError> {
+    fn row_of(&self, _alloc: Global, value: &Value) -> Result<Option<Value>, AllocError> {
         match value {
             Value::Bid { auction, price, .. } if *auction % self.modulus == 0 => {
-                let fields = [Field::Number(*auction), Field::Number(*price)];
-                Ok(Some(Value::Row(Fields::of(alloc, fields)?)))
+                Ok(Some(Value::Row(Fields::two(*auction, *price))))
             }
             _ => Ok(None),
         }

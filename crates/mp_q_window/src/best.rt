@@ -3,7 +3,7 @@ ghost use Rattle.std.specs.Prelude.{◌≡◌, ◌↔◌, ◌++◌, IfOk, IsTrue
 ghost use Rattle.mp_saved.specs.Numbers.{numbers_in, numbers_text};
 ghost use Rattle.mp_q_window.specs.Best.{after_group, after_value, at_start, better_of, is_legal, numbers_of, offer_of, offer_said, row_of};
 
-use mp_model::{Field, Fields, Group, Value};
+use mp_model::{Fields, Group, Value};
 use mp_names::limits::{MAX_ID, MAX_PRICE};
 use mp_saved::{put_numbers, read_numbers};
 use std::alloc::{AllocError, Global};
@@ -98,12 +98,8 @@ impl Best {
     {
         match self.best {
             Some(offer) if group.is_woken() => {
-                let fields = [
-                    Field::Number(offer.auction),
-                    Field::Number(offer.bidder),
-                    Field::Number(offer.price),
-                ];
-                Ok(Some(Value::Row(Fields::of(alloc, fields)?)))
+                let fields = Fields::three(alloc, offer.auction, offer.bidder, offer.price)?;
+                Ok(Some(Value::Row(fields)))
             }
             _ => Ok(None),
         }

@@ -2,7 +2,7 @@
 ghost use Rattle.std.specs.Prelude.{◌≡◌, IfOk};
 ghost use Rattle.mp_q_window.specs.Counts.{greatest_of, row_at, rows_of};
 
-use mp_model::{Field, Fields, Rec, Value};
+use mp_model::{Fields, Rec, Value};
 use std::alloc::{AllocError, Global};
 
 /// The rows of the records with the greatest count, in order. `AllocError`: no memory.
@@ -12,7 +12,7 @@ pub fn rows(alloc: Global, recs: &[Rec]) -> Result<Vec<Value>, AllocError>
     let greatest = greatest(recs);
     let mut rows = Vec::new(alloc);
     for rec in recs {
-        if let Some(row) = row(alloc, greatest, &rec.value)? {
+        if let Some(row) = row(greatest, &rec.value) {
             rows.push(row)?;
         }
     }
@@ -32,15 +32,14 @@ fn greatest(recs: &[Rec]) -> u64
     greatest
 }
 
-/// The row of an auction with this count. `AllocError`: no memory.
-fn row(alloc: Global, greatest: u64, value: &Value) -> Result<Option<Value>, AllocError>
-    ensures { IfOk result (λ row. row ≡ row_at greatest value.now) }
+/// The row of an auction with this count.
+fn row(greatest: u64, value: &Value) -> Option<Value>
+    ensures { result ≡ row_at greatest value.now }
 {
     match value {
         Value::Count { auction, count } if *count == greatest => {
-            let fields = [Field::Number(*auction), Field::Number(*count)];
-            Ok(Some(Value::Row(Fields::of(alloc, fields)?)))
+            Some(Value::Row(Fields::two(*auction, *count)))
         }
-        _ => Ok(None),
+        _ => None,
     }
 }

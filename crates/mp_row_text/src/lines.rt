@@ -1,9 +1,10 @@
 //! Rows as lines.
-ghost use Rattle.std.specs.Prelude.{◌≡◌, ◌++◌, ◌∷◌, OnOk};
+ghost use Rattle.std.specs.Prelude.{◌≡◌, ◌++◌, ◌∷◌, OnOk, map};
 ghost use Rattle.std.specs.List.{flat_map};
+ghost use Rattle.mp_model.specs.declared.fields.Field.TheVariants.{Number};
 ghost use Rattle.mp_model.specs.Answers.{fields_in, line_of, text_of};
 
-use mp_model::{Field, Place, Value};
+use mp_model::{Field, FieldList, Place, Value};
 use mp_text::put_number;
 use std::alloc::AllocError;
 
@@ -13,23 +14,37 @@ pub fn put_line(out: &mut Vec<u8>, place: &Place, value: &Value) -> Result<(), A
     ensures { OnOk result (out.new.items ≡ out.old.items ++ line_of (place.now, value.now)) }
 {
     put_number(out, place.time)?;
-    put_fields(out, fields_in(value))?;
+    put_fields(out, value)?;
     out.push(b'\n')?;
     Ok(())
 }
 
-/// The fields of a row; no other value has any.
-fn fields_in(value: &Value) -> &[Field]
-    ensures { result.now ≡ fields_in value.now }
+/// Appends the fields of a row, each with a `|` before it; no other value has any.
+fn put_fields(out: &mut Vec<u8>, value: &Value) -> Result<(), AllocError>
+    ensures { OnOk result (out.new.items ≡ out.old.items ++ flat_map (λ f. 124 ∷ text_of f) (fields_in value.now)) }
 {
-    match value {
-        Value::Row(fields) => fields.as_slice(),
-        _ => &[],
+    let Value::Row(fields) = value else {
+        return Ok(());
+    };
+    match fields.list() {
+        FieldList::Numbers(numbers) => put_numbers(out, numbers),
+        FieldList::Mixed(fields) => put_mixed(out, fields),
     }
 }
 
-/// Appends the fields, each with a `|` before it.
-fn put_fields(out: &mut Vec<u8>, fields: &[Field]) -> Result<(), AllocError>
+/// Appends numbers as fields, each with a `|` before it.
+fn put_numbers(out: &mut Vec<u8>, numbers: &[u64]) -> Result<(), AllocError>
+    ensures { OnOk result (out.new.items ≡ out.old.items ++ flat_map (λ f. 124 ∷ text_of f) (map Number numbers.now)) }
+{
+    for number in numbers {
+        out.push(b'|')?;
+        put_number(out, *number)?;
+    }
+    Ok(())
+}
+
+/// Appends fields, each with a `|` before it.
+fn put_mixed(out: &mut Vec<u8>, fields: &[Field]) -> Result<(), AllocError>
     ensures { OnOk result (out.new.items ≡ out.old.items ++ flat_map (λ f. 124 ∷ text_of f) fields.now) }
 {
     for field in fields {

@@ -2,7 +2,7 @@
 use Rattle.std.proofs.Common.{◌≡◌, ◌++◌, ◌∷◌, drop}
 use Rattle.std.specs.List.{flat_map}
 use Rattle.mp_model.specs.Answers.{text_of}
-use Rattle.mp_row_text.proofs.lines.put_fields.Given as goal
+use Rattle.mp_row_text.proofs.lines.put_mixed.Given as goal
 
 abbrev pub invariant-loop-field : goal.invariant-loop-field
 invariant-loop-field l =
