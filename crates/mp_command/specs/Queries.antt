@@ -15,8 +15,8 @@ use Rattle.mp_q_join.specs.Joining as joining
 use Rattle.mp_q_join.specs.Selling as selling
 use Rattle.mp_q_join.specs.Q3.{q3_facts, q3_rules}
 use Rattle.mp_q_join.specs.Q8.{q8_facts, q8_rules}
-use Rattle.mp_q_auction.specs.declared.closed.AuctionCell.{AuctionCell}
-use Rattle.mp_q_auction.specs.Closed as closed
+use Rattle.mp_auctions.specs.declared.closed.AuctionCell.{AuctionCell}
+use Rattle.mp_auctions.specs.Closed as closed
 use Rattle.mp_q_auction.specs.Q4.{PriceSum, price_numbers, q4_facts}
 use Rattle.mp_q_auction.specs.Q6.{q6_facts, q6_rules}
 use Rattle.mp_q_window.specs.declared.best.Offer.{Offer}

@@ -1,8 +1,4 @@
 -- What the contracts of this crate cite, and the proofs of the laws.
-pub mod Bidding
-pub mod Closed
 pub mod Laws
 pub mod Q4
 pub mod Q6
-pub mod SaleLaws
-pub mod Sales

@@ -4,16 +4,11 @@
 //! each seller.
 #![tactic(auto)]
 
-mod bidding;
-mod closed;
-mod laws;
 mod q4;
 mod q6;
-mod sales;
 
-pub use bidding::{Bidding, Lot};
-pub use closed::{AuctionCell, Closed};
-pub use laws::{auctions_sell_once, sales_have_keys};
+pub use mp_auctions::{
+    AuctionCell, Bidding, Closed, Lot, Sales, auctions_sell_once, sales_have_keys,
+};
 pub use q4::{AllPrices, Prices, Q4};
 pub use q6::{LastPrices, Latest, Q6};
-pub use sales::Sales;

@@ -1,5 +1,5 @@
 use Rattle.std.proofs.Common.{◌≡◌, ◌≤◌, ◌+◌, ◌-◌, ◌*◌, ◌^◌, drop, length, sum}
-use Rattle.mp_q_auction.specs.Sales.{prices_of}
+use Rattle.mp_auctions.specs.Sales.{prices_of}
 use Rattle.mp_q_auction.proofs.q4.AllPricesSales.after.Given as goal
 
 abbrev pub invariant-loop-rec : goal.invariant-loop-rec

@@ -5,10 +5,10 @@ use Rattle.mp_model.specs.Folds.{outputs_of}
 use Rattle.mp_model.specs.QueryLaws.{OutputsHaveKeys}
 use Rattle.mp_model.specs.Stages.{input_records, stage_records}
 use Rattle.mp_model.specs.Tables.{opening_wakes, table_of}
-use Rattle.mp_q_auction.specs.declared.bidding.Lot.{Lot}
-use Rattle.mp_q_auction.specs.declared.closed.AuctionCell.{AuctionCell}
-use Rattle.mp_q_auction.specs.Closed.{closed_by}
-use Rattle.mp_q_auction.specs.Sales.{SalesFacts}
+use Rattle.mp_auctions.specs.declared.bidding.Lot.{Lot}
+use Rattle.mp_auctions.specs.declared.closed.AuctionCell.{AuctionCell}
+use Rattle.mp_auctions.specs.Closed.{closed_by}
+use Rattle.mp_auctions.specs.Sales.{SalesFacts}
 
 module _ {Kept : Type 0} (of : Lot → ℕ) (sales : List ℕ → SalesFacts Kept) where
   -- each sale has a key in stage 1

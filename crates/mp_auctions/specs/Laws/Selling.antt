@@ -16,14 +16,14 @@ use Rattle.mp_model.specs.Facts.{JobFacts, QueryFacts}
 use Rattle.mp_model.specs.Folds.{outputs_along, outputs_at, outputs_of, stage_outputs, timeline}
 use Rattle.mp_model.specs.Stages.{input_records, record_of, record_of_output, stage_records}
 use Rattle.mp_model.proofs.Tables.{length-filter_map}
-use Rattle.mp_q_auction.specs.declared.bidding.Bidding.{Bidding}
-use Rattle.mp_q_auction.specs.declared.bidding.Lot.{Lot}
-use Rattle.mp_q_auction.specs.declared.closed.AuctionCell.{AuctionCell}
+use Rattle.mp_auctions.specs.declared.bidding.Bidding.{Bidding}
+use Rattle.mp_auctions.specs.declared.bidding.Lot.{Lot}
+use Rattle.mp_auctions.specs.declared.closed.AuctionCell.{AuctionCell}
 use Rattle.mp_saved.proofs.Along.{TimesRise, timeline_rises}
-use Rattle.mp_q_auction.specs.Laws.Along.{few_outputs}
-use Rattle.mp_q_auction.specs.Bidding.{after_records, after_value, is_closed, sold_at, sold_in}
-use Rattle.mp_q_auction.specs.SaleLaws.{closed_in}
-use Rattle.mp_q_auction.specs.Sales.{SalesFacts}
+use Rattle.mp_auctions.specs.Laws.Along.{few_outputs}
+use Rattle.mp_auctions.specs.Bidding.{after_records, after_value, is_closed, sold_at, sold_in}
+use Rattle.mp_auctions.specs.SaleLaws.{closed_in}
+use Rattle.mp_auctions.specs.Sales.{SalesFacts}
 
 -- a lot that is kept stays
 value_stays : (t : ℕ) (b : Bidding) (lot : Lot) (v : Value) → b.lot ≡ Some lot → (after_value t b v).lot ≡ Some lot

@@ -1,34 +1,47 @@
 //! A query on closed auctions: stage 0 sells each lot when its auction closes, stage 1 says the average price of the
 //! sales.
 ghost use Rattle.std.specs.Prelude.{◌≡◌, IfOk};
-ghost use Rattle.mp_q_auction.specs.Closed.{key_of, posts_of, row_of, sale_by};
+ghost use Rattle.mp_model.specs.Rules.{given_values};
+ghost use Rattle.mp_auctions.specs.Closed.{key_of, posts_of, row_of, sale_by};
 
 use crate::{Bidding, Sales};
 use mp_model::{Fields, Group, PostList, Query, Rec, RuleList, Time, Value};
 use mp_saved::{Saved, ValueList, read_numbers};
 use std::alloc::{AllocError, Global};
 
-/// The query that makes `S` of the sales. It is public only as the type of `Q4` and `Q6`.
+/// The query that makes `S` of the sales.
 #[derive(Drop, Debug)]
 pub struct Closed<S> {
-    pub(crate) sales: S,
+    sales: S,
 }
 
-/// The cell of q4 and q6: in stage 0 the bidding of an auction, in stage 1 what is kept of the sales to a category or to
-/// a seller. The other part stays as it was at first. It is public only as their `Cell`.
+/// The cell of such a query: in stage 0 the bidding of an auction, in stage 1 what is kept of the sales to a category or
+/// to a seller. The other part stays as it was at first. It is public only as the query's `Cell`.
 #[derive(Drop, Debug)]
 pub struct AuctionCell<K> {
     bidding: Bidding,
     sales: K,
 }
 
+impl<S: Sales + Sync> Closed<S>
+where
+    S::Kept: Send + Sync,
+{
+    /// The query whose rules have their given values.
+    pub fn given() -> Closed<S>
+        ensures { ⟦<Closed<S> as Query>⟧.values result ≡ given_values (⟦<Closed<S> as Query>⟧.rules result) }
+    {
+        Closed { sales: S::given() }
+    }
+}
+
 impl<S: Sales + Sync> Query for Closed<S>
 where
     S::Kept: Send + Sync,
 {
-    ghost use Rattle.mp_q_auction.specs.Closed.{closed_by, text_of};
-    ghost use Rattle.mp_q_auction.specs.Laws.{begins_fresh, has_stages, posts_are_later, later_stages_post_nothing, most_is_enough, fresh_stays_fresh};
-    ghost use Rattle.mp_q_auction.specs.Laws.Texts.{texts_tell_cells};
+    ghost use Rattle.mp_auctions.specs.Closed.{closed_by, text_of};
+    ghost use Rattle.mp_auctions.specs.Laws.{begins_fresh, has_stages, posts_are_later, later_stages_post_nothing, most_is_enough, fresh_stays_fresh};
+    ghost use Rattle.mp_auctions.specs.Laws.Texts.{texts_tell_cells};
 
     type Cell = AuctionCell<S::Kept>;
 
@@ -132,8 +145,8 @@ impl<S: Sales + Sync> Saved for Closed<S>
 where
     S::Kept: Send + Sync,
 {
-    ghost use Rattle.mp_q_auction.specs.Laws.Leaving.{leaves_what_may_be_saved};
-    ghost use Rattle.mp_q_auction.specs.Laws.Texts.{texts_are_plain};
+    ghost use Rattle.mp_auctions.specs.Laws.Leaving.{leaves_what_may_be_saved};
+    ghost use Rattle.mp_auctions.specs.Laws.Texts.{texts_are_plain};
 
     const NUMBER: u32 = S::NUMBER;
 

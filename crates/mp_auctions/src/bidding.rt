@@ -1,7 +1,7 @@
 //! What is kept of an auction until it closes.
 ghost use Rattle.std.specs.Prelude.{◌≡◌, ◌↔◌, ◌++◌, IsTrue, OnOk};
 ghost use Rattle.mp_saved.specs.Numbers.{numbers_text};
-ghost use Rattle.mp_q_auction.specs.Bidding.{after_records, after_value, best_said, bid_numbers, bids_are_legal, bids_said, has_none, is_closed, lot_is_legal, lot_said, no_bids, sold_in};
+ghost use Rattle.mp_auctions.specs.Bidding.{after_records, after_value, best_said, bid_numbers, bids_are_legal, bids_said, has_none, is_closed, lot_is_legal, lot_said, no_bids, sold_in};
 
 use mp_model::{Group, Rec, Time, Value};
 use mp_names::limits::{MAX_ID, MAX_PRICE, MAX_TIME};
@@ -9,7 +9,7 @@ use mp_saved::put_numbers;
 use std::alloc::AllocError;
 
 /// What the first auction record of an id says. Its numbers have the limits of an auction event, of this project's
-/// profile. It is public only as a part of the `Cell` of q4 and q6.
+/// profile. It is public only as a part of the `Cell` of a query on closed auctions.
 #[derive(Clone, Copy, Debug)]
 pub struct Lot {
     /// The seller's id, at most 2^48.
@@ -23,7 +23,7 @@ pub struct Lot {
 }
 
 /// What is kept of an auction: its lot, and the best price of the bids that count. It is public only as a part of the
-/// `Cell` of q4 and q6.
+/// `Cell` of a query on closed auctions.
 #[derive(Clone, Copy, Debug)]
 pub struct Bidding {
     lot: Option<Lot>,

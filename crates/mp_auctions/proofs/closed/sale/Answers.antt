@@ -1,7 +1,7 @@
 use Rattle.std.proofs.Common.{◌∙◌, Some, ap, sym}
 use Rattle.std.specs.Option.{option_map}
 use Rattle.mp_model.specs.declared.value.Value.TheVariants.{Sale}
-use Rattle.mp_q_auction.proofs.closed.sale.Goals as goal
+use Rattle.mp_auctions.proofs.closed.sale.Goals as goal
 
 pub returns-in-Some : goal.returns-in-Some
 returns-in-Some g c =

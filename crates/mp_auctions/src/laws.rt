@@ -1,5 +1,5 @@
 //! What holds of the sales of closed auctions, each law the contract of a function that does nothing.
-ghost use Rattle.mp_q_auction.specs.SaleLaws.{AuctionsSellOnce, SalesAreFew, SalesHaveKeys};
+ghost use Rattle.mp_auctions.specs.SaleLaws.{AuctionsSellOnce, SalesAreFew, SalesHaveKeys};
 
 use crate::Sales;
 

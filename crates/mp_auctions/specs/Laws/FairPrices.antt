@@ -18,15 +18,15 @@ use Rattle.mp_model.specs.QueryLaws.{RecordIsLegal, SavedFits}
 use Rattle.mp_model.specs.Stages.{record_of_output, stage_records}
 use Rattle.mp_model.proofs.LegalRecords.{input_records_legal}
 use Rattle.mp_model.proofs.Lists.{All-filter_map}
-use Rattle.mp_q_auction.specs.declared.bidding.Bidding.{Bidding}
-use Rattle.mp_q_auction.specs.declared.bidding.Lot.{Lot}
-use Rattle.mp_q_auction.specs.declared.closed.AuctionCell.{AuctionCell}
-use Rattle.mp_q_auction.specs.Laws.Texts.{best_is_fair}
-use Rattle.mp_q_auction.specs.Laws.Along.{opening_keeps, outputs_keep}
-use Rattle.mp_q_auction.specs.Bidding.{after_records, after_value, bids_are_legal, is_closed, sold_at, sold_in}
-use Rattle.mp_q_auction.specs.Closed.{closed_by, sale_by}
-use Rattle.mp_q_auction.specs.SaleLaws.{closed_in}
-use Rattle.mp_q_auction.specs.Sales.{SalesFacts, price_of}
+use Rattle.mp_auctions.specs.declared.bidding.Bidding.{Bidding}
+use Rattle.mp_auctions.specs.declared.bidding.Lot.{Lot}
+use Rattle.mp_auctions.specs.declared.closed.AuctionCell.{AuctionCell}
+use Rattle.mp_auctions.specs.Laws.Texts.{best_is_fair}
+use Rattle.mp_auctions.specs.Laws.Along.{opening_keeps, outputs_keep}
+use Rattle.mp_auctions.specs.Bidding.{after_records, after_value, bids_are_legal, is_closed, sold_at, sold_in}
+use Rattle.mp_auctions.specs.Closed.{closed_by, sale_by}
+use Rattle.mp_auctions.specs.SaleLaws.{closed_in}
+use Rattle.mp_auctions.specs.Sales.{SalesFacts, price_of}
 
 -- a price is within its limit, if it is there
 abbrev pub IsFair : Option ℕ → Type 0

@@ -2,9 +2,9 @@ use Rattle.std.proofs.Common.{◌≡◌, ◌∙◌, None, Some, ap, sym}
 use Rattle.std.specs.Option.{option_map}
 use Rattle.std.proofs.lemmas.Option.{none-some, same_Some}
 use Rattle.mp_saved.specs.Numbers.{numbers_in}
-use Rattle.mp_q_auction.specs.Bidding.{bids_said}
-use Rattle.mp_q_auction.specs.Laws.Texts.{read_first, read_later, read_some}
-use Rattle.mp_q_auction.proofs.closed.ClosedSaved.read_cell.Goals as goal
+use Rattle.mp_auctions.specs.Bidding.{bids_said}
+use Rattle.mp_auctions.specs.Laws.Texts.{read_first, read_later, read_some}
+use Rattle.mp_auctions.proofs.closed.ClosedSaved.read_cell.Goals as goal
 
 -- no numbers are read
 pub returns-in_default : goal.returns-in_default
