@@ -1,5 +1,5 @@
 -- What is told of logs at the end of a job.
-use Rattle.std.proofs.Common.{◌≡◌, ◌∙◌, ◌++◌, ◌∷◌, ℕ, ◌<◌, List, [], Some, arith, get_or, length, sym, subst}
+use Rattle.std.proofs.Common.{◌≡◌, ◌∙◌, ◌++◌, ◌∷◌, ℕ, ◌<◌, List, [], Some, arith, ap, get_or, length, sym, subst}
 use Rattle.std.specs.Prelude.{slice_get}
 use Rattle.std.proofs.lemmas.Option.{get_or_from_slice_get, slice_get_within}
 use Rattle.mp_names.specs.Logs.{LogIsLegal}
@@ -8,15 +8,20 @@ use Rattle.mp_machine.specs.Promises.{LogIsFull}
 use Rattle.mp_machine.specs.Runs.{run_of_machine}
 use Rattle.mp_machine.proofs.Full.{full_at_end, full_where_known}
 use Rattle.mp_machine.proofs.Worlds.{run_right}
+use Rattle.mp_job.specs.Runs.{IsRunOf}
+use Rattle.mp_job.proofs.Runs.{run_shape}
 use Rattle.mp_model.specs.Facts.{JobFacts, QueryFacts}
+use Rattle.mp_model.specs.Tables.{table_of}
 use Rattle.mp_outline.specs.JobOutline.{outline_of}
 use Rattle.mp_tally.specs.declared.tally.Tally.{Tally}
-use Rattle.mp_tally.specs.Tallies.{IsTallyOf, TellsLog}
+use Rattle.mp_tally.specs.Tallies.{AreTalliesOf, IsTallyOf, TellsLog}
 use Rattle.mp_tally.proofs.Lists.{push_all, some_at}
 use Rattle.mp_tally.proofs.Told.{full_is_tallied}
 use Rattle.mp_worker_refinement.specs.State.{WorkerState}
 use Rattle.mp_worker_refinement.specs.SystemState.{KnowsTheEnd, SystemState}
 use Rattle.mp_drive.specs.Driven.{AllAreFull, AllKnowTheEnd, AreComplete, AreReached}
+use Rattle.mp_drive.specs.Told.{TellLogs}
+use Rattle.mp_worker.proofs.Paced.{tally_of_job}
 use Rattle.mp_drive.proofs.Ended.{finished}
 
 module _ (o : Outline) (ok : OutlineIsSound o) (t : SystemState) where
@@ -65,9 +70,15 @@ module _ {Cell : Type 0} (q : QueryFacts Cell) (job : JobFacts) where
         full_is_tallied q job ok w some.0.log u (subst (LogIsLegal o w) (sym is.log) ((run_right o ok t.post.depth reached.0).logs w here)) (full w some.0 some.1) (tell w some.0 u some.1 at)
 
     -- at the end all tallies are the job's
-    pub tallied_at_the_end : (t : SystemState) → AreReached (outline_of q job) t → AllKnowTheEnd (outline_of q job) t → (tallies : List Tally) → AllTell t.workers tallies → length tallies ≡ job.shape.workers → (w : ℕ) (u : Tally) → slice_get tallies w ≡ Some u → IsTallyOf q job w u
-    tallied_at_the_end t reached all tallies tell many w u at = tallied_where_full t reached (full_where_all_know (outline_of q job) ok t reached all) tallies tell many w u at
+    pub tallied_at_the_end : (t : SystemState) → AreReached (outline_of q job) t → AllKnowTheEnd (outline_of q job) t → (tallies : List Tally) → TellLogs q job t.workers tallies → AreTalliesOf q job tallies
+    tallied_at_the_end t reached know tallies tell =
+        record { all = tell.all; each = λ w u at. tallied_where_full t reached (full_where_all_know (outline_of q job) ok t reached know) tallies tell.each tell.all w u at }
 
     -- and so they are where all is over
-    pub tallied_where_complete : (t : SystemState) → AreComplete (outline_of q job) t → (tallies : List Tally) → AllTell t.workers tallies → length tallies ≡ job.shape.workers → (w : ℕ) (u : Tally) → slice_get tallies w ≡ Some u → IsTallyOf q job w u
-    tallied_where_complete t over tallies tell many w u at = tallied_where_full t (over.0, over.1) (full_where_complete (outline_of q job) ok t over) tallies tell many w u at
+    pub tallied_where_complete : (t : SystemState) → AreComplete (outline_of q job) t → (tallies : List Tally) → TellLogs q job t.workers tallies → AreTalliesOf q job tallies
+    tallied_where_complete t over tallies tell =
+        record { all = tell.all; each = λ w u at. tallied_where_full t (over.0, over.1) (full_where_complete (outline_of q job) ok t over) tallies tell.each tell.all w u at }
+
+-- tallies of a run are the job's, paced or not
+pub tallies_of_job : {Cell : Type 0} (facts : List ℕ → QueryFacts Cell) (its job : JobFacts) → IsRunOf its job → (tallies : List Tally) → AreTalliesOf (table_of facts job) job tallies → AreTalliesOf (table_of facts its) its tallies
+tallies_of_job facts its job run tallies are = record { all = are.all ∙ sym (ap (λ s. s.workers) (run_shape its job run)); each = λ w t at. tally_of_job facts its job run w t (are.each w t at) }

@@ -3,7 +3,7 @@ use Rattle.std.proofs.Common.{◌≡◌, ⊎_elim, ℕ, ◌<◌, Bool, true, fal
 use Rattle.std.specs.Bool.{MatchBool}
 use Rattle.std.specs.List.{AllWithin, HoldsAt}
 use Rattle.std.specs.Option.{option_map_or}
-use Rattle.std.specs.Prelude.{◌≢◌, ◌↔◌, IsTrue, OnErr, OnOk, Option, Err, slice_get}
+use Rattle.std.specs.Prelude.{◌↔◌, IsTrue, Option, slice_get}
 use Rattle.std.specs.declared.result.Result.{Result}
 use Rattle.std.proofs.lemmas.Bool.{false≢true}
 use Rattle.std.proofs.lemmas.Iterator.Search.{true_from_All}
@@ -15,8 +15,7 @@ use Rattle.mp_names.specs.Logs.{Log, empty_log}
 use Rattle.mp_names.specs.Frontiers.{HasEnded}
 use Rattle.mp_names.specs.Names.{In}
 use Rattle.mp_names.specs.Outlines.{Outline, OutlineIsSound}
-use Rattle.mp_outside.specs.Fault.{Rose}
-use Rattle.mp_outside.specs.Sink.{Beside, OnlyAppends, grown}
+use Rattle.mp_outside.specs.Sink.{Beside, grown}
 use Rattle.mp_outside.proofs.SinkLemmas.{grown-nothing}
 use Rattle.mp_machine.specs.Promises.{LogIsFull}
 use Rattle.mp_machine.specs.Runs.{WorkerIsFinished, run_of_machine}
@@ -29,11 +28,11 @@ use Rattle.mp_outline.specs.JobOutline.{outline_of}
 use Rattle.mp_worker_refinement.specs.State.{WorkerState}
 use Rattle.mp_worker_refinement.specs.SystemState.{IsWorkerOf, KnowsTheEnd, SystemState}
 use Rattle.mp_board.specs.declared.causes.Cause.{Cause}
-use Rattle.mp_board.specs.declared.causes.Cause.TheVariants as stop
-use Rattle.mp_answer_laws.specs.Lines.{HasBegun, written_lines}
+use Rattle.mp_answer_laws.specs.Lines.{HasBegun}
 use Rattle.mp_answer_laws.specs.Runs.{RunLeaves}
 use Rattle.mp_answer_laws.proofs.Written.{full_logs_answer, written_lines_begin}
-use Rattle.mp_drive.specs.Driven.{AllKnowTheEnd, AreReached, HasKept, HasWritten, first_log}
+use Rattle.mp_drive.specs.Driven.{AllKnowTheEnd, AreReached, HasKept, HasWritten, first_log, lines_of}
+use Rattle.mp_drive.specs.Driving.{DriveLeaves}
 use Rattle.mp_drive.proofs.Written.{first_legal, some_first}
 
 -- a worker that knows the end is finished as the machine has it
@@ -64,7 +63,7 @@ module _ {Cell : Type 0} (q : QueryFacts Cell) (job : JobFacts) (ok : OutlineIsS
   o = outline_of q job
 
   -- all that is written is a beginning of the answer
-  pub lines_begin : (k : ℕ) × (written_lines q job.events (first_log t) ≡ take k (one_thread_answer q job.events))
+  pub lines_begin : (k : ℕ) × (lines_of q job.events t ≡ take k (one_thread_answer q job.events))
   lines_begin = written_lines_begin q job (first_log t) (first_legal o ok t t.post.depth reached.0 reached.1)
 
   -- and so it is in a sink
@@ -87,14 +86,12 @@ module _ {Cell : Type 0} (q : QueryFacts Cell) (job : JobFacts) (ok : OutlineIsS
       let full = full_where_known o ok depth world (run_right o ok depth reached.0) 0 l (finished o world 0 first.0 is know) in
       subst (LogIsFull o 0) (sym (ap (λ (r : Option WorkerState). option_map_or (λ s. s.log) r empty_log) first.1 ∙ is.log)) full
 
-  pub all_written : AllKnowTheEnd o t → written_lines q job.events (first_log t) ≡ one_thread_answer q job.events
+  pub all_written : AllKnowTheEnd o t → lines_of q job.events t ≡ one_thread_answer q job.events
   all_written all = full_logs_answer q job (first_log t) (first_full all)
 
 -- where nothing was written before it, a schedule leaves what a whole run leaves
-pub seed_leaves : {Cell S V : Type 0} (q : QueryFacts Cell) (job : JobFacts) (written : S → Option (List ℕ)) (faults : S → ℕ) (frame : S → Beside) (t : SystemState) (had has : S) (r : Result V Cause) → written_lines q job.events (first_log t) ≡ []
-    → ((before : Option (List ℕ)) → HasWritten q job.events before t (written had) → OnOk r (written has ≡ grown before (one_thread_answer q job.events)))
-    → ((before : Option (List ℕ)) → HasWritten q job.events before t (written had) → OnErr r (HasBegun q job.events before (written has)))
-    → (r ≡ Err stop.Write → Rose (faults had) (faults has)) → (r ≢ Err stop.Write → faults has ≡ faults had) → OnlyAppends frame faults had has → RunLeaves q job written faults frame r had has
-seed_leaves q job written faults frame t had has r nothing answer part failed no_fault appends =
+pub seed_leaves : {Cell S V : Type 0} (q : QueryFacts Cell) (job : JobFacts) (written : S → Option (List ℕ)) (faults : S → ℕ) (frame : S → Beside) (t : SystemState) (had has : S) (r : Result V Cause) → lines_of q job.events t ≡ []
+    → DriveLeaves q job written faults frame r (one_thread_answer q job.events) t had has → RunLeaves q job written faults frame r had has
+seed_leaves q job written faults frame t had has r nothing leaves =
     let none = sym (grown-nothing (written had)) ∙ ap (grown (written had)) (sym nothing) in
-    record { whole = answer (written had) none; part = part (written had) none; failed = failed; no_fault = no_fault; appends = appends }
+    record { whole = leaves.whole (written had) none; part = leaves.part (written had) none; failed = leaves.failed; no_fault = leaves.no_fault; appends = leaves.appends }

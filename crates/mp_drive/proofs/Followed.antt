@@ -1,6 +1,6 @@
 -- A schedule that is followed, step by step, and how many steps it has.
 use Rattle.std.proofs.Common.{◌≡◌, ℕ, ◌+◌, ◌*◌, All, ◌<◌, ◌≤◌, Bool, List, [], ◌∷◌, ◌++◌, Option, Some, Ok, Err, length, map, refl, sym, ◌∙◌, ap, subst, arith, length-append}
-use Rattle.std.specs.Prelude.{IfOk, IsTrue, OnOk, unwrap_or}
+use Rattle.std.specs.Prelude.{IfOk, IsTrue, unwrap_or}
 use Rattle.std.specs.declared.result.Result.{Result}
 use Rattle.std.proofs.lemmas.List.{append-nil, length-map}
 use Rattle.std.proofs.lemmas.Option.{get_or_from_slice_get, slice_get_within}
@@ -17,9 +17,9 @@ use Rattle.mp_worker_refinement.specs.SystemState.{KnowsTheEnd, Refines, SystemS
 use Rattle.mp_worker.specs.Keeping.{no_steps}
 use Rattle.mp_board.specs.declared.causes.Cause.{Cause}
 use Rattle.mp_draws.specs.Draws.{draw_of}
-use Rattle.mp_drive.specs.Driven.{AllKnowTheEnd, AreAfter, AreReached, LeadsOn}
+use Rattle.mp_drive.specs.Driven.{AllKnowTheEnd, AreAfter, AreReached, Driven, LeadsOn}
 use Rattle.mp_drive.specs.Journals.{journal_at, with_more}
-use Rattle.mp_drive.specs.Schedule.{AreFinished, AreScheduled, EndsAfter, FollowsSchedule, IsKeptBySchedule, MakesPick, pick}
+use Rattle.mp_drive.specs.Schedule.{AreFinished, AreScheduled, EndsAfter, FollowsSchedule, FollowsToEnd, IsKeptBySchedule, MakesPick, pick}
 use Rattle.mp_tally.proofs.Lists.{some_at}
 use Rattle.mp_drive.proofs.Ended.{finished}
 use Rattle.mp_drive.proofs.Journaled.{at_mapped, journals_begin, steps_at}
@@ -48,22 +48,22 @@ module _ (o : Outline) (seed : ℕ) where
     made = refl;
   }
 
-  pub leads_by_one_more : (n : ℕ) (old mid new : SystemState) → LeadsBy o seed n old mid → (AllKnowTheEnd o mid → ⊥) → MakesPick o (draw_of seed n) mid new → LeadsBy o seed (n + 1) old new
+  pub leads_by_one_more : (n : ℕ) (old : SystemState) (mid new : Driven) → LeadsBy o seed n old mid.state → (AllKnowTheEnd o mid.state → ⊥) → MakesPick o (draw_of seed n) mid new → LeadsBy o seed (n + 1) old new.state
   leads_by_one_more n old mid new by unfinished makes = record {
     steps = by.steps ++ makes.step ∷ [];
     turns = by.turns ++ makes.turn ∷ [];
     scheduled = λ before are.
         let d = old.post.depth in
-        let there : AreAfter o (before ++ by.steps) mid = by.lead.state_is before are in
-        let level : mid.post.depth ≡ d = by.lead.depth in
+        let there : AreAfter o (before ++ by.steps) mid.state = by.lead.state_is before are in
+        let level : mid.state.post.depth ≡ d = by.lead.depth in
         let same : run_of_machine o d (before ++ by.steps) ≡ world_after o d (run_of_machine o d before) by.steps = sym (run_more o d before by.steps) in
         one_more_scheduled o d seed (run_of_machine o d before) by.steps makes.step (by.scheduled before are)
         (subst (λ (w : World). AreFinished o w → ⊥) same
-        (subst (λ (k : ℕ). AreFinished o (run_of_machine o k (before ++ by.steps)) → ⊥) level (λ f. unfinished (know_where_finished o mid (before ++ by.steps) there f))))
+        (subst (λ (k : ℕ). AreFinished o (run_of_machine o k (before ++ by.steps)) → ⊥) level (λ f. unfinished (know_where_finished o mid.state (before ++ by.steps) there f))))
         (subst (λ (k : ℕ). pick o d (world_after o d (run_of_machine o d before) by.steps) (draw_of seed k) ≡ Some makes.step) (sym by.count)
         (subst (λ (w : World). pick o d w (draw_of seed n) ≡ Some makes.step) same
         (subst (λ (k : ℕ). pick o k (run_of_machine o k (before ++ by.steps)) (draw_of seed n) ≡ Some makes.step) level (makes.picked (before ++ by.steps) there))));
-    lead = leads_further o by.steps (makes.step ∷ []) by.turns (makes.turn ∷ []) old mid new by.lead makes.lead;
+    lead = leads_further o by.steps (makes.step ∷ []) by.turns (makes.turn ∷ []) old mid.state new.state by.lead makes.lead;
     count = let e = length-append by.steps (makes.step ∷ []) in let k = by.count in omega arith;
     made =
         let m = made_more by.turns (makes.turn ∷ []) in
@@ -118,19 +118,19 @@ are_finished o depth t world are all w l =
     finished o world w s.0 (are.workers w s.0 s.1) (subst (KnowsTheEnd o) (get_or_from_slice_get t.workers w s.0 s.0 s.1) (all w s.0 inside))
 
 -- a schedule that is followed from the start to the end
-pub ends_after : (o : Outline) (depth seed : ℕ) (old new : SystemState) (r : Result ℕ Cause) → Refines o depth old (start_of_machine o) → old.post.depth ≡ depth
-    → IfOk r (λ n. FollowsSchedule o seed n old new) → OnOk r (AllKnowTheEnd o new) → IfOk r (λ n. EndsAfter o depth seed n)
-ends_after o depth seed old new (Ok n) start level f known =
-    let begun : AreAfter o [] old = subst (λ (d : ℕ). Refines o d old (start_of_machine o)) (sym level) start in
-    let there : AreAfter o f.steps new = f.lead.state_is [] begun in
+pub ends_after : (o : Outline) (depth seed : ℕ) (old new : Driven) (r : Result ℕ Cause) → Refines o depth old.state (start_of_machine o) → old.state.post.depth ≡ depth → IfOk r (λ n. FollowsToEnd o seed n old new) → IfOk r (λ n. EndsAfter o depth seed n)
+ends_after o depth seed old new (Ok n) start level ends =
+    let f = ends.follows in
+    let begun : AreAfter o [] old.state = subst (λ (d : ℕ). Refines o d old.state (start_of_machine o)) (sym level) start in
+    let there : AreAfter o f.steps new.state = f.lead.state_is [] begun in
     record {
       steps = f.steps;
       scheduled = subst (λ (d : ℕ). AreScheduled o d seed (start_of_machine o) f.steps) level (f.scheduled [] begun);
       count = f.count;
-      finished = subst (λ (d : ℕ). AreFinished o (run_of_machine o d f.steps)) (f.lead.depth ∙ level) (are_finished o new.post.depth new (run_of_machine o new.post.depth f.steps) there known);
+      finished = subst (λ (d : ℕ). AreFinished o (run_of_machine o d f.steps)) (f.lead.depth ∙ level) (are_finished o new.state.post.depth new.state (run_of_machine o new.state.post.depth f.steps) there ends.finished);
       few = f.few;
     }
-ends_after o depth seed old new (Err why) start level f known = tt
+ends_after o depth seed old new (Err why) start level ends = tt
 
 -- what the workers have kept then, where each kept its steps from the start on
 pub kept_by_schedule : (o : Outline) (depth seed n : ℕ) (old new : SystemState) → Refines o depth old (start_of_machine o) → old.post.depth ≡ depth → FollowsSchedule o seed n old new → AllKnowTheEnd o new

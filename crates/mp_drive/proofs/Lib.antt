@@ -2,9 +2,11 @@ pub mod Appended
 pub mod Ended
 pub mod Followed
 pub mod Glanced
+pub mod Idling
 pub mod Journaled
 pub mod Keeping
 pub mod Leading
+pub mod Leaving
 pub mod Listed
 pub mod Made
 pub mod Numbered

@@ -1,5 +1,5 @@
 -- What a worker says of its step, by its answer.
-use Rattle.std.proofs.Common.{◌≡◌, ◌⊎◌, ℕ, Some, None, Ok, Err, List, Option, refl, ap, inl, inr, ⊎_elim}
+use Rattle.std.proofs.Common.{◌≡◌, ◌⊎◌, ℕ, Some, None, Ok, Err, List, Option, refl, ap, subst, inl, inr, ⊎_elim}
 use Rattle.std.specs.Prelude.{OnErr}
 use Rattle.std.specs.declared.result.Result.{Result}
 use Rattle.mp_names.specs.declared.kinds.Kind.{Kind}
@@ -10,6 +10,7 @@ use Rattle.mp_stamps.specs.declared.seen.Seen.{Seen}
 use Rattle.mp_mailbox.specs.Queues.{HadRoom, Queues, WasEmpty, WasFull}
 use Rattle.mp_board.specs.Boards.{Posted, ShowsFrontiers, exchanged}
 use Rattle.mp_model.specs.Facts.{JobFacts, QueryFacts}
+use Rattle.mp_outside.specs.Fault.{Rose}
 use Rattle.mp_outside.specs.Sink.{grown}
 use Rattle.mp_answer_laws.specs.Lines.{lines_of_time}
 use Rattle.mp_msg.specs.declared.names.Names.{Names}
@@ -123,6 +124,10 @@ module _ (o : Outline) (kind : Kind) (board after : Posted) (post left : Queues 
   unchanged_of (Err stop.Memory) a = a
   unchanged_of (Err (stop.Other cause)) a = a.1
 
+  -- only a write fails so
+  pub failed_kind : (r : Result Answered Stop) → r ≡ Err stop.Write → Answer r → kind ≡ Write
+  failed_kind r e a = (subst Answer e a).0
+
   board_kept : (r : Result Answered Stop) → Answer r → AtBoard r → ((kind ≡ Exchange → ⊥) → after ≡ board) → OnErr r (after ≡ board)
   board_kept (Ok turn) a at others = tt
   board_kept (Err stop.Write) a at others = others (λ e. exchange_no_write kind e a.0)
@@ -197,3 +202,7 @@ module _ {Cell S : Type 0} (q : QueryFacts Cell) (job : JobFacts) (written : S �
   -- only a write that failed counts a fault
   pub no_fault_of : (r : Result Answered Stop) → (r ≡ Err stop.Write → ⊥) → InTurn r → ((kind ≡ Write → ⊥) → new ≡ old) → faults new ≡ faults old
   no_fault_of r not_failed w others = ⊎_elim (λ (e : kind ≡ Write). silent r not_failed (w e)) (λ (n : kind ≡ Write → ⊥). ap faults (others n)) (is_write kind)
+
+  -- a write that failed counts one, or the count stands at its last value
+  pub fault_of : (r : Result Answered Stop) → r ≡ Err stop.Write → kind ≡ Write → InTurn r → Rose (faults old) (faults new)
+  fault_of r e is w = (subst (WritesInTurn q job written faults s old new) e (w is)).1

@@ -83,9 +83,13 @@ abbrev pub first_log : SystemState → Log
 first_log t = option_map_or (λ s. s.log) (slice_get t.workers 0) empty_log
 
 module _ {Cell : Type 0} (q : QueryFacts Cell) (events : List Event) where
-  -- on top of what was there before, the lines stand that worker 0 has written
+  -- the lines that worker 0 has written
+  abbrev pub lines_of : SystemState → List ℕ
+  lines_of t = written_lines q events (first_log t)
+
+  -- on top of what was there before, those lines stand
   abbrev pub HasWritten : Option (List ℕ) → SystemState → Option (List ℕ) → Type 0
-  HasWritten before t now = now ≡ grown before (written_lines q events (first_log t))
+  HasWritten before t now = now ≡ grown before (lines_of t)
 
   -- what stands in a sink after a step of this kind was refused: the lines that worker 0 has written; only a write may have begun the next ones
   abbrev pub HasKept : Kind → Option (List ℕ) → SystemState → Option (List ℕ) → Type 0

@@ -44,6 +44,12 @@ module _ {Cell : Type 0} (q : QueryFacts Cell) (job : JobFacts) where
     pub lines : (before : Option (List ℕ)) → HasWritten q job.events before old had
         → HasWritten q job.events before new has ⊎ (IsWriteTried (outline_of q job) draw made old × HasBegun q job.events before has)
 
+  -- A step of a draw was refused, and none is made
+  pub record RefusesPick (draw : ℕ) (why : Cause) (old new : Driven) (had has : Option (List ℕ)) : Type 0 where
+    pub still : LeadsOn (outline_of q job) [] [] old.state new.state
+    pub counted : new.made ≡ old.made
+    pub refused : RefusesDraw draw why [] old.state new.state had has
+
   -- A seed's schedule was followed up to a draw of which a step was refused. The steps before it are kept and counted
   pub record KeepsSchedule (seed : ℕ) (why : Cause) (old new : Driven) (had has : Option (List ℕ)) : Type 0 where
     pub n : ℕ

@@ -9,7 +9,7 @@ use Rattle.mp_machine.specs.Worlds.{World, start_of_machine}
 use Rattle.mp_journal_laws.specs.Kept.{kept_of}
 use Rattle.mp_worker_refinement.specs.SystemState.{SystemState}
 use Rattle.mp_draws.specs.Draws.{draw_of}
-use Rattle.mp_drive.specs.Driven.{AreAfter, LeadsOn, Steps}
+use Rattle.mp_drive.specs.Driven.{AllAreFull, AllKnowTheEnd, AreAfter, Driven, LeadsOn, Steps}
 
 -- the places in their order, from the one that has the draw's number, modulo their count, wrapping round
 abbrev pub places_from : Outline → ℕ → Steps
@@ -38,13 +38,14 @@ AreScheduled o depth seed world steps =
     (n : ℕ) (step : ℕ × Kind) → slice_get steps n ≡ Some step
     → (AreFinished o (world_after o depth world (take n steps)) → ⊥) × (pick o depth (world_after o depth world (take n steps)) (draw_of seed n) ≡ Some step)
 
--- A draw picks a step, and it is made
-pub record MakesPick (o : Outline) (draw : ℕ) (old new : SystemState) : Type 0 where
+-- A draw picks a step, which is made and counted
+pub record MakesPick (o : Outline) (draw : ℕ) (old new : Driven) : Type 0 where
   pub step : ℕ × Kind
   pub turn : Turn
-  pub picked : (before : Steps) → AreAfter o before old → pick o old.post.depth (run_of_machine o old.post.depth before) draw ≡ Some step
-  pub lead : LeadsOn o (step ∷ []) (turn ∷ []) old new
+  pub picked : (before : Steps) → AreAfter o before old.state → pick o old.state.post.depth (run_of_machine o old.state.post.depth before) draw ≡ Some step
+  pub lead : LeadsOn o (step ∷ []) (turn ∷ []) old.state new.state
   pub made : is_made turn ≡ true
+  pub counted : new.made ≡ old.made + 1
 
 -- The first n steps of a seed's schedule lead on; each is made, and there are no more than the machine can make in all
 pub record FollowsSchedule (o : Outline) (seed n : ℕ) (old new : SystemState) : Type 0 where
@@ -55,6 +56,13 @@ pub record FollowsSchedule (o : Outline) (seed n : ℕ) (old new : SystemState) 
   pub count : length steps ≡ n
   pub made : made_count turns ≡ n
   pub few : n ≤ (o.workers + 2) * name_count o
+
+-- The first n steps of a seed's schedule lead on and are counted, and after them each worker knows that all is over and has done all that it has to do
+pub record FollowsToEnd (o : Outline) (seed n : ℕ) (old new : Driven) : Type 0 where
+  pub follows : FollowsSchedule o seed n old.state new.state
+  pub counted : new.made ≡ old.made + n
+  pub finished : AllKnowTheEnd o new.state
+  pub full : AllAreFull o new.state
 
 -- A seed's schedule from the start, with mailboxes of this depth, has n steps, and after them each worker knows that all is over
 pub record EndsAfter (o : Outline) (depth seed n : ℕ) : Type 0 where

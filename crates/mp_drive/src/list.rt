@@ -1,15 +1,10 @@
 //! Driving by a list of steps.
-ghost use Rattle.std.specs.Prelude.{◌≡◌, ◌≢◌, ◌≤◌, ◌+◌, ℕ, All, Err, IfErr, IfOk, List, OnErr, OnOk, Option, map};
-ghost use Rattle.mp_outside.specs.Fault.{Rose};
-ghost use Rattle.mp_outside.specs.Sink.{OnlyAppends};
-ghost use Rattle.mp_outline.specs.JobOutline.{outline_of};
-ghost use Rattle.mp_machine.specs.Runs.{made_count};
-ghost use Rattle.mp_worker.specs.declared.turn.Turn.TheVariants.{Busy};
-ghost use Rattle.mp_board.specs.declared.causes.Cause.TheVariants.{Write};
-ghost use Rattle.mp_answer_laws.specs.Lines.{HasBegun};
-ghost use Rattle.mp_drive.specs.Driven.{HasWritten, LeadsOn, turn_in};
-ghost use Rattle.mp_drive.specs.Refused.{KeepsSteps};
+ghost use Rattle.std.specs.Prelude.{IfErr, IfOk};
 ghost use Rattle.mp_model.specs.Tables.{table_of};
+ghost use Rattle.mp_outline.specs.JobOutline.{outline_of};
+ghost use Rattle.mp_drive.specs.Driven.{lines_of};
+ghost use Rattle.mp_drive.specs.Driving.{DriveLeaves, MakesSteps};
+ghost use Rattle.mp_drive.specs.Refused.{KeepsSteps};
 
 use crate::Plain;
 use mp_board::Cause;
@@ -30,23 +25,13 @@ impl<'a, Q: Query, J: Naming> Plain<'a, Q, J> {
         steps: &[(u32, Kind)],
         sink: &mut S,
     ) -> Result<Vec<Turn>, Cause>
-        ensures turns { let o = outline_of (table_of Q.facts J.job) J.job in
-            IfOk result (λ turns. LeadsOn o steps.now (map turn_in turns.items) self.old.state self.new.state) }
-        ensures counted { IfOk result (λ turns.
-            self.new.made ≡ self.old.made + made_count (map turn_in turns.items)) }
-        ensures not_busy { IfOk result (λ turns. All (λ turn. turn ≢ Busy) turns.items) }
+        ensures makes { let o = outline_of (table_of Q.facts J.job) J.job in
+            IfOk result (λ turns. MakesSteps o steps.now turns.items self.old self.new) }
         ensures kept { IfErr result (λ why. KeepsSteps (table_of Q.facts J.job) J.job steps.now why
             self.old self.new (S.written sink.old) (S.written sink.new)) }
-
-        ensures written { let q = table_of Q.facts J.job in
-            (before : Option (List ℕ)) → HasWritten q J.job.events before self.old.state (S.written sink.old)
-            → OnOk result (HasWritten q J.job.events before self.new.state (S.written sink.new)) }
-        ensures part { let q = table_of Q.facts J.job in
-            (before : Option (List ℕ)) → HasWritten q J.job.events before self.old.state (S.written sink.old)
-            → OnErr result (HasBegun q J.job.events before (S.written sink.new)) }
-        ensures failed { result ≡ Err Write → Rose (S.faults sink.old) (S.faults sink.new) }
-        ensures no_fault { result ≢ Err Write → S.faults sink.new ≡ S.faults sink.old }
-        ensures appends_only { OnlyAppends S.frame S.faults sink.old sink.new }
+        ensures leaves { let q = table_of Q.facts J.job in
+            DriveLeaves q J.job S.written S.faults S.frame
+            result (lines_of q J.job.events self.new.state) self.old.state sink.old sink.new }
     {
         // From here on the invariant is known: what is written so far is a beginning of the answer.
         let _ = &self.job;

@@ -1,27 +1,15 @@
 //! The workers of a job on one thread.
-ghost use Rattle.std.specs.Prelude.{◌≡◌, ◌≢◌, ◌≤◌, ◌↔◌, ◌∷◌, ◌+◌, ◌*◌, [], ℕ, All, Err, IfOk, IsTrue, List, OnErr, OnOk};
-ghost use Rattle.std.specs.Prelude.{None, Option, Some, false, length, map, replicate, slice_get, take, true, unwrap_or};
-ghost use Rattle.mp_names.specs.declared.kinds.Kind.TheVariants.{Write};
-ghost use Rattle.mp_names.specs.Logs.{empty_log};
+ghost use Rattle.std.specs.Prelude.{◌≡◌, ◌≤◌, ◌↔◌, ◌+◌, ◌*◌, [], ℕ, IfOk, IsTrue, false, map, take, true, unwrap_or};
 ghost use Rattle.mp_names.specs.Outlines.{name_count};
-ghost use Rattle.mp_outside.specs.Fault.{Rose};
-ghost use Rattle.mp_outside.specs.Sink.{OnlyAppends};
-ghost use Rattle.mp_job.specs.Runs.{IsRunOf};
 ghost use Rattle.mp_model.specs.Answers.{one_thread_answer};
 ghost use Rattle.mp_model.specs.Tables.{table_of};
 ghost use Rattle.mp_outline.specs.JobOutline.{outline_of};
-ghost use Rattle.mp_machine.specs.Worlds.{start_of_machine};
-ghost use Rattle.mp_output.specs.Rows.{GivesRows};
 ghost use Rattle.mp_board.specs.Boards.{ShowsFrontiers};
 ghost use Rattle.mp_msg.specs.LastStates.{AreAllStates};
-ghost use Rattle.mp_worker_refinement.specs.Laws.{IsNewWorker};
-ghost use Rattle.mp_worker_refinement.specs.State.{WorkerState};
-ghost use Rattle.mp_worker_refinement.specs.SystemState.{Refines};
-ghost use Rattle.mp_answer_laws.specs.Lines.{written_lines};
-ghost use Rattle.mp_worker.specs.declared.turn.Turn.TheVariants.{Busy};
-ghost use Rattle.mp_worker.specs.Keeping.{no_steps};
-ghost use Rattle.mp_board.specs.declared.causes.Cause.TheVariants as cause;
-ghost use Rattle.mp_drive.specs.Driven.{AllKnowTheEnd, HasKept, HasWritten, LeadsOn, first_log, made_by, turn_in};
+ghost use Rattle.mp_worker.specs.Plans.{MayRun};
+ghost use Rattle.mp_drive.specs.Driven.{AllKnowTheEnd, lines_of, made_by};
+ghost use Rattle.mp_drive.specs.Driving.{MakesStep, StepLeaves};
+ghost use Rattle.mp_drive.specs.Opened.{AreOpened};
 
 use crate::journals::lists_of;
 use mp_board::{Board, Cause, OutlineOf};
@@ -78,16 +66,8 @@ impl<'a, Q: Query, J: Naming> Plain<'a, Q, J> {
     /// Workers that have done nothing and keep no steps, with mailboxes that take `depth` messages each. The query's last
     /// stage gives rows alone. `AllocError`: no memory.
     pub fn open(alloc: Global, job: &'a Job<Q>, depth: u32) -> Result<Plain<'a, Q, J>, AllocError>
-        requires job { IsRunOf job.now J.job }
-        requires pace { J.job.paced ≡ false }
-        requires rows { GivesRows (table_of Q.facts J.job) }
-        ensures start { let o = outline_of (table_of Q.facts J.job) J.job in
-            IfOk result (λ p. Refines o depth p.state (start_of_machine o)) }
-        ensures depth { IfOk result (λ p. p.state.post.depth ≡ depth) }
-        ensures made { IfOk result (λ p. p.made ≡ 0) }
-        ensures nothing_written { let q = table_of Q.facts J.job in
-            IfOk result (λ p. written_lines q J.job.events (first_log p.state) ≡ []) }
-        ensures nothing_kept { IfOk result (λ p. All (λ (s : WorkerState). s.steps ≡ None) p.state.workers) }
+        requires run { MayRun (table_of Q.facts J.job) job.now J.job false }
+        ensures opened { IfOk result (λ p. AreOpened (table_of Q.facts J.job) J.job depth false p) }
     {
         let keeps = false;
         let paced = false;
@@ -108,16 +88,8 @@ impl<'a, Q: Query, J: Naming> Plain<'a, Q, J> {
         job: &'a Job<Q>,
         depth: u32,
     ) -> Result<Plain<'a, Q, J>, AllocError>
-        requires job { IsRunOf job.now J.job }
-        requires pace { J.job.paced ≡ true }
-        requires rows { GivesRows (table_of Q.facts J.job) }
-        ensures start { let o = outline_of (table_of Q.facts J.job) J.job in
-            IfOk result (λ p. Refines o depth p.state (start_of_machine o)) }
-        ensures depth { IfOk result (λ p. p.state.post.depth ≡ depth) }
-        ensures made { IfOk result (λ p. p.made ≡ 0) }
-        ensures nothing_written { let q = table_of Q.facts J.job in
-            IfOk result (λ p. written_lines q J.job.events (first_log p.state) ≡ []) }
-        ensures nothing_kept { IfOk result (λ p. All (λ (s : WorkerState). s.steps ≡ None) p.state.workers) }
+        requires run { MayRun (table_of Q.facts J.job) job.now J.job true }
+        ensures opened { IfOk result (λ p. AreOpened (table_of Q.facts J.job) J.job depth false p) }
     {
         let keeps = false;
         let paced = true;
@@ -138,16 +110,8 @@ impl<'a, Q: Query, J: Naming> Plain<'a, Q, J> {
         job: &'a Job<Q>,
         plan: RunPlan,
     ) -> Result<Plain<'a, Q, J>, AllocError>
-        requires job { IsRunOf job.now J.job }
-        requires pace { J.job.paced ≡ plan.paced }
-        requires rows { GivesRows (table_of Q.facts J.job) }
-        ensures start { let o = outline_of (table_of Q.facts J.job) J.job in
-            IfOk result (λ p. Refines o plan.depth p.state (start_of_machine o)) }
-        ensures depth { IfOk result (λ p. p.state.post.depth ≡ plan.depth) }
-        ensures made { IfOk result (λ p. p.made ≡ 0) }
-        ensures nothing_written { let q = table_of Q.facts J.job in
-            IfOk result (λ p. written_lines q J.job.events (first_log p.state) ≡ []) }
-        ensures keeps { IfOk result (λ p. All (λ (s : WorkerState). s.steps ≡ no_steps plan.keeps) p.state.workers) }
+        requires run { MayRun (table_of Q.facts J.job) job.now J.job plan.paced }
+        ensures opened { IfOk result (λ p. AreOpened (table_of Q.facts J.job) J.job plan.depth plan.keeps p) }
     {
         let board = Board::open(alloc, job)?;
         let workers = new_workers(alloc, job, board.seen(), plan)?;
@@ -186,23 +150,11 @@ impl<'a, Q: Query, J: Naming> Plain<'a, Q, J> {
     /// value, 2^64 - 1; any other answer leaves that count as it was. With either no step is made; where it
     /// is a write, a part of the lines of the next time, from their front, may be written.
     pub fn step<S: Sink>(&mut self, worker: u32, kind: Kind, sink: &mut S) -> Result<Turn, Cause>
-        ensures turn { let o = outline_of (table_of Q.facts J.job) J.job in
-            IfOk result (λ turn. LeadsOn o ((worker, kind) ∷ []) (turn_in turn ∷ []) self.old.state self.new.state) }
-        ensures counted { self.new.made ≡ self.old.made + made_by result }
-        ensures not_busy { IfOk result (λ turn. turn ≢ Busy) }
-        ensures unchanged { let o = outline_of (table_of Q.facts J.job) J.job in
-            OnErr result (LeadsOn o [] [] self.old.state self.new.state) }
-
-        ensures written { let q = table_of Q.facts J.job in
-            (before : Option (List ℕ)) → HasWritten q J.job.events before self.old.state (S.written sink.old)
-            → OnOk result (HasWritten q J.job.events before self.new.state (S.written sink.new)) }
-        ensures part { let q = table_of Q.facts J.job in
-            (before : Option (List ℕ)) → HasWritten q J.job.events before self.old.state (S.written sink.old)
-            → OnErr result (HasKept q J.job.events kind before self.new.state (S.written sink.new)) }
-        ensures failed { result ≡ Err cause.Write
-            → (kind ≡ Write) × Rose (S.faults sink.old) (S.faults sink.new) }
-        ensures no_fault { result ≢ Err cause.Write → S.faults sink.new ≡ S.faults sink.old }
-        ensures appends_only { OnlyAppends S.frame S.faults sink.old sink.new }
+        ensures makes { let o = outline_of (table_of Q.facts J.job) J.job in
+            MakesStep o worker kind result self.old self.new }
+        ensures leaves { let q = table_of Q.facts J.job in
+            StepLeaves q J.job S.written S.faults S.frame
+            kind result self.old.state self.new.state sink.old sink.new }
     {
         if worker as usize >= self.workers.len() {
             return Ok(Turn::NotNow);
@@ -225,12 +177,10 @@ impl<'a, Q: Query, J: Naming> Plain<'a, Q, J> {
     /// answer, and then all of it.
     pub fn is_finished(&self) -> bool
         ensures known { IsTrue result ↔ AllKnowTheEnd (outline_of (table_of Q.facts J.job) J.job) self.now.state }
-        ensures answer { let q = table_of Q.facts J.job in
-            IsTrue result
-            → written_lines q J.job.events (first_log self.now.state) ≡ one_thread_answer q J.job.events }
+        ensures answer { let q = table_of Q.facts J.job in IsTrue result
+            → lines_of q J.job.events self.now.state ≡ one_thread_answer q J.job.events }
         ensures begun { let q = table_of Q.facts J.job in
-            (k : ℕ) × (written_lines q J.job.events (first_log self.now.state)
-            ≡ take k (one_thread_answer q J.job.events)) }
+            (k : ℕ) × (lines_of q J.job.events self.now.state ≡ take k (one_thread_answer q J.job.events)) }
     {
         self.workers.iter().all(|worker| worker.is_finished())
     }

@@ -1,15 +1,12 @@
 //! Driving by the seeded schedule.
-ghost use Rattle.std.specs.Prelude.{◌≡◌, ◌≢◌, ◌<◌, ◌≤◌, ◌+◌, ℕ, [], Err, IfErr, IfOk, List, OnErr, OnOk, Option};
-ghost use Rattle.mp_outside.specs.Fault.{Rose};
-ghost use Rattle.mp_outside.specs.Sink.{OnlyAppends, grown};
+ghost use Rattle.std.specs.Prelude.{◌<◌, IfErr, IfOk, OnOk};
 ghost use Rattle.mp_model.specs.Answers.{one_thread_answer};
 ghost use Rattle.mp_model.specs.Tables.{table_of};
 ghost use Rattle.mp_outline.specs.JobOutline.{outline_of};
-ghost use Rattle.mp_board.specs.declared.causes.Cause.TheVariants.{Write};
-ghost use Rattle.mp_answer_laws.specs.Lines.{HasBegun};
-ghost use Rattle.mp_drive.specs.Driven.{AllAreFull, AllKnowTheEnd, HasWritten, LeadsOn};
-ghost use Rattle.mp_drive.specs.Refused.{KeepsSchedule, RefusesDraw};
-ghost use Rattle.mp_drive.specs.Schedule.{FollowsSchedule, MakesPick};
+ghost use Rattle.mp_drive.specs.Driven.{AllKnowTheEnd, lines_of};
+ghost use Rattle.mp_drive.specs.Driving.{DriveLeaves};
+ghost use Rattle.mp_drive.specs.Refused.{KeepsSchedule, RefusesPick};
+ghost use Rattle.mp_drive.specs.Schedule.{FollowsToEnd, MakesPick};
 
 use crate::places::{count_of_places, place_after, place_at};
 use crate::{Draws, Plain};
@@ -34,23 +31,13 @@ impl<'a, Q: Query, J: Naming> Plain<'a, Q, J> {
         sink: &mut S,
     ) -> Result<u64, Cause>
         requires depth { 0 < self.old.state.post.depth }
-        ensures made { let o = outline_of (table_of Q.facts J.job) J.job in
-            IfOk result (λ n. FollowsSchedule o seed n self.old.state self.new.state) }
-        ensures counted { IfOk result (λ n. self.new.made ≡ self.old.made + n) }
-        ensures finished { OnOk result (AllKnowTheEnd (outline_of (table_of Q.facts J.job) J.job) self.new.state) }
-        ensures full { OnOk result (AllAreFull (outline_of (table_of Q.facts J.job) J.job) self.new.state) }
+        ensures ends { let o = outline_of (table_of Q.facts J.job) J.job in
+            IfOk result (λ n. FollowsToEnd o seed n self.old self.new) }
         ensures kept { IfErr result (λ why. KeepsSchedule (table_of Q.facts J.job) J.job seed why
             self.old self.new (S.written sink.old) (S.written sink.new)) }
-
-        ensures answer { let q = table_of Q.facts J.job in
-            (before : Option (List ℕ)) → HasWritten q J.job.events before self.old.state (S.written sink.old)
-            → OnOk result (S.written sink.new ≡ grown before (one_thread_answer q J.job.events)) }
-        ensures part { let q = table_of Q.facts J.job in
-            (before : Option (List ℕ)) → HasWritten q J.job.events before self.old.state (S.written sink.old)
-            → OnErr result (HasBegun q J.job.events before (S.written sink.new)) }
-        ensures failed { result ≡ Err Write → Rose (S.faults sink.old) (S.faults sink.new) }
-        ensures no_fault { result ≢ Err Write → S.faults sink.new ≡ S.faults sink.old }
-        ensures appends_only { OnlyAppends S.frame S.faults sink.old sink.new }
+        ensures leaves { let q = table_of Q.facts J.job in
+            DriveLeaves q J.job S.written S.faults S.frame
+            result (one_thread_answer q J.job.events) self.old.state sink.old sink.new }
     {
         // From here on the invariant is known: a run of the machine leads to where the workers are.
         let _ = &self.job;
@@ -76,24 +63,13 @@ impl<'a, Q: Query, J: Naming> Plain<'a, Q, J> {
     ) -> Result<(), Cause>
         requires depth { 0 < self.old.state.post.depth }
         requires unfinished { AllKnowTheEnd (outline_of (table_of Q.facts J.job) J.job) self.old.state → ⊥ }
-        ensures made { let o = outline_of (table_of Q.facts J.job) J.job in
-            OnOk result (MakesPick o draw self.old.state self.new.state) }
-        ensures one { OnOk result (self.new.made ≡ self.old.made + 1) }
-        ensures none { OnErr result (self.new.made ≡ self.old.made) }
-        ensures still { let o = outline_of (table_of Q.facts J.job) J.job in
-            OnErr result (LeadsOn o [] [] self.old.state self.new.state) }
-        ensures refused { IfErr result (λ why. RefusesDraw (table_of Q.facts J.job) J.job draw why []
-            self.old.state self.new.state (S.written sink.old) (S.written sink.new)) }
-
-        ensures written { let q = table_of Q.facts J.job in
-            (before : Option (List ℕ)) → HasWritten q J.job.events before self.old.state (S.written sink.old)
-            → OnOk result (HasWritten q J.job.events before self.new.state (S.written sink.new)) }
-        ensures part { let q = table_of Q.facts J.job in
-            (before : Option (List ℕ)) → HasWritten q J.job.events before self.old.state (S.written sink.old)
-            → OnErr result (HasBegun q J.job.events before (S.written sink.new)) }
-        ensures failed { result ≡ Err Write → Rose (S.faults sink.old) (S.faults sink.new) }
-        ensures no_fault { result ≢ Err Write → S.faults sink.new ≡ S.faults sink.old }
-        ensures appends_only { OnlyAppends S.frame S.faults sink.old sink.new }
+        ensures makes { let o = outline_of (table_of Q.facts J.job) J.job in
+            OnOk result (MakesPick o draw self.old self.new) }
+        ensures refused { IfErr result (λ why. RefusesPick (table_of Q.facts J.job) J.job draw why
+            self.old self.new (S.written sink.old) (S.written sink.new)) }
+        ensures leaves { let q = table_of Q.facts J.job in
+            DriveLeaves q J.job S.written S.faults S.frame
+            result (lines_of q J.job.events self.new.state) self.old.state sink.old sink.new }
     {
         let shape = self.job.shape();
         let places = count_of_places(shape);

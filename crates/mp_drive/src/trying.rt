@@ -1,17 +1,15 @@
 //! Trying the steps of places.
-ghost use Rattle.std.specs.Prelude.{◌≡◌, ◌≢◌, ◌≤◌, ◌<◌, ◌∷◌, ◌+◌, ◌⊎◌, [], ℕ, Err, IfOk, IsTrue, List, OnErr, OnOk, Option, Some, slice_get};
+ghost use Rattle.std.specs.Prelude.{◌≡◌, ◌≤◌, ◌<◌, ◌∷◌, ◌+◌, ◌⊎◌, [], ℕ, IsTrue, Some, slice_get};
 ghost use Rattle.mp_names.specs.declared.kinds.Kind.{Kind as KindOf};
 ghost use Rattle.mp_names.specs.declared.kinds.Kind.TheVariants.{SendControl, Write};
-ghost use Rattle.mp_outside.specs.Fault.{Rose};
-ghost use Rattle.mp_outside.specs.Sink.{OnlyAppends};
 ghost use Rattle.mp_mailbox.specs.Queues.{WasEmpty};
 ghost use Rattle.mp_machine.specs.Places.{kinds_of};
 ghost use Rattle.mp_machine.specs.Runs.{NotNow};
 ghost use Rattle.mp_machine.specs.Steps.{IsPlace};
 ghost use Rattle.mp_model.specs.Tables.{table_of};
 ghost use Rattle.mp_outline.specs.JobOutline.{outline_of};
-ghost use Rattle.mp_board.specs.declared.causes.Cause.TheVariants as cause;
-ghost use Rattle.mp_drive.specs.Driven.{HasKept, HasWritten, LeadsOn, made_by, turn_in};
+ghost use Rattle.mp_drive.specs.Driven.{LeadsOn};
+ghost use Rattle.mp_drive.specs.Driving.{MakesStep, StepLeaves};
 ghost use Rattle.mp_drive.specs.Places.{IsPlaceIn, kind_count};
 
 use crate::Plain;
@@ -55,22 +53,11 @@ impl<'a, Q: Query, J: Naming> Plain<'a, Q, J> {
         sink: &mut S,
     ) -> Result<Turn, Cause>
         requires place { IsPlace (outline_of (table_of Q.facts J.job) J.job) worker kind }
-        ensures turn { let o = outline_of (table_of Q.facts J.job) J.job in
-            IfOk result (λ turn. LeadsOn o ((worker, kind) ∷ []) (turn_in turn ∷ []) self.old.state self.new.state) }
-        ensures counted { self.new.made ≡ self.old.made + made_by result }
-        ensures unchanged { let o = outline_of (table_of Q.facts J.job) J.job in
-            OnErr result (LeadsOn o [] [] self.old.state self.new.state) }
-
-        ensures written { let q = table_of Q.facts J.job in
-            (before : Option (List ℕ)) → HasWritten q J.job.events before self.old.state (S.written sink.old)
-            → OnOk result (HasWritten q J.job.events before self.new.state (S.written sink.new)) }
-        ensures part { let q = table_of Q.facts J.job in
-            (before : Option (List ℕ)) → HasWritten q J.job.events before self.old.state (S.written sink.old)
-            → OnErr result (HasKept q J.job.events kind before self.new.state (S.written sink.new)) }
-        ensures failed { result ≡ Err cause.Write
-            → (kind ≡ Write) × Rose (S.faults sink.old) (S.faults sink.new) }
-        ensures no_fault { result ≢ Err cause.Write → S.faults sink.new ≡ S.faults sink.old }
-        ensures appends_only { OnlyAppends S.frame S.faults sink.old sink.new }
+        ensures makes { let o = outline_of (table_of Q.facts J.job) J.job in
+            MakesStep o worker kind result self.old self.new }
+        ensures leaves { let q = table_of Q.facts J.job in
+            StepLeaves q J.job S.written S.faults S.frame
+            kind result self.old.state self.new.state sink.old sink.new }
     {
         if is_of_the_first(kind) && worker != 0 {
             let _ = &self.job;

@@ -19,9 +19,10 @@ pub returns-clause-leaves : goal.returns-clause-leaves
 returns-clause-leaves g c =
     let job = g.J.Naming.job in
     let s = g.S.Sink in
-    seed_leaves (table_of g.Q.Query.facts job) job s.written s.faults s.frame c.in_ok-plain.plain.state c.args.sink.now c.drive_seed.new.sink c.drive_seed.result c.in_ok-plain.ensures.nothing_written c.drive_seed.ensures.answer c.drive_seed.ensures.part c.drive_seed.ensures.failed c.drive_seed.ensures.no_fault c.drive_seed.ensures.appends_only
+    seed_leaves (table_of g.Q.Query.facts job) job s.written s.faults s.frame c.in_ok-plain.plain.state c.args.sink.now c.drive_seed.new.sink c.drive_seed.result c.in_ok-plain.ensures.opened.nothing_written c.drive_seed.ensures.leaves
 
 pub returns-clause-made : goal.returns-clause-made
 returns-clause-made g c =
     let o = outline_of (table_of g.Q.Query.facts g.J.Naming.job) g.J.Naming.job in
-    ends_after o c.args.plan.depth c.args.seed c.in_ok-plain.plain.state c.drive_seed.new.self.state c.drive_seed.result c.in_ok-plain.ensures.start c.in_ok-plain.ensures.depth c.drive_seed.ensures.made c.drive_seed.ensures.finished
+    let opened = c.in_ok-plain.ensures.opened in
+    ends_after o c.args.plan.depth c.args.seed c.in_ok-plain.plain c.drive_seed.new.self c.drive_seed.result opened.start opened.mailboxes c.drive_seed.ensures.ends

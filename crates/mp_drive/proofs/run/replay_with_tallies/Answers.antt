@@ -2,11 +2,10 @@
 use Rattle.std.proofs.Common.{Ok, Err, ap, map, refl, sym, ◌∙◌}
 use Rattle.std.proofs.lemmas.Bool.{false≢true}
 use Rattle.std.proofs.lemmas.Result.{err_from_is_err_and}
-use Rattle.mp_job.proofs.Runs.{run_shape}
 use Rattle.mp_model.specs.Tables.{table_of}
-use Rattle.mp_worker.proofs.Paced.{tally_of_job}
 use Rattle.mp_outline.specs.JobOutline.{outline_of}
 use Rattle.mp_answer_laws.proofs.Runs.{handed_on, nothing_begun, told, untold}
+use Rattle.mp_drive.proofs.Counted.{tallies_of_job}
 use Rattle.mp_drive.proofs.Ended.{seed_leaves}
 use Rattle.mp_drive.specs.Schedule.{IsKeptBySchedule}
 use Rattle.mp_drive.proofs.Followed.{ends_after, kept_by_plan}
@@ -29,7 +28,7 @@ returns-in_err-steps-clause-leaves g c =
     let p = err_from_is_err_and c.from_residual-in_err-steps.result c.from_residual-in_err-steps.ensures.1 in
     rw (p.1, p.2)
     (handed_on q job s.written s.faults s.frame c.in_err-steps.field-0.0 c.args.sink.now c.drive_seed.new.sink
-    (seed_leaves q job s.written s.faults s.frame c.in_ok-plain.plain.state c.args.sink.now c.drive_seed.new.sink (Err c.in_err-steps.field-0.0) c.in_ok-plain.ensures.nothing_written e.answer e.part e.failed e.no_fault e.appends_only))
+    (seed_leaves q job s.written s.faults s.frame c.in_ok-plain.plain.state c.args.sink.now c.drive_seed.new.sink (Err c.in_err-steps.field-0.0) c.in_ok-plain.ensures.opened.nothing_written e.leaves))
 
 pub returns-in_err-tallies-clause-leaves : goal.returns-in_err-tallies-clause-leaves
 returns-in_err-tallies-clause-leaves g c =
@@ -40,7 +39,7 @@ returns-in_err-tallies-clause-leaves g c =
     let p = err_from_is_err_and c.from_residual-in_err-tallies.result c.from_residual-in_err-tallies.ensures.1 in
     rw (p.1, p.2)
     (untold q job s.written s.faults s.frame c.in_ok-steps.steps c.args.sink.now c.drive_seed.new.sink
-    (seed_leaves q job s.written s.faults s.frame c.in_ok-plain.plain.state c.args.sink.now c.drive_seed.new.sink (Ok c.in_ok-steps.steps) c.in_ok-plain.ensures.nothing_written e.answer e.part e.failed e.no_fault e.appends_only))
+    (seed_leaves q job s.written s.faults s.frame c.in_ok-plain.plain.state c.args.sink.now c.drive_seed.new.sink (Ok c.in_ok-steps.steps) c.in_ok-plain.ensures.opened.nothing_written e.leaves))
 
 pub returns-in_err-kept-clause-leaves : goal.returns-in_err-kept-clause-leaves
 returns-in_err-kept-clause-leaves g c =
@@ -51,7 +50,7 @@ returns-in_err-kept-clause-leaves g c =
     let p = err_from_is_err_and c.from_residual-in_err-kept.result c.from_residual-in_err-kept.ensures.1 in
     rw (p.1, p.2)
     (untold q job s.written s.faults s.frame c.in_ok-steps.steps c.args.sink.now c.drive_seed.new.sink
-    (seed_leaves q job s.written s.faults s.frame c.in_ok-plain.plain.state c.args.sink.now c.drive_seed.new.sink (Ok c.in_ok-steps.steps) c.in_ok-plain.ensures.nothing_written e.answer e.part e.failed e.no_fault e.appends_only))
+    (seed_leaves q job s.written s.faults s.frame c.in_ok-plain.plain.state c.args.sink.now c.drive_seed.new.sink (Ok c.in_ok-steps.steps) c.in_ok-plain.ensures.opened.nothing_written e.leaves))
 
 pub returns-clause-leaves : goal.returns-clause-leaves
 returns-clause-leaves g c =
@@ -60,27 +59,25 @@ returns-clause-leaves g c =
     let s = g.S.Sink in
     let e = c.in_ok-steps.ensures in
     told q job s.written s.faults s.frame c.in_ok-steps.steps _ c.args.sink.now c.drive_seed.new.sink
-    (seed_leaves q job s.written s.faults s.frame c.in_ok-plain.plain.state c.args.sink.now c.drive_seed.new.sink (Ok c.in_ok-steps.steps) c.in_ok-plain.ensures.nothing_written e.answer e.part e.failed e.no_fault e.appends_only)
+    (seed_leaves q job s.written s.faults s.frame c.in_ok-plain.plain.state c.args.sink.now c.drive_seed.new.sink (Ok c.in_ok-steps.steps) c.in_ok-plain.ensures.opened.nothing_written e.leaves)
 
 pub returns-clause-tallies : goal.returns-clause-tallies
-returns-clause-tallies g c = λ w t same. tally_of_job g.Q.Query.facts c.args.job.now g.J.Naming.job c.requires.job w t (c.in_ok-tallies.ensures.at_the_end w t c.in_ok-steps.ensures.finished same)
-
-pub returns-clause-all : goal.returns-clause-all
-returns-clause-all g c = c.in_ok-tallies.ensures.all ∙ sym (ap (λ s. s.workers) (run_shape c.args.job.now g.J.Naming.job c.requires.job))
+returns-clause-tallies g c = tallies_of_job g.Q.Query.facts c.args.job.now g.J.Naming.job c.requires.run.run c.in_ok-tallies.tallies.items (c.in_ok-tallies.ensures.at_the_end c.in_ok-steps.ensures.ends.finished)
 
 pub returns-clause-made : goal.returns-clause-made
 returns-clause-made g c =
     let o = outline_of (table_of g.Q.Query.facts g.J.Naming.job) g.J.Naming.job in
-    ends_after o c.args.plan.depth c.args.seed c.in_ok-plain.plain.state c.drive_seed.new.self.state (Ok c.in_ok-steps.steps) c.in_ok-plain.ensures.start c.in_ok-plain.ensures.depth c.in_ok-steps.ensures.made c.in_ok-steps.ensures.finished
+    let opened = c.in_ok-plain.ensures.opened in
+    ends_after o c.args.plan.depth c.args.seed c.in_ok-plain.plain c.drive_seed.new.self (Ok c.in_ok-steps.steps) opened.start opened.mailboxes c.in_ok-steps.ensures.ends
 
 pub returns-clause-kept : goal.returns-clause-kept
 returns-clause-kept g c = λ keep.
     let o = outline_of (table_of g.Q.Query.facts g.J.Naming.job) g.J.Naming.job in
-    let begun = c.in_ok-plain.ensures in
-    let ended = c.in_ok-steps.ensures in
+    let begun = c.in_ok-plain.ensures.opened in
+    let ended = c.in_ok-steps.ensures.ends in
     elim c.if-plan.branch as (λ b. IsKeptBySchedule o c.args.plan.depth c.args.seed (map (λ kept. kept.items) c.if-plan.kept.items)) [
       | then-plan+in_ok-kept w ↦
-          kept_by_plan o c.args.plan.depth c.args.seed c.in_ok-steps.steps c.in_ok-plain.plain.state c.drive_seed.new.self.state c.args.plan.keeps (map (λ kept. kept.items) c.if-plan.kept.items) keep begun.keeps begun.start begun.depth ended.made ended.finished
+          kept_by_plan o c.args.plan.depth c.args.seed c.in_ok-steps.steps c.in_ok-plain.plain.state c.drive_seed.new.self.state c.args.plan.keeps (map (λ kept. kept.items) c.if-plan.kept.items) keep begun.keeps_so begun.start begun.mailboxes ended.follows ended.finished
           (ap (λ lists. map (λ kept. kept.items) lists.items) w.kept-is ∙ w.in_ok-kept.ensures)
       | else-plan w ↦ absurd (false≢true (sym w.if-plan.false ∙ keep))
     ]

@@ -1,12 +1,11 @@
 -- A run begins with nothing written, so what stands in the sink at its end is what the schedule wrote.
-use Rattle.std.proofs.Common.{Ok, Err, ap, map, refl, sym, ◌∙◌}
+use Rattle.std.proofs.Common.{Ok, Err, map, refl}
 use Rattle.std.proofs.lemmas.Result.{err_from_is_err_and}
-use Rattle.mp_job.proofs.Runs.{run_shape}
 use Rattle.mp_model.specs.Tables.{table_of}
 use Rattle.mp_worker.proofs.LastStates.{states_of_job}
-use Rattle.mp_worker.proofs.Paced.{tally_of_job}
 use Rattle.mp_outline.specs.JobOutline.{outline_of}
 use Rattle.mp_answer_laws.proofs.Runs.{handed_on, nothing_begun, told, untold}
+use Rattle.mp_drive.proofs.Counted.{tallies_of_job}
 use Rattle.mp_drive.proofs.Ended.{seed_leaves}
 use Rattle.mp_drive.proofs.Followed.{ends_after}
 use Rattle.mp_drive.proofs.states.replay_with_states.Goals as goal
@@ -27,7 +26,7 @@ returns-in_err-steps-clause-leaves g c =
     let p = err_from_is_err_and c.from_residual-in_err-steps.result c.from_residual-in_err-steps.ensures.1 in
     rw (p.1, p.2)
     (handed_on q job s.written s.faults s.frame c.in_err-steps.field-0.0 c.args.sink.now c.drive_seed.new.sink
-    (seed_leaves q job s.written s.faults s.frame c.in_ok-plain.plain.state c.args.sink.now c.drive_seed.new.sink (Err c.in_err-steps.field-0.0) c.in_ok-plain.ensures.nothing_written e.answer e.part e.failed e.no_fault e.appends_only))
+    (seed_leaves q job s.written s.faults s.frame c.in_ok-plain.plain.state c.args.sink.now c.drive_seed.new.sink (Err c.in_err-steps.field-0.0) c.in_ok-plain.ensures.opened.nothing_written e.leaves))
 
 pub returns-in_err-tallies-clause-leaves : goal.returns-in_err-tallies-clause-leaves
 returns-in_err-tallies-clause-leaves g c =
@@ -38,7 +37,7 @@ returns-in_err-tallies-clause-leaves g c =
     let p = err_from_is_err_and c.from_residual-in_err-tallies.result c.from_residual-in_err-tallies.ensures.1 in
     rw (p.1, p.2)
     (untold q job s.written s.faults s.frame c.in_ok-steps.steps c.args.sink.now c.drive_seed.new.sink
-    (seed_leaves q job s.written s.faults s.frame c.in_ok-plain.plain.state c.args.sink.now c.drive_seed.new.sink (Ok c.in_ok-steps.steps) c.in_ok-plain.ensures.nothing_written e.answer e.part e.failed e.no_fault e.appends_only))
+    (seed_leaves q job s.written s.faults s.frame c.in_ok-plain.plain.state c.args.sink.now c.drive_seed.new.sink (Ok c.in_ok-steps.steps) c.in_ok-plain.ensures.opened.nothing_written e.leaves))
 
 pub returns-in_err-states-clause-leaves : goal.returns-in_err-states-clause-leaves
 returns-in_err-states-clause-leaves g c =
@@ -49,7 +48,7 @@ returns-in_err-states-clause-leaves g c =
     let p = err_from_is_err_and c.from_residual-in_err-states.result c.from_residual-in_err-states.ensures.1 in
     rw (p.1, p.2)
     (untold q job s.written s.faults s.frame c.in_ok-steps.steps c.args.sink.now c.drive_seed.new.sink
-    (seed_leaves q job s.written s.faults s.frame c.in_ok-plain.plain.state c.args.sink.now c.drive_seed.new.sink (Ok c.in_ok-steps.steps) c.in_ok-plain.ensures.nothing_written e.answer e.part e.failed e.no_fault e.appends_only))
+    (seed_leaves q job s.written s.faults s.frame c.in_ok-plain.plain.state c.args.sink.now c.drive_seed.new.sink (Ok c.in_ok-steps.steps) c.in_ok-plain.ensures.opened.nothing_written e.leaves))
 
 pub returns-clause-leaves : goal.returns-clause-leaves
 returns-clause-leaves g c =
@@ -58,18 +57,16 @@ returns-clause-leaves g c =
     let s = g.S.Sink in
     let e = c.in_ok-steps.ensures in
     told q job s.written s.faults s.frame c.in_ok-steps.steps _ c.args.sink.now c.drive_seed.new.sink
-    (seed_leaves q job s.written s.faults s.frame c.in_ok-plain.plain.state c.args.sink.now c.drive_seed.new.sink (Ok c.in_ok-steps.steps) c.in_ok-plain.ensures.nothing_written e.answer e.part e.failed e.no_fault e.appends_only)
+    (seed_leaves q job s.written s.faults s.frame c.in_ok-plain.plain.state c.args.sink.now c.drive_seed.new.sink (Ok c.in_ok-steps.steps) c.in_ok-plain.ensures.opened.nothing_written e.leaves)
 
 pub returns-clause-tallies : goal.returns-clause-tallies
-returns-clause-tallies g c = λ w t same. tally_of_job g.Q.Query.facts c.args.job.now g.J.Naming.job c.requires.job w t (c.in_ok-tallies.ensures.at_the_end w t c.in_ok-steps.ensures.finished same)
-
-pub returns-clause-all : goal.returns-clause-all
-returns-clause-all g c = c.in_ok-tallies.ensures.all ∙ sym (ap (λ s. s.workers) (run_shape c.args.job.now g.J.Naming.job c.requires.job))
+returns-clause-tallies g c = tallies_of_job g.Q.Query.facts c.args.job.now g.J.Naming.job c.requires.run.run c.in_ok-tallies.tallies.items (c.in_ok-tallies.ensures.at_the_end c.in_ok-steps.ensures.ends.finished)
 
 pub returns-clause-made : goal.returns-clause-made
 returns-clause-made g c =
     let o = outline_of (table_of g.Q.Query.facts g.J.Naming.job) g.J.Naming.job in
-    ends_after o c.args.plan.depth c.args.seed c.in_ok-plain.plain.state c.drive_seed.new.self.state (Ok c.in_ok-steps.steps) c.in_ok-plain.ensures.start c.in_ok-plain.ensures.depth c.in_ok-steps.ensures.made c.in_ok-steps.ensures.finished
+    let opened = c.in_ok-plain.ensures.opened in
+    ends_after o c.args.plan.depth c.args.seed c.in_ok-plain.plain c.drive_seed.new.self (Ok c.in_ok-steps.steps) opened.start opened.mailboxes c.in_ok-steps.ensures.ends
 
 pub returns-clause-states : goal.returns-clause-states
-returns-clause-states g c = states_of_job g.Q.Query.facts c.args.job.now g.J.Naming.job c.requires.job (map (λ own. own.items) c.in_ok-states.states.items) c.in_ok-states.ensures
+returns-clause-states g c = states_of_job g.Q.Query.facts c.args.job.now g.J.Naming.job c.requires.run.run (map (λ own. own.items) c.in_ok-states.states.items) c.in_ok-states.ensures

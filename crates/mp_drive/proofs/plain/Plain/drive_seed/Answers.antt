@@ -1,19 +1,18 @@
-use Rattle.std.proofs.Common.{◌≡◌, ◌+◌, ◌++◌, ◌∙◌, [], ℕ, suc, refl, sym, arith, subst, Err, ap, inl}
+use Rattle.std.proofs.Common.{◌≡◌, ◌+◌, ◌++◌, ◌∙◌, [], ℕ, suc, refl, sym, arith, subst, ap, inl}
 use Rattle.std.proofs.lemmas.Result.{err_from_is_err_and}
 use Rattle.mp_names.specs.Outlines.{OutlineIsSound}
-use Rattle.mp_outside.specs.Sink.{grown}
-use Rattle.mp_outside.proofs.SinkLemmas.{rose_later}
 use Rattle.mp_job.specs.Legal.{JobIsLegal}
+use Rattle.mp_model.specs.Answers.{one_thread_answer}
 use Rattle.mp_outline.specs.JobOutline.{outline_of}
 use Rattle.mp_outline.proofs.Soundness.{outline_is_sound}
-use Rattle.mp_board.specs.declared.causes.Cause.TheVariants.{Write}
+use Rattle.mp_board.specs.declared.causes.Cause.TheVariants.{Memory}
 use Rattle.mp_draws.specs.Draws.{draw_of, next_state, state_after}
 use Rattle.mp_drive.specs.Driven.{AllKnowTheEnd, AreReached, Driven}
 use Rattle.mp_drive.specs.Refused.{KeepsSchedule, RefusesDraw}
 use Rattle.mp_drive.specs.Schedule.{MakesPick}
-use Rattle.mp_drive.proofs.Appended.{appends_further, appends_none}
 use Rattle.mp_drive.proofs.Counted.{full_where_all_know}
 use Rattle.mp_drive.proofs.Followed.{LeadsBy, begins_by_none, follows, leads_by_one_more, stays_by}
+use Rattle.mp_drive.proofs.Leaving.{left_all, left_further, left_none, left_stopped, left_there}
 use Rattle.mp_drive.proofs.Refusing.{handed_on, refuses_later}
 use Rattle.mp_drive.proofs.plain.Plain.drive_seed.Given as given
 use Rattle.mp_drive.proofs.plain.Plain.drive_seed.Goals as goal
@@ -27,38 +26,21 @@ sound g legal =
 
 pub loop-draws-init : goal.loop-draws-init
 loop-draws-init g c =
-    let o = outline_of (table_of g.Q.Query.facts g.J.Naming.job) g.J.Naming.job in
+    let job = g.J.Naming.job in
+    let q = table_of g.Q.Query.facts job in
+    let s = g.S.Sink in
     record {
-      by = begins_by_none o c.args.seed c.args.self.now.state;
+      by = begins_by_none (outline_of q job) c.args.seed c.args.self.now.state;
       counted = omega arith;
       drawn = c.of-draws.ensures;
-      written = λ before had. had;
-      quiet = refl;
-      appends = appends_none g.S.Sink.frame g.S.Sink.faults c.args.sink.now;
+      left = left_none q job s.written s.faults s.frame c.args.self.now.state c.args.sink.now;
     }
-
-pub returns-in_default-clause-part : goal.returns-in_default-clause-part
-returns-in_default-clause-part g c = λ before had.
-    let begun = c.is_finished.ensures.begun in
-    (begun.0, c.loop-draws.invariant.written before had ∙ ap (grown before) begun.1)
 
 pub step_from-requires-clause-depth : goal.step_from-requires-clause-depth
 step_from-requires-clause-depth g c κs within =
     let same = c.loop-draws.invariant.by.lead.depth in
     let deep = c.requires.depth in
     omega arith
-
-pub returns-in_err-step_from-clause-part : goal.returns-in_err-step_from-clause-part
-returns-in_err-step_from-clause-part g c = λ before had.
-    let p = err_from_is_err_and c.from_residual.result c.from_residual.ensures.1 in
-    let here = c.in_err-step_from.ensures.part before (c.loop-draws.invariant.written before had) in
-    rw p.1 here
-
-pub returns-in_err-step_from-clause-failed : goal.returns-in_err-step_from-clause-failed
-returns-in_err-step_from-clause-failed g c = λ e.
-    let p = err_from_is_err_and c.from_residual.result c.from_residual.ensures.1 in
-    let here : c.in_err-step_from.field-0.0 ≡ Write = cc in
-    rose_later _ _ _ c.loop-draws.invariant.appends.faults_grow (c.in_err-step_from.ensures.failed (ap Err here))
 
 pub returns-in_default-clause-kept : goal.returns-in_default-clause-kept
 returns-in_default-clause-kept g c =
@@ -68,8 +50,15 @@ returns-in_default-clause-kept g c =
       n = c.loop-draws.made;
       follows = follows o c.args.seed c.loop-draws.made c.args.self.now.state c.loop-draws.self.state (sound g c.self.invariant.legal) (subst (λ (u : Driven). AreReached o u.state) c.self.view_is c.self.invariant.reached) i.by;
       counted = i.counted;
-      refused = record { write = λ e. absurd (cc); lines = λ before h. inl (i.written before h) };
+      refused = record { write = λ e. absurd (cc); lines = λ before h. inl (i.left.lines before h) };
     }
+
+pub returns-in_default-clause-leaves : goal.returns-in_default-clause-leaves
+returns-in_default-clause-leaves g c =
+    let job = g.J.Naming.job in
+    let q = table_of g.Q.Query.facts job in
+    let s = g.S.Sink in
+    left_there q job s.written s.faults s.frame Memory (one_thread_answer q job.events) c.args.self.now.state c.loop-draws.self.state c.args.sink.now c.loop-draws.sink (λ e. cc) c.is_finished.ensures.begun c.loop-draws.invariant.left
 
 pub returns-in_err-step_from-clause-kept : goal.returns-in_err-step_from-clause-kept
 returns-in_err-step_from-clause-kept g c =
@@ -78,7 +67,7 @@ returns-in_err-step_from-clause-kept g c =
     let o = outline_of q job in
     let i = c.loop-draws.invariant in
     let n = c.loop-draws.made in
-    let e = c.in_err-step_from.ensures in
+    let e = c.in_err-step_from.ensures.refused in
     let why = c.in_err-step_from.field-0.0 in
     let had = g.S.Sink.written c.args.sink.now in
     let has = g.S.Sink.written c.step_from.new.sink in
@@ -88,61 +77,56 @@ returns-in_err-step_from-clause-kept g c =
     (record {
       n = n;
       follows = follows o c.args.seed n c.args.self.now.state c.step_from.new.self.state (sound g c.self.invariant.legal) (subst (λ (u : Driven). AreReached o u.state) c.self.view_is c.self.invariant.reached) (stays_by o c.args.seed n c.args.self.now.state c.loop-draws.self.state c.step_from.new.self.state i.by e.still);
-      counted = e.none ∙ i.counted;
-      refused = refuses_later q job (draw_of c.args.seed n) why i.by.steps i.by.turns c.args.self.now.state c.loop-draws.self.state c.step_from.new.self.state had (g.S.Sink.written c.loop-draws.sink) has i.by.lead i.written
+      counted = e.counted ∙ i.counted;
+      refused = refuses_later q job (draw_of c.args.seed n) why i.by.steps i.by.turns c.args.self.now.state c.loop-draws.self.state c.step_from.new.self.state had (g.S.Sink.written c.loop-draws.sink) has i.by.lead i.left.lines
           (subst (λ (d : ℕ). RefusesDraw q job d why [] c.loop-draws.self.state c.step_from.new.self.state (g.S.Sink.written c.loop-draws.sink) has) drawn e.refused);
     })
 
-pub returns-in_default-clause-no_fault : goal.returns-in_default-clause-no_fault
-returns-in_default-clause-no_fault g c = λ not_failed. c.loop-draws.invariant.quiet
-
-pub returns-clause-no_fault : goal.returns-clause-no_fault
-returns-clause-no_fault g c = λ not_failed. c.loop-draws.invariant.quiet
-
-pub returns-in_default-clause-appends_only : goal.returns-in_default-clause-appends_only
-returns-in_default-clause-appends_only g c = c.loop-draws.invariant.appends
-
-pub returns-in_err-step_from-clause-no_fault : goal.returns-in_err-step_from-clause-no_fault
-returns-in_err-step_from-clause-no_fault g c = λ not_failed.
+pub returns-in_err-step_from-clause-leaves : goal.returns-in_err-step_from-clause-leaves
+returns-in_err-step_from-clause-leaves g c =
+    let job = g.J.Naming.job in
+    let q = table_of g.Q.Query.facts job in
+    let s = g.S.Sink in
     let p = err_from_is_err_and c.from_residual.result c.from_residual.ensures.1 in
-    c.in_err-step_from.ensures.no_fault (λ e. let here : c.in_err-step_from.field-0.0 ≡ Write = cc in not_failed (p.1 ∙ ap Err (p.2 ∙ here))) ∙ c.loop-draws.invariant.quiet
-
-pub returns-in_err-step_from-clause-appends_only : goal.returns-in_err-step_from-clause-appends_only
-returns-in_err-step_from-clause-appends_only g c = appends_further g.S.Sink.frame g.S.Sink.faults c.args.sink.now c.loop-draws.sink c.step_from.new.sink c.loop-draws.invariant.appends c.in_err-step_from.ensures.appends_only
-
-pub returns-clause-appends_only : goal.returns-clause-appends_only
-returns-clause-appends_only g c = c.loop-draws.invariant.appends
+    left_stopped q job s.written s.faults s.frame c.from_residual.result c.in_err-step_from.field-0.0 p.0 (one_thread_answer q job.events) _ c.args.self.now.state c.loop-draws.self.state c.args.sink.now c.loop-draws.sink c.step_from.new.sink p.1 p.2 c.loop-draws.invariant.left c.in_err-step_from.ensures.leaves
 
 pub loop-draws-preserved : goal.loop-draws-preserved
 loop-draws-preserved g c =
-    let o = outline_of (table_of g.Q.Query.facts g.J.Naming.job) g.J.Naming.job in
+    let job = g.J.Naming.job in
+    let q = table_of g.Q.Query.facts job in
+    let o = outline_of q job in
+    let s = g.S.Sink in
+    let i = c.loop-draws.invariant in
+    let made = c.in_ok-step_from.ensures.makes in
     let counted : c.in-Some.counted ≡ c.loop-draws.made + 1 = c.in-Some.ensures.1 in
     let unfinished : AllKnowTheEnd o c.loop-draws.self.state → ⊥ = λ all. let known = c.is_finished.ensures.known.1 all in absurd (cc) in
     let one_more : c.in-Some.counted ≡ suc c.loop-draws.made = omega (arith, counted) in
-    let drawn : c.draw.result ≡ draw_of c.args.seed c.loop-draws.made = c.draw.ensures.draw ∙ ap next_state c.loop-draws.invariant.drawn in
+    let drawn : c.draw.result ≡ draw_of c.args.seed c.loop-draws.made = c.draw.ensures.draw ∙ ap next_state i.drawn in
     record {
       by = subst (λ (n : ℕ). LeadsBy o c.args.seed n c.args.self.now.state c.step_from.new.self.state) (sym counted)
-          (leads_by_one_more o c.args.seed c.loop-draws.made c.args.self.now.state c.loop-draws.self.state c.step_from.new.self.state c.loop-draws.invariant.by unfinished (subst (λ (d : ℕ). MakesPick o d c.loop-draws.self.state c.step_from.new.self.state) drawn c.in_ok-step_from.ensures.made));
-      counted = let one = c.in_ok-step_from.ensures.one in let had = c.loop-draws.invariant.counted in omega arith;
+          (leads_by_one_more o c.args.seed c.loop-draws.made c.args.self.now.state c.loop-draws.self c.step_from.new.self i.by unfinished (subst (λ (d : ℕ). MakesPick o d c.loop-draws.self c.step_from.new.self) drawn made));
+      counted = let one = made.counted in let had = i.counted in omega arith;
       drawn = c.draw.ensures.state ∙ drawn ∙ ap (state_after c.args.seed) (sym one_more);
-      written = λ before had. c.in_ok-step_from.ensures.written before (c.loop-draws.invariant.written before had);
-      quiet = c.in_ok-step_from.ensures.no_fault (λ e. cc) ∙ c.loop-draws.invariant.quiet;
-      appends = appends_further g.S.Sink.frame g.S.Sink.faults c.args.sink.now c.loop-draws.sink c.step_from.new.sink c.loop-draws.invariant.appends c.in_ok-step_from.ensures.appends_only;
+      left = left_further q job s.written s.faults s.frame _ c.args.self.now.state c.loop-draws.self.state c.step_from.new.self.state c.args.sink.now c.loop-draws.sink c.step_from.new.sink i.left c.in_ok-step_from.ensures.leaves;
     }
 
-pub returns-clause-made : goal.returns-clause-made
-returns-clause-made g c =
-    let o = outline_of (table_of g.Q.Query.facts g.J.Naming.job) g.J.Naming.job in
-    follows o c.args.seed c.loop-draws.made c.args.self.now.state c.loop-draws.self.state (sound g c.self.invariant.legal) (subst (λ (u : Driven). AreReached o u.state) c.self.view_is c.self.invariant.reached) c.loop-draws.invariant.by
-
-pub returns-clause-full : goal.returns-clause-full
-returns-clause-full g c =
+pub returns-clause-ends : goal.returns-clause-ends
+returns-clause-ends g c =
     let o = outline_of (table_of g.Q.Query.facts g.J.Naming.job) g.J.Naming.job in
     let reached = subst (λ (u : Driven). AreReached o u.state) c.self.view_is c.self.invariant.reached in
-    let by = c.loop-draws.invariant.by in
-    full_where_all_know o (sound g c.self.invariant.legal) c.loop-draws.self.state (reached.0 ++ by.steps, by.lead.state_is reached.0 reached.1) (c.loop-draws-test.ensures.known.0 refl)
+    let ok = sound g c.self.invariant.legal in
+    let i = c.loop-draws.invariant in
+    let known = c.loop-draws-test.ensures.known.0 refl in
+    record {
+      follows = follows o c.args.seed c.loop-draws.made c.args.self.now.state c.loop-draws.self.state ok reached i.by;
+      counted = i.counted;
+      finished = known;
+      full = full_where_all_know o ok c.loop-draws.self.state (reached.0 ++ i.by.steps, i.by.lead.state_is reached.0 reached.1) known;
+    }
 
-pub returns-clause-answer : goal.returns-clause-answer
-returns-clause-answer g c = λ before had.
-    let whole = c.loop-draws-test.ensures.answer refl in
-    c.loop-draws.invariant.written before had ∙ ap (grown before) whole
+pub returns-clause-leaves : goal.returns-clause-leaves
+returns-clause-leaves g c =
+    let job = g.J.Naming.job in
+    let q = table_of g.Q.Query.facts job in
+    let s = g.S.Sink in
+    left_all q job s.written s.faults s.frame c.loop-draws.made (one_thread_answer q job.events) c.args.self.now.state c.loop-draws.self.state c.args.sink.now c.loop-draws.sink c.loop-draws.invariant.left (c.loop-draws-test.ensures.answer refl)

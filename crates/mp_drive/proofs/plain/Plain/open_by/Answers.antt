@@ -1,10 +1,11 @@
-use Rattle.std.proofs.Common.{◌≡◌, ℕ, List, ap, ◌∙◌, subst}
+use Rattle.std.proofs.Common.{◌≡◌, ℕ, List, ap, refl, ◌∙◌, subst}
+use Rattle.mp_names.specs.declared.names.Name.{Name}
 use Rattle.mp_names.specs.Logs.{Log}
 use Rattle.mp_names.specs.Outlines.{OutlineIsSound}
 use Rattle.mp_board.specs.Boards.{ShowsFrontiers}
 use Rattle.mp_job.specs.Legal.{JobIsLegal}
 use Rattle.mp_job.proofs.Runs.{run_is_legal}
-use Rattle.mp_mailbox.specs.Queues.{empty_queues}
+use Rattle.mp_mailbox.specs.Queues.{Queues, empty_queues}
 use Rattle.mp_model.specs.Facts.{JobFacts}
 use Rattle.mp_model.specs.Tables.{table_of}
 use Rattle.mp_outline.specs.JobOutline.{outline_of}
@@ -21,7 +22,7 @@ new_workers-requires-clause-opening g c κs within =
     subst (λ (logs : List Log). ShowsFrontiers o logs c.seen.result) c.in_ok-board.ensures.logs c.seen.ensures.frontiers
 
 legal : (g : given.Over) (c : goal.In_ok-post g) → let job = g.J.Naming.job in JobIsLegal (table_of g.Q.Query.facts job) job
-legal g c = run_is_legal _ _ c.requires.job g.Q.Query.facts c.shape.ensures.legal
+legal g c = run_is_legal _ _ c.requires.run.run g.Q.Query.facts c.shape.ensures.legal
 
 sound : (g : given.Over) (c : goal.In_ok-post g) → let job = g.J.Naming.job in OutlineIsSound (outline_of (table_of g.Q.Query.facts job) job)
 sound g c =
@@ -31,7 +32,7 @@ sound g c =
 
 empty : (g : given.Over) (c : goal.In_ok-post g) → c.in_ok-post.post ≡ empty_queues g.J.Naming.job.shape.workers c.args.plan.depth
 empty g c =
-    let count = ap (λ s. s.workers) c.shape.ensures.shape ∙ ap (λ (job : JobFacts). job.shape.workers) c.requires.job in
+    let count = ap (λ s. s.workers) c.shape.ensures.shape ∙ ap (λ (job : JobFacts). job.shape.workers) c.requires.run.run in
     subst (λ (n : ℕ). c.in_ok-post.post ≡ empty_queues n c.args.plan.depth) count c.in_ok-post.ensures.empty
 
 pub invariant_of-result : goal.invariant_of-result
@@ -41,23 +42,27 @@ invariant_of-result g c =
     let workers = c.in_ok-workers.ensures in
     let t = together c.in_ok-workers.workers.items c.in_ok-board.board c.in_ok-post.post in
     record {
-      run = c.requires.job;
+      run = c.requires.run.run;
       legal = legal g c;
       reached = begin_reached o (sound g c) t c.args.plan.depth workers.all workers.new board.logs board.version (empty g c);
       counted = begin_counted o (sound g c) t c.args.plan.depth workers.all workers.new board.logs board.version (empty g c) c.args.plan.keeps workers.keeps;
       goes_on = board.cause;
     }
 
-pub returns-clause-start : goal.returns-clause-start
-returns-clause-start g c =
-    let o = outline_of (table_of g.Q.Query.facts g.J.Naming.job) g.J.Naming.job in
+pub returns : goal.returns
+returns g c =
+    let job = g.J.Naming.job in
+    let q = table_of g.Q.Query.facts job in
+    let o = outline_of q job in
     let board = c.in_ok-board.ensures in
     let workers = c.in_ok-workers.ensures in
     let t = together c.in_ok-workers.workers.items c.in_ok-board.board c.in_ok-post.post in
-    are_at_start o (sound g c) t c.args.plan.depth workers.all workers.new board.logs board.version (empty g c)
-
-pub returns-clause-nothing_written : goal.returns-clause-nothing_written
-returns-clause-nothing_written g c =
-    let job = g.J.Naming.job in
-    let q = table_of g.Q.Query.facts job in
-    ap (λ (log : Log). written_lines q job.events log) (first_is_empty (outline_of q job) _ c.in_ok-workers.ensures.new)
+    record {
+      opened = record {
+        start = are_at_start o (sound g c) t c.args.plan.depth workers.all workers.new board.logs board.version (empty g c);
+        mailboxes = ap (λ (p : Queues (List Name)). p.depth) (empty g c);
+        made = refl;
+        nothing_written = ap (λ (log : Log). written_lines q job.events log) (first_is_empty o _ workers.new);
+        keeps_so = workers.keeps;
+      };
+    }

@@ -1,10 +1,9 @@
-use Rattle.std.proofs.Common.{◌≡◌, ◌<◌, ◌+◌, ◌*◌, ◌%◌, ◌∙◌, ◌∷◌, ◌++◌, [], ℕ, List, Option, true, length, refl, sym, arith, subst, Err, Some, ap, slice_get}
+use Rattle.std.proofs.Common.{◌≡◌, ◌<◌, ◌+◌, ◌*◌, ◌%◌, ◌∙◌, ◌∷◌, ◌++◌, [], ℕ, true, length, refl, sym, arith, subst, Err, Some, ap, slice_get}
 use Rattle.std.proofs.Math.Nat.{mod-lt}
 use Rattle.std.proofs.lemmas.Result.{err_from_is_err_and}
 use Rattle.mp_names.specs.declared.controls.Shape.{Shape}
 use Rattle.mp_names.specs.declared.kinds.Kind.{Kind}
 use Rattle.mp_names.specs.Outlines.{OutlineIsSound}
-use Rattle.mp_outside.proofs.SinkLemmas.{rose_later}
 use Rattle.mp_job.specs.Legal.{JobIsLegal}
 use Rattle.mp_model.specs.Facts.{JobFacts}
 use Rattle.mp_model.specs.Tables.{table_of}
@@ -12,13 +11,11 @@ use Rattle.mp_outline.specs.JobOutline.{outline_of}
 use Rattle.mp_outline.proofs.Soundness.{outline_is_sound}
 use Rattle.mp_machine.specs.Places.{kinds_of, places}
 use Rattle.mp_machine.specs.Runs.{Turn, is_made, made_count}
-use Rattle.mp_board.specs.declared.causes.Cause.TheVariants.{Write}
-use Rattle.mp_drive.specs.Driven.{AreReached, Driven, HasWritten, LeadsOn, turn_in}
+use Rattle.mp_drive.specs.Driven.{AreReached, Driven, LeadsOn, lines_of, turn_in}
 use Rattle.mp_drive.specs.Places.{IsPlaceIn, kind_count, place_number}
-use Rattle.mp_drive.specs.Refused.{RefusesDraw}
-use Rattle.mp_drive.proofs.Appended.{appends_further, appends_none}
-use Rattle.mp_drive.proofs.Ended.{kept_has_begun}
+use Rattle.mp_drive.specs.Refused.{RefusesPick}
 use Rattle.mp_drive.proofs.Leading.{leads_further, leads_nowhere, still_there, turn_is}
+use Rattle.mp_drive.proofs.Leaving.{HaveLeft, left_all, left_more, left_none, left_stopped, step_stops}
 use Rattle.mp_drive.proofs.Made.{one_made}
 use Rattle.mp_drive.proofs.Numbered.{as_many, first_of_round, goes_round, kind_fits, kind_within, some_places, stands}
 use Rattle.mp_drive.proofs.Picked.{picks}
@@ -70,9 +67,7 @@ loop-tried-init g c =
       place = subst (λ (s : Shape). IsPlaceIn s place) shape c.place_at-place.ensures.place;
       at = first_of_round c.args.draw (place_number job.shape place) (length (places o)) (some g at) (subst (λ (n : ℕ). place_number job.shape place ≡ c.args.draw % n) (count_is g at) number);
       none = λ k l. absurd (omega arith);
-      written = λ before had. had;
-      quiet = refl;
-      appends = appends_none g.S.Sink.frame g.S.Sink.faults c.args.sink.now;
+      left = left_none (table_of g.Q.Query.facts job) job g.S.Sink.written g.S.Sink.faults g.S.Sink.frame c.args.self.now.state c.args.sink.now;
     }
 
 -- the kind that is tried
@@ -119,17 +114,12 @@ still_here g c =
 made_here : (g : given.Over) (c : After-pass_empty-empty g) → c.pass_empty-empty.new.self.made ≡ c.args.self.now.made
 made_here g c = ap (λ (u : Driven). u.made) c.pass_empty-empty.ensures.same ∙ c.loop-tried.invariant.made
 
-written_here : (g : given.Over) (c : After-pass_empty-empty g) → let q = table_of g.Q.Query.facts g.J.Naming.job in let events = g.J.Naming.job.events in
-    (before : Option (List ℕ)) → HasWritten q events before c.args.self.now.state (g.S.Sink.written c.args.sink.now) → HasWritten q events before c.pass_empty-empty.new.self.state (g.S.Sink.written c.loop-tried.sink)
-written_here g c = λ before had.
-    let q = table_of g.Q.Query.facts g.J.Naming.job in
-    subst (λ (u : Driven). HasWritten q g.J.Naming.job.events before u.state (g.S.Sink.written c.loop-tried.sink)) (sym c.pass_empty-empty.ensures.same) (c.loop-tried.invariant.written before had)
-
-pub returns-in_err-turn-clause-still : goal.returns-in_err-turn-clause-still
-returns-in_err-turn-clause-still g c =
-    let o = outline_of (table_of g.Q.Query.facts g.J.Naming.job) g.J.Naming.job in
-    let p = err_from_is_err_and c.from_residual.result c.from_residual.ensures.1 in
-    rw p.1 (leads_further o [] [] [] [] c.args.self.now.state c.pass_empty-empty.new.self.state c.try_step.new.self.state (still_here g (goal.at.returns-in_err-turn-clause-still g c).After-pass_empty-empty) c.in_err-turn.ensures.unchanged)
+left_here : (g : given.Over) (c : After-pass_empty-empty g) → let job = g.J.Naming.job in let s = g.S.Sink in
+    HaveLeft (table_of g.Q.Query.facts job) job s.written s.faults s.frame c.args.self.now.state c.pass_empty-empty.new.self.state c.args.sink.now c.loop-tried.sink
+left_here g c =
+    let job = g.J.Naming.job in
+    let s = g.S.Sink in
+    subst (λ (u : Driven). HaveLeft (table_of g.Q.Query.facts job) job s.written s.faults s.frame c.args.self.now.state u.state c.args.sink.now c.loop-tried.sink) (sym c.pass_empty-empty.ensures.same) c.loop-tried.invariant.left
 
 pub returns-in_err-turn-clause-refused : goal.returns-in_err-turn-clause-refused
 returns-in_err-turn-clause-refused g c =
@@ -141,38 +131,45 @@ returns-in_err-turn-clause-refused g c =
     let why = c.in_err-turn.field-0.0 in
     let had = g.S.Sink.written c.args.sink.now in
     let has = g.S.Sink.written c.try_step.new.sink in
-    let next = comes_next g (goal.at.returns-in_err-turn-clause-refused g c).After-kind_at-kind in
+    let at = goal.at.returns-in_err-turn-clause-refused g c in
+    let same = e.makes.counted in
+    let before = made_here g at.After-pass_empty-empty in
+    let next = comes_next g at.After-kind_at-kind in
     let p = err_from_is_err_and c.from_residual.result c.from_residual.ensures.1 in
-    handed_on (λ why. RefusesDraw q job c.args.draw why [] c.args.self.now.state c.try_step.new.self.state had has) c.from_residual.result why p.0 p.1 p.2
-    (refuses_draw q job c.args.draw place.1 why c.args.self.now.state c.try_step.new.self.state had has (write_tried o c.args.self.now.state c.args.draw c.loop-tried.tried place next)
-    (λ f. (e.failed (ap Err f)).0)
-    (λ before h. e.part before (written_here g (goal.at.returns-in_err-turn-clause-refused g c).After-pass_empty-empty before h)))
+    handed_on (λ why. RefusesPick q job c.args.draw why c.args.self.now c.try_step.new.self had has) c.from_residual.result why p.0 p.1 p.2
+    (record {
+      still = leads_further o [] [] [] [] c.args.self.now.state c.pass_empty-empty.new.self.state c.try_step.new.self.state (still_here g at.After-pass_empty-empty) e.makes.unchanged;
+      counted = omega arith;
+      refused = refuses_draw q job c.args.draw place.1 why c.args.self.now.state c.try_step.new.self.state had has (write_tried o c.args.self.now.state c.args.draw c.loop-tried.tried place next)
+          (λ f. (e.leaves.failed (ap Err f)).0)
+          (λ before h. e.leaves.part before ((left_here g at.After-pass_empty-empty).lines before h));
+    })
 
-pub returns-in_err-turn-clause-part : goal.returns-in_err-turn-clause-part
-returns-in_err-turn-clause-part g c = λ before had.
+pub returns-in_err-turn-clause-leaves : goal.returns-in_err-turn-clause-leaves
+returns-in_err-turn-clause-leaves g c =
     let job = g.J.Naming.job in
     let q = table_of g.Q.Query.facts job in
+    let s = g.S.Sink in
     let p = err_from_is_err_and c.from_residual.result c.from_residual.ensures.1 in
     let e = c.in_err-turn.ensures in
-    let here_at = (goal.at.returns-in_err-turn-clause-part g c).After-pass_empty-empty in
+    let mid = c.pass_empty-empty.new.self.state in
+    let new = c.try_step.new.self.state in
+    let here_at = (goal.at.returns-in_err-turn-clause-leaves g c).After-pass_empty-empty in
     let reached = subst (λ (u : Driven). AreReached (outline_of q job) u.state) c.self.view_is c.self.invariant.reached in
-    let here : AreReached (outline_of q job) c.try_step.new.self.state = ((reached.0 ++ []) ++ [], e.unchanged.state_is (reached.0 ++ []) ((still_here g here_at).state_is reached.0 reached.1)) in
-    rw p.1 (kept_has_begun q job (sound g c.self.invariant.legal) c.try_step.new.self.state here c.kind_at-kind.result before (g.S.Sink.written c.try_step.new.sink) (e.part before (written_here g here_at before had)))
+    let here : AreReached (outline_of q job) new = ((reached.0 ++ []) ++ [], e.makes.unchanged.state_is (reached.0 ++ []) ((still_here g here_at).state_is reached.0 reached.1)) in
+    left_stopped q job s.written s.faults s.frame c.from_residual.result c.in_err-turn.field-0.0 p.0 (lines_of q job.events new) [] c.args.self.now.state mid c.args.sink.now c.loop-tried.sink c.try_step.new.sink p.1 p.2 (left_here g here_at)
+    (step_stops q job s.written s.faults s.frame c.kind_at-kind.result c.in_err-turn.field-0.0 [] mid new c.loop-tried.sink c.try_step.new.sink (sound g c.self.invariant.legal) here e.leaves)
 
-pub returns-in_err-turn-clause-failed : goal.returns-in_err-turn-clause-failed
-returns-in_err-turn-clause-failed g c = λ e.
-    let p = err_from_is_err_and c.from_residual.result c.from_residual.ensures.1 in
-    let here : c.in_err-turn.field-0.0 ≡ Write = cc in
-    rose_later _ _ _ c.loop-tried.invariant.appends.faults_grow (c.in_err-turn.ensures.failed (ap Err here)).1
-
-pub returns-then-matches-clause-made : goal.returns-then-matches-clause-made
-returns-then-matches-clause-made g c =
+pub returns-then-matches-clause-makes : goal.returns-then-matches-clause-makes
+returns-then-matches-clause-makes g c =
     let o = outline_of (table_of g.Q.Query.facts g.J.Naming.job) g.J.Naming.job in
     let t = c.args.self.now.state in
     let place : ℕ × Kind = (c.loop-tried.place.worker, c.kind_at-kind.result) in
-    let next = comes_next g (goal.at.returns-then-matches-clause-made g c).After-kind_at-kind in
+    let at = goal.at.returns-then-matches-clause-makes g c in
+    let next = comes_next g at.After-kind_at-kind in
     let turn = turn_in c.in_ok-turn.turn in
-    let lead = leads_further o [] (place ∷ []) [] (turn ∷ []) t c.pass_empty-empty.new.self.state c.try_step.new.self.state (still_here g (goal.at.returns-then-matches-clause-made g c).After-pass_empty-empty) c.in_ok-turn.ensures.turn in
+    let step = c.in_ok-turn.ensures.makes in
+    let lead = leads_further o [] (place ∷ []) [] (turn ∷ []) t c.pass_empty-empty.new.self.state c.try_step.new.self.state (still_here g at.After-pass_empty-empty) step.turn in
     let made : is_made turn ≡ true = elim c.match-matches.branch [ in-Did w ↦ made_turn c.in_ok-turn.turn w.in-Did.is | in_default w ↦ absurd (cc) ] in
     record {
       step = place;
@@ -180,40 +177,21 @@ returns-then-matches-clause-made g c =
       picked = λ before are. picks o t c.args.draw c.loop-tried.tried place next before are turn (turn_is o place turn t c.try_step.new.self.state lead before are) made;
       lead = lead;
       made = made;
+      counted =
+          let one = one_made turn made in
+          let grown = step.counted in
+          let before = made_here g at.After-pass_empty-empty in
+          omega arith;
     }
 
-pub returns-then-matches-clause-one : goal.returns-then-matches-clause-one
-returns-then-matches-clause-one g c =
-    let turn = turn_in c.in_ok-turn.turn in
-    let made : is_made turn ≡ true = elim c.match-matches.branch [ in-Did w ↦ made_turn c.in_ok-turn.turn w.in-Did.is | in_default w ↦ absurd (cc) ] in
-    let one = one_made turn made in
-    let grown = c.in_ok-turn.ensures.counted in
-    let before = made_here g (goal.at.returns-then-matches-clause-one g c).After-pass_empty-empty in
-    omega arith
-
-pub returns-in_err-turn-clause-none : goal.returns-in_err-turn-clause-none
-returns-in_err-turn-clause-none g c =
-    let p = err_from_is_err_and c.from_residual.result c.from_residual.ensures.1 in
-    let same = c.in_err-turn.ensures.counted in
-    let before = made_here g (goal.at.returns-in_err-turn-clause-none g c).After-pass_empty-empty in
-    rw p.1 (omega arith)
-
-pub returns-then-matches-clause-written : goal.returns-then-matches-clause-written
-returns-then-matches-clause-written g c = λ before had. c.in_ok-turn.ensures.written before (written_here g (goal.at.returns-then-matches-clause-written g c).After-pass_empty-empty before had)
-
-pub returns-in_err-turn-clause-no_fault : goal.returns-in_err-turn-clause-no_fault
-returns-in_err-turn-clause-no_fault g c = λ not_failed.
-    let p = err_from_is_err_and c.from_residual.result c.from_residual.ensures.1 in
-    c.in_err-turn.ensures.no_fault (λ e. let here : c.in_err-turn.field-0.0 ≡ Write = cc in not_failed (p.1 ∙ ap Err (p.2 ∙ here))) ∙ c.loop-tried.invariant.quiet
-
-pub returns-in_err-turn-clause-appends_only : goal.returns-in_err-turn-clause-appends_only
-returns-in_err-turn-clause-appends_only g c = appends_further g.S.Sink.frame g.S.Sink.faults c.args.sink.now c.loop-tried.sink c.try_step.new.sink c.loop-tried.invariant.appends c.in_err-turn.ensures.appends_only
-
-pub returns-then-matches-clause-no_fault : goal.returns-then-matches-clause-no_fault
-returns-then-matches-clause-no_fault g c = λ not_failed. c.in_ok-turn.ensures.no_fault (λ e. cc) ∙ c.loop-tried.invariant.quiet
-
-pub returns-then-matches-clause-appends_only : goal.returns-then-matches-clause-appends_only
-returns-then-matches-clause-appends_only g c = appends_further g.S.Sink.frame g.S.Sink.faults c.args.sink.now c.loop-tried.sink c.try_step.new.sink c.loop-tried.invariant.appends c.in_ok-turn.ensures.appends_only
+pub returns-then-matches-clause-leaves : goal.returns-then-matches-clause-leaves
+returns-then-matches-clause-leaves g c =
+    let job = g.J.Naming.job in
+    let q = table_of g.Q.Query.facts job in
+    let s = g.S.Sink in
+    let here_at = (goal.at.returns-then-matches-clause-leaves g c).After-pass_empty-empty in
+    let left = left_more q job s.written s.faults s.frame c.kind_at-kind.result c.in_ok-turn.turn c.args.self.now.state c.pass_empty-empty.new.self.state c.try_step.new.self.state c.args.sink.now c.loop-tried.sink c.try_step.new.sink (left_here g here_at) c.in_ok-turn.ensures.leaves in
+    left_all q job s.written s.faults s.frame _ _ c.args.self.now.state c.try_step.new.self.state c.args.sink.now c.try_step.new.sink left refl
 
 pub loop-tried-preserved-then-empty-gt0 : goal.loop-tried-preserved-then-empty-gt0
 loop-tried-preserved-then-empty-gt0 g c =
@@ -234,9 +212,7 @@ loop-tried-preserved-then-empty-gt0 g c =
       place = record { worker = was.place.worker; kind = inside };
       at = at_ahead o t c.args.draw tried empty job.shape place mid refl refl was.place inside was.at empty (omega arith);
       none = none_in_row o t c.args.draw tried empty job.shape place mid refl refl was.place inside was.at was.none was.still c.pass_empty-empty.ensures.none;
-      written = written_here g here_at;
-      quiet = was.quiet;
-      appends = was.appends;
+      left = left_here g here_at;
     }
 
 pub loop-tried-preserved : goal.loop-tried-preserved
@@ -259,21 +235,19 @@ loop-tried-preserved g c =
           let here_at = (goal.at.loop-tried-preserved g c).After-pass_empty-empty in
           let still = still_here g here_at in
           let new = c.try_step.new.self.state in
-          let lead = subst (λ (t : Turn). LeadsOn o (place ∷ []) (t ∷ []) mid new) idle c.in_ok-turn.ensures.turn in
+          let lead = subst (λ (t : Turn). LeadsOn o (place ∷ []) (t ∷ []) mid new) idle c.in_ok-turn.ensures.makes.turn in
           let was = c.loop-tried.invariant in
           record {
             made =
                 let none : made_count (turn_in c.in_ok-turn.turn ∷ []) ≡ 0 = subst (λ (t : Turn). made_count (t ∷ []) ≡ 0) (sym idle) refl in
-                let grown = c.in_ok-turn.ensures.counted in
+                let grown = c.in_ok-turn.ensures.makes.counted in
                 let before = made_here g here_at in
                 omega arith;
             still = leads_further o [] [] [] [] c.args.self.now.state mid new still (leads_nowhere o place mid new lead);
             place = subst (λ (s : Shape). IsPlaceIn s behind) shape c.place_after-place.ensures.place;
             at = goes_round (c.args.draw % n) c.loop-tried.tried (place_number job.shape behind) (place_number job.shape here) n was.at (subst (λ (m : ℕ). place_number job.shape behind ≡ (place_number job.shape here + 1) % m) (sym (as_many o job.shape refl refl)) number);
             none = none_more o c.args.self.now.state c.args.draw c.loop-tried.tried place mid new next still lead;
-            written = λ before had. c.in_ok-turn.ensures.written before (written_here g here_at before had);
-            quiet = c.in_ok-turn.ensures.no_fault (λ e. cc) ∙ was.quiet;
-            appends = appends_further g.S.Sink.frame g.S.Sink.faults c.args.sink.now c.loop-tried.sink c.try_step.new.sink was.appends c.in_ok-turn.ensures.appends_only;
+            left = left_more (table_of g.Q.Query.facts job) job g.S.Sink.written g.S.Sink.faults g.S.Sink.frame c.kind_at-kind.result c.in_ok-turn.turn c.args.self.now.state mid new c.args.sink.now c.loop-tried.sink c.try_step.new.sink (left_here g here_at) c.in_ok-turn.ensures.leaves;
           }
     ]
 
