@@ -9,6 +9,7 @@ use Rattle.mp_threads_member.specs.Driving.{IsFinished}
 use Rattle.mp_threads_member.specs.Members.{MemberState}
 use Rattle.mp_threads.specs.Crews.{AreByNumber, AreFinished, HasDoneNothing}
 use Rattle.mp_threads.specs.Places.{mark_of}
+use Rattle.mp_threads.specs.Runs.{ComeBack}
 use Rattle.mp_threads.specs.declared.back.Marked.{Marked}
 use Rattle.mp_threads.proofs.Lists.{all_at, all_head, as_many, numbers_same}
 
@@ -33,6 +34,10 @@ numbers_of_members : (ms : List MemberState) → map (λ (k : Marked). k.number)
 numbers_of_members [] = refl
 numbers_of_members (m ∷ ms) = ap (λ l. m.worker.number ∷ l) (numbers_of_members ms)
 
+if_ok : {V E : Type 0} (r : Result V E) (P Q : V → Type 0) → ((v : V) → P v → Q v) → IfOk r P → IfOk r Q
+if_ok (Ok v) P Q f p = f v p
+if_ok (Err e) P Q f p = tt
+
 -- workers with the marks of a crew, each finished, are all of it
 pub all_come_back : (o : Outline) (crew : List MemberState) (back : List WorkerState) → AreByNumber o.workers crew → map mark_of back ≡ map (λ (m : MemberState). mark_of m.worker) crew → All (IsFinished o) back → AreFinished o back
 all_come_back o crew back by marks finished =
@@ -43,11 +48,11 @@ all_come_back o crew back by marks finished =
       each = λ k s at. all_at (IsFinished o) back k s finished at;
     }
 
-pub all_come_back_if : {V E : Type 0} (r : Result V E) (items : V → List WorkerState) (o : Outline) (crew : List MemberState) → AreByNumber o.workers crew → IfOk r (λ v. map mark_of (items v) ≡ map (λ (m : MemberState). mark_of m.worker) crew) → IfOk r (λ v. All (IsFinished o) (items v)) → IfOk r (λ v. AreFinished o (items v))
-all_come_back_if (Ok v) items o crew by same finished = all_come_back o crew (items v) by same finished
-all_come_back_if (Err e) items o crew by same finished = tt
+module _ {V E : Type 0} (r : Result V E) (items : V → List WorkerState) (o : Outline) (marks : List Marked) where
+  -- where a run has its workers, they are all of the crew with these marks
+  pub all_come_back_if : (crew : List MemberState) → AreByNumber o.workers crew → marks ≡ map (λ (m : MemberState). mark_of m.worker) crew → IfOk r (λ v. ComeBack o marks (items v)) → IfOk r (λ v. AreFinished o (items v))
+  all_come_back_if crew by same come = if_ok r (λ v. ComeBack o marks (items v)) (λ v. AreFinished o (items v)) (λ v c. all_come_back o crew (items v) by (c.marks ∙ same) c.finished) come
 
--- the marks are those of a list, by another name
-pub marked_as : {V E : Type 0} (r : Result V E) (items : V → List WorkerState) (xs ys : List Marked) → xs ≡ ys → IfOk r (λ v. map mark_of (items v) ≡ xs) → IfOk r (λ v. map mark_of (items v) ≡ ys)
-marked_as (Ok v) items xs ys same is = is ∙ same
-marked_as (Err e) items xs ys same is = tt
+  -- the marks are those of a list, by another name
+  pub marked_as : (other : List Marked) → marks ≡ other → IfOk r (λ v. ComeBack o marks (items v)) → IfOk r (λ v. map mark_of (items v) ≡ other)
+  marked_as other same come = if_ok r (λ v. ComeBack o marks (items v)) (λ v. map mark_of (items v) ≡ other) (λ v c. c.marks ∙ same) come

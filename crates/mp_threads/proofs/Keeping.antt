@@ -1,6 +1,7 @@
 -- Workers that keep their steps, as they come back.
-use Rattle.std.proofs.Common.{◌≡◌, ℕ, zero, suc, ◌+◌, Bool, true, false, List, [], ◌∷◌, All, Option, Some, None, length, refl, sym, ap, ◌∙◌, subst, arith}
-use Rattle.std.specs.Prelude.{is_some, map, slice_get}
+use Rattle.std.proofs.Common.{◌≡◌, ℕ, zero, suc, ◌+◌, Bool, true, false, List, [], ◌∷◌, All, Option, Some, None, Ok, Err, length, refl, sym, ap, ◌∙◌, subst, arith}
+use Rattle.std.specs.Prelude.{IfOk, is_some, map, slice_get}
+use Rattle.std.specs.declared.result.Result.{Result}
 use Rattle.std.specs.Option.{unwrap_or}
 use Rattle.mp_names.specs.Outlines.{Outline}
 use Rattle.mp_names.specs.declared.kinds.Kept.{Kept}
@@ -8,6 +9,7 @@ use Rattle.mp_journal_laws.specs.Telling.{KeptTellFullLog}
 use Rattle.mp_worker_refinement.specs.State.{WorkerState}
 use Rattle.mp_threads_member.specs.Below.{no_steps}
 use Rattle.mp_threads_member.specs.Members.{MemberState}
+use Rattle.mp_threads.specs.Journals.{AreKept, TellFullLogs}
 use Rattle.mp_threads.specs.Places.{mark_of}
 use Rattle.mp_threads.specs.declared.back.Marked.{Marked}
 
@@ -40,3 +42,25 @@ pub each_of_map : {A B : Type 0} (P : ℕ → B → Type 0) (f : A → B) (xs : 
 each_of_map P f [] each k y at = absurd cc
 each_of_map P f (x ∷ xs) each zero y at = let same : f x ≡ y = cc in subst (P 0) same (each 0 x refl)
 each_of_map P f (x ∷ xs) each (suc k) y at = each_of_map (λ j. P (suc j)) f xs (λ j z e. each (suc j) z e) k y at
+
+-- the steps that are kept, where they are asked for
+pub kept_as_asked : {V E : Type 0} (r : Result V E) (lists : V → List (List Kept)) (o : Outline) (keeps : Bool) → keeps ≡ true → IfOk r (λ v. TellFullLogs o (lists v)) → IfOk r (λ v. AreKept o keeps (lists v))
+kept_as_asked (Ok v) lists o keeps is told = subst (λ (b : Bool). AreKept o b (lists v)) (sym is) told
+kept_as_asked (Err e) lists o keeps is told = tt
+
+-- nothing is kept, where none are asked for
+pub none_as_asked : {A : Type 0} (o : Outline) (f : A → List Kept) (keeps : Bool) (lists : List A) → keeps ≡ false → lists ≡ [] → AreKept o keeps (map f lists)
+none_as_asked {A} o f keeps lists is none = subst (λ (b : Bool). AreKept o b (map f lists)) (sym is) (ap (map f) none)
+
+module _ (o : Outline) {A : Type 0} (f : A → List Kept) (keeps : Bool) (lists : List A) where
+  -- where steps are kept, all are told
+  pub kept_tell : AreKept o keeps (map f lists) → keeps ≡ true → TellFullLogs o (map f lists)
+  kept_tell kept is = subst (λ (b : Bool). AreKept o b (map f lists)) is kept
+
+  -- and where none are, there is nothing
+  pub none_is_kept : AreKept o keeps (map f lists) → keeps ≡ false → lists ≡ []
+  none_is_kept kept is = nil_of_map lists (subst (λ (b : Bool). AreKept o b (map f lists)) is kept)
+    where
+      nil_of_map : (xs : List A) → map f xs ≡ [] → xs ≡ []
+      nil_of_map [] e = refl
+      nil_of_map (x ∷ xs) e = absurd cc

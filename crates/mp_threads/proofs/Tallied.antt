@@ -1,14 +1,17 @@
 -- What a worker that is finished tells, and lists of what workers tell.
-use Rattle.std.proofs.Common.{◌≡◌, ℕ, zero, suc, ◌<◌, List, [], ◌∷◌, ◌++◌, All, Some, Ok, Err, length, sym, ap, subst, arith, get_or}
+use Rattle.std.proofs.Common.{◌≡◌, ℕ, zero, suc, ◌<◌, List, [], ◌∷◌, ◌++◌, ◌∙◌, All, Some, Ok, Err, length, sym, ap, subst, arith, get_or}
 use Rattle.std.specs.Prelude.{IfOk, map, slice_get}
 use Rattle.std.specs.declared.result.Result.{Result}
 use Rattle.mp_names.specs.Logs.{Log, LogIsLegal}
 use Rattle.mp_names.specs.Outlines.{OutlineIsSound}
 use Rattle.mp_machine.specs.Promises.{LogIsFull}
+use Rattle.mp_job.specs.Runs.{IsRunOf}
 use Rattle.mp_model.specs.Facts.{JobFacts, QueryFacts}
+use Rattle.mp_model.specs.Tables.{table_of}
 use Rattle.mp_outline.specs.JobOutline.{outline_of}
+use Rattle.mp_threads_member.specs.Below.{tally_of_job}
 use Rattle.mp_tally.specs.declared.tally.Tally.{Tally}
-use Rattle.mp_tally.specs.Tallies.{IsTallyOf, MovedHasKeys, name_of_moved, sent_packets}
+use Rattle.mp_tally.specs.Tallies.{AreTalliesOf, IsTallyOf, MovedHasKeys, name_of_moved, sent_packets}
 use Rattle.mp_tally.proofs.Lists.{push_all}
 use Rattle.mp_tally.proofs.Told.{full_is_tallied}
 
@@ -31,3 +34,11 @@ module _ {Cell : Type 0} (q : QueryFacts Cell) (job : JobFacts) (ok : OutlineIsS
       → IfOk r (λ t. IsTallyOf q job w t)
   told_where_full w log (Ok t) legal full groups moved keys = full_is_tallied q job ok w log t legal full (record { groups = groups; moved = moved; keys = keys })
   told_where_full w log (Err e) legal full groups moved keys = tt
+
+-- tallies of a run are the job's
+module _ {Cell : Type 0} (facts : List ℕ → QueryFacts Cell) (its job : JobFacts) (run : IsRunOf its job) where
+  pub tallies_of_run : (tallies : List Tally) → AreTalliesOf (table_of facts job) job tallies → AreTalliesOf (table_of facts its) its tallies
+  tallies_of_run tallies are = record {
+    all = are.all ∙ sym (ap (λ (f : JobFacts). f.shape.workers) run);
+    each = λ w t at. tally_of_job facts its job run w t (are.each w t at);
+  }

@@ -2,3 +2,4 @@
 pub mod Crews
 pub mod Journals
 pub mod Places
+pub mod Runs

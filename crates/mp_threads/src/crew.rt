@@ -1,16 +1,9 @@
 //! The workers of a job, made for threads.
-ghost use Rattle.std.specs.Prelude.{◌≡◌, ◌<◌, [], ℕ, All, IfOk, Some, false, length, map, replicate, slice_get, true};
-ghost use Rattle.mp_names.specs.Logs.{empty_log};
-ghost use Rattle.mp_job.specs.Runs.{IsRunOf};
+ghost use Rattle.std.specs.Prelude.{◌<◌, All, IfOk, false, true};
 ghost use Rattle.mp_model.specs.Tables.{table_of};
 ghost use Rattle.mp_outline.specs.JobOutline.{outline_of};
-ghost use Rattle.mp_output.specs.Rows.{GivesRows};
-ghost use Rattle.mp_worker_refinement.specs.Laws.{IsNewWorker};
-ghost use Rattle.mp_worker_refinement.specs.State.{WorkerState};
-ghost use Rattle.mp_ruled.specs.Posts.{AreLinked, AreNewPosts, StandForNone};
-ghost use Rattle.mp_threads_hub.specs.Hubs.{AreNewHubs, AreOfOneLock};
-ghost use Rattle.mp_threads_member.specs.Below.{no_steps};
-ghost use Rattle.mp_threads.specs.Crews.{AreByNumber, HasDoneNothing, posts_of, seats_of};
+ghost use Rattle.mp_worker.specs.Plans.{MayRun};
+ghost use Rattle.mp_threads.specs.Crews.{AreByNumber, ArePartsOf, HasDoneNothing, IsMadeOf, IsNewCrew};
 
 use mp_board::{Board, OutlineOf};
 use mp_job::Job;
@@ -33,7 +26,6 @@ pub struct Crew<'a, Q: Query, J: Naming, R> {
 impl<'a, Q: Query, J: Naming, R> Model for Crew<'a, Q, J, R> {
     ghost use Rattle.std.specs.Prelude.{List, ◌<◌};
     ghost use Rattle.mp_threads_member.specs.Members.{MemberState};
-    ghost use Rattle.mp_threads_member.specs.Below.{no_steps};
     ghost use Rattle.mp_threads.specs.Crews.{AreByNumber};
 
     ghost Value = { List MemberState };
@@ -44,22 +36,18 @@ impl<'a, Q: Query, J: Naming, R> Model for Crew<'a, Q, J, R> {
 }
 
 impl<'a, Q: Query, J: Naming, R: Copy + Drop> Crew<'a, Q, J, R> {
-    /// Workers that have done nothing. Between each two of them is a mailbox that takes `depth` messages, with its ends at
-    /// these two; their seats are at one board. They wait by `rt`. The query's last stage gives rows alone. `AllocError`: no memory.
+    /// Workers that have done nothing, and keep no steps. Between each two of them is a mailbox that takes `depth` messages, with
+    /// its ends at these two; their seats are at one board. They wait by `rt`. The query's last stage gives rows alone.
+    /// `AllocError`: no memory.
     pub fn open(
         rt: R,
         alloc: Global,
         job: &'a Job<Q>,
         depth: u32,
     ) -> Result<Crew<'a, Q, J, R>, AllocError>
-        requires job { IsRunOf job.now J.job }
-        requires pace { J.job.paced ≡ false }
-        requires rows { GivesRows (table_of Q.facts J.job) }
+        requires run { MayRun (table_of Q.facts J.job) job.now J.job false }
         requires depth { 0 < depth }
-        ensures start { IfOk result (λ crew. All HasDoneNothing crew) }
-        ensures depth { IfOk result (λ crew. AreNewPosts J.job.shape.workers depth (posts_of crew)) }
-        ensures linked { IfOk result (λ crew. AreLinked (posts_of crew)) }
-        ensures one_lock { IfOk result (λ crew. AreOfOneLock (seats_of crew)) }
+        ensures new { IfOk result (λ crew. IsNewCrew J.job.shape.workers depth false crew) }
     {
         let paced = false;
         let keeps = false;
@@ -78,14 +66,9 @@ impl<'a, Q: Query, J: Naming, R: Copy + Drop> Crew<'a, Q, J, R> {
         job: &'a Job<Q>,
         depth: u32,
     ) -> Result<Crew<'a, Q, J, R>, AllocError>
-        requires job { IsRunOf job.now J.job }
-        requires pace { J.job.paced ≡ true }
-        requires rows { GivesRows (table_of Q.facts J.job) }
+        requires run { MayRun (table_of Q.facts J.job) job.now J.job true }
         requires depth { 0 < depth }
-        ensures start { IfOk result (λ crew. All HasDoneNothing crew) }
-        ensures depth { IfOk result (λ crew. AreNewPosts J.job.shape.workers depth (posts_of crew)) }
-        ensures linked { IfOk result (λ crew. AreLinked (posts_of crew)) }
-        ensures one_lock { IfOk result (λ crew. AreOfOneLock (seats_of crew)) }
+        ensures new { IfOk result (λ crew. IsNewCrew J.job.shape.workers depth false crew) }
     {
         let paced = true;
         let keeps = false;
@@ -97,22 +80,16 @@ impl<'a, Q: Query, J: Naming, R: Copy + Drop> Crew<'a, Q, J, R> {
         Crew::open_by(rt, alloc, job, plan)
     }
 
-    // Workers that have done nothing, for a run by this plan.
+    // Workers that have done nothing, for a run by this plan, which says whether they keep their steps.
     pub(crate) fn open_by(
         rt: R,
         alloc: Global,
         job: &'a Job<Q>,
         plan: RunPlan,
     ) -> Result<Crew<'a, Q, J, R>, AllocError>
-        requires job { IsRunOf job.now J.job }
-        requires pace { J.job.paced ≡ plan.paced }
-        requires rows { GivesRows (table_of Q.facts J.job) }
+        requires run { MayRun (table_of Q.facts J.job) job.now J.job plan.paced }
         requires depth { 0 < plan.depth }
-        ensures start { IfOk result (λ crew. All HasDoneNothing crew) }
-        ensures depth { IfOk result (λ crew. AreNewPosts J.job.shape.workers plan.depth (posts_of crew)) }
-        ensures linked { IfOk result (λ crew. AreLinked (posts_of crew)) }
-        ensures one_lock { IfOk result (λ crew. AreOfOneLock (seats_of crew)) }
-        ensures keep { IfOk result (λ crew. All (λ m. m.worker.steps ≡ no_steps plan.keeps) crew) }
+        ensures new { IfOk result (λ crew. IsNewCrew J.job.shape.workers plan.depth plan.keeps crew) }
     {
         let board = Board::open(alloc, job)?;
         let seen = board.seen();
@@ -132,18 +109,10 @@ fn new_members<'a, Q: Query, J: Naming, R: Drop>(
     posts: Vec<RuledPost<Msg<Q, J>, R>>,
     hubs: Vec<SeatHub<OutlineOf<Q, J>>>,
 ) -> Result<Vec<Member<'a, Q, J, R>>, AllocError>
-    requires workers { let o = outline_of (table_of Q.facts J.job) J.job in
-        (length workers.items ≡ J.job.shape.workers)
-        × ((w : ℕ) (s : WorkerState) → slice_get workers.items w ≡ Some s → IsNewWorker o w s) }
-    requires posts { (length posts.items ≡ J.job.shape.workers) × StandForNone (λ xs. xs) posts.items }
-    requires new_posts { (depth : ℕ) × AreNewPosts J.job.shape.workers depth posts.items }
-    requires hubs { (version : ℕ) × (length hubs.items ≡ J.job.shape.workers)
-        × AreNewHubs (replicate J.job.shape.workers empty_log) version hubs.items }
+    requires parts { ArePartsOf (outline_of (table_of Q.facts J.job) J.job) workers.items posts.items hubs.items }
     ensures numbers { IfOk result (λ members. AreByNumber J.job.shape.workers members.items) }
-    ensures new { IfOk result (λ members. All HasDoneNothing members.items) }
-    ensures posts { IfOk result (λ members. posts_of members.items ≡ posts.items) }
-    ensures seats { IfOk result (λ members. seats_of members.items ≡ hubs.items) }
-    ensures workers { IfOk result (λ members. map (λ m. m.worker) members.items ≡ workers.entry.items) }
+    ensures start { IfOk result (λ members. All HasDoneNothing members.items) }
+    ensures made { IfOk result (λ members. IsMadeOf workers.entry.items posts.items hubs.items members.items) }
 {
     let count = workers.len();
     let mut members = Vec::with_capacity(alloc, count)?;

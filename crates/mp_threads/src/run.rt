@@ -1,15 +1,15 @@
 //! Workers on threads of a scope.
-ghost use Rattle.std.specs.Prelude.{◌≡◌, ◌+◌, ◌<◌, ◌≤◌, ◌∷◌, [], All, Err, IfErr, IfOk, IsTrue, Ok, OnErr, OnOk, false, length, map, true, vec_capacity};
+ghost use Rattle.std.specs.Prelude.{◌≡◌, ◌<◌, ◌≤◌, ◌↔◌, ◌∷◌, [], All, Err, IfOk, IsTrue, Ok, OnErr, length, map, true, vec_capacity};
 ghost use Rattle.std.specs.Vec.Iter.{into_iter_items};
 ghost use Rattle.mp_model.specs.Tables.{table_of};
 ghost use Rattle.mp_outline.specs.JobOutline.{outline_of};
 ghost use Rattle.mp_board.specs.declared.causes.Cause.TheVariants.{Write};
 ghost use Rattle.mp_threads_member.specs.Below.TheVariants as own;
 ghost use Rattle.mp_threads_member.specs.declared.drive.Round.TheVariants.{Over};
-ghost use Rattle.mp_threads_member.specs.Driving.{Drives, IsFinished, IsTold};
-ghost use Rattle.mp_threads.specs.Crews.{AreFinished, HasDoneNothing};
+ghost use Rattle.mp_threads_member.specs.Driving.{IsFinished};
+ghost use Rattle.mp_threads.specs.Crews.{HasDoneNothing};
 ghost use Rattle.mp_threads.specs.Places.{OneHasTold, mark_at, mark_of, worker_in};
-ghost use Rattle.mp_answer_laws.specs.Runs.{RunLeaves};
+ghost use Rattle.mp_threads.specs.Runs.{AreDriven, ComeBack, EndsAs, HaveRun};
 
 use crate::Crew;
 use crate::place::{Placed, finish, turn_here};
@@ -46,11 +46,8 @@ pub fn run_workers<
     sink: &mut S,
 ) -> Result<Vec<Worker<'a, Q, J>>, Cause>
     requires start { All HasDoneNothing crew }
-    ensures finished { let o = outline_of (table_of Q.facts J.job) J.job in
-        IfOk result (λ workers. AreFinished o workers.items) }
-    ensures marks { IfOk result (λ workers. map mark_of workers.items ≡ map (λ m. mark_of m.worker) crew.entry) }
-    ensures leaves { let q = table_of Q.facts J.job in
-        RunLeaves q J.job S.written S.faults S.frame result sink.old sink.new }
+    ensures run { HaveRun (table_of Q.facts J.job) J.job S.written S.faults S.frame
+        crew.entry result sink.old sink.new }
 {
     // What is written through a captured `&mut` is known only where it comes back with the result.
     let (result, _sink) = thread::scope(
@@ -59,11 +56,8 @@ pub fn run_workers<
         move |scope| -> (Result<Vec<Worker<Q, J>>, Cause>, &mut S)
             requires start { All HasDoneNothing crew }
             ensures same_reference { result.1.ghost_name ≡ sink.entry.ghost_name }
-            ensures finished { let o = outline_of (table_of Q.facts J.job) J.job in
-                IfOk result.0 (λ workers. AreFinished o workers.items) }
-            ensures marks { IfOk result.0 (λ workers. map mark_of workers.items ≡ map (λ m. mark_of m.worker) crew.entry) }
-            ensures leaves { let q = table_of Q.facts J.job in
-                RunLeaves q J.job S.written S.faults S.frame result.0 sink.entry.now result.1.now }
+            ensures run { HaveRun (table_of Q.facts J.job) J.job S.written S.faults S.frame
+                crew.entry result.0 sink.entry.now result.1.now }
         {
             let result = run_in(scope, rt, alloc, crew, gate, sink);
             (result, sink)
@@ -92,11 +86,8 @@ fn run_in<
     sink: &mut S,
 ) -> Result<Vec<Worker<'a, Q, J>>, Cause>
     requires start { All HasDoneNothing crew }
-    ensures finished { let o = outline_of (table_of Q.facts J.job) J.job in
-        IfOk result (λ workers. AreFinished o workers.items) }
-    ensures marks { IfOk result (λ workers. map mark_of workers.items ≡ map (λ m. mark_of m.worker) crew.entry) }
-    ensures leaves { let q = table_of Q.facts J.job in
-        RunLeaves q J.job S.written S.faults S.frame result sink.old sink.new }
+    ensures run { HaveRun (table_of Q.facts J.job) J.job S.written S.faults S.frame
+        crew.entry result sink.old sink.new }
 {
     let Crew { members } = crew;
     let Ok(places) = Vec::with_capacity(alloc, members.len()) else {
@@ -129,13 +120,9 @@ fn finish_all<'a, Q: Query, J: Naming, R: Wait + Drop, T: Threads + Wait, G: Gat
     requires first { driven ≡ Ok true → IsFinished (outline_of (table_of Q.facts J.job) J.job) first }
     requires done { done.items ≡ [] }
     requires room { length places.items < vec_capacity done }
-    ensures over { OnOk result (driven ≡ Ok true) }
-    ensures write { result ≡ Err Write → driven ≡ Err own.Write }
-    ensures memory { driven ≡ Err own.Write → result ≡ Err Write }
-    ensures marks { IfOk result (λ workers.
-        map mark_of workers.items ≡ mark_of first.entry ∷ map mark_at places.entry.items) }
-    ensures finished { let o = outline_of (table_of Q.facts J.job) J.job in
-        IfOk result (λ workers. All (IsFinished o) workers.items) }
+    ensures ends { EndsAs driven result }
+    ensures back { let o = outline_of (table_of Q.facts J.job) J.job in IfOk result (λ workers.
+        ComeBack o (mark_of first.entry ∷ map mark_at places.entry.items) workers.items) }
 {
     let mut all = is_over(driven);
     done.push_reserved(first);
@@ -175,8 +162,7 @@ fn is_over(driven: Result<bool, Stop>) -> bool
 
 // Worker 0's own write failed; every other stop is for want of memory.
 fn cause_of(driven: Result<bool, Stop>) -> Cause
-    ensures write { result ≡ Write → driven ≡ Err own.Write }
-    ensures memory { driven ≡ Err own.Write → result ≡ Write }
+    ensures { (result ≡ Write) ↔ (driven ≡ Err own.Write) }
 {
     match driven {
         Err(Stop::Write) => Cause::Write,
@@ -205,8 +191,7 @@ fn settle_all<
     requires empty { places.items ≡ [] }
     requires room { length (into_iter_items members) ≤ vec_capacity places }
     requires start { All HasDoneNothing (into_iter_items members) }
-    ensures many { length result.items ≡ length (into_iter_items members.entry) }
-    ensures marks { map mark_at result.items ≡ map (λ m. mark_of m.worker) (into_iter_items members.entry) }
+    ensures { map mark_at result.items ≡ map (λ m. mark_of m.worker) (into_iter_items members.entry) }
 {
     for member in members {
         places.push_reserved(settle(scope, rt, alloc, gate, member));
@@ -224,14 +209,9 @@ fn drive_here<'a, Q: Query, J: Naming, R: Wait + Drop, T: Wait, G: Gate, S: Sink
     gate: &G,
     sink: &mut S,
 ) -> Result<bool, Stop>
-    ensures many { length places.new ≡ length places.old }
     ensures marks { map mark_at places.new ≡ map mark_at places.old }
-    ensures finished { result ≡ Ok true
-        → IsFinished (outline_of (table_of Q.facts J.job) J.job) first.new.worker }
-    ensures drives { Drives (table_of Q.facts J.job) J.job S.written S.faults S.frame
-        result first.old first.new sink.old sink.new }
-    ensures told { IfErr result (λ stop. IsTold stop first.new.hub) }
-    ensures other { result ≡ Ok false → OneHasTold places.new }
+    ensures driven { AreDriven (table_of Q.facts J.job) J.job S.written S.faults S.frame
+        result first.old first.new places.new sink.old sink.new }
 {
     let pause = Pause::new();
     for _ in rt.forever() {
@@ -254,7 +234,6 @@ fn turn_all<'a, Q: Query, J: Naming, R: Wait + Drop, T: Wait, G: Gate>(
     rt: &T,
     gate: &G,
 ) -> Result<Round, Stop>
-    ensures many { length places.new ≡ length places.old }
     ensures marks { map mark_at places.new ≡ map mark_at places.old }
     ensures told { OnErr result (OneHasTold places.new) }
 {

@@ -1,5 +1,5 @@
 //! A whole run by threads, with what the bins have at its end.
-ghost use Rattle.std.specs.Prelude.{◌≡◌, ◌<◌, ℕ, IfOk, Some, length, map, slice_get};
+ghost use Rattle.std.specs.Prelude.{◌<◌, IfOk, map};
 ghost use Rattle.mp_job.specs.Runs.{IsRunOf};
 ghost use Rattle.mp_model.specs.Tables.{table_of};
 ghost use Rattle.mp_msg.specs.LastStates.{AreAllStates};

@@ -1,14 +1,13 @@
 //! A whole run by threads, with what each worker has done.
-ghost use Rattle.std.specs.Prelude.{◌≡◌, ◌<◌, [], ℕ, All, IfOk, Some, false, is_some, length, map, slice_get, true};
+ghost use Rattle.std.specs.Prelude.{◌≡◌, ◌<◌, [], IfOk, false, is_some, map, true};
 ghost use Rattle.mp_job.specs.Runs.{IsRunOf};
 ghost use Rattle.mp_model.specs.Tables.{table_of};
 ghost use Rattle.mp_outline.specs.JobOutline.{outline_of};
-ghost use Rattle.mp_tally.specs.declared.tally.Tally.{Tally as Told};
 ghost use Rattle.mp_tally.specs.Tallies.{AreTalliesOf, IsTallyOf};
 ghost use Rattle.mp_threads_member.specs.Driving.{IsFinished};
 ghost use Rattle.mp_journal_laws.specs.Telling.{KeptTellFullLog};
-ghost use Rattle.mp_threads.specs.Crews.{AreFinished};
-ghost use Rattle.mp_threads.specs.Journals.{TellFullLogs};
+ghost use Rattle.mp_threads.specs.Crews.{AreFinished, AreFinishedKeeping};
+ghost use Rattle.mp_threads.specs.Journals.{AreKept, TellFullLogs};
 ghost use Rattle.mp_answer_laws.specs.Runs.{RunLeaves};
 ghost use Rattle.mp_worker.specs.Plans.{MayRun};
 
@@ -79,12 +78,10 @@ fn told_by<Q: Query, J: Naming>(
     keeps: bool,
 ) -> Result<Ended, AllocError>
     requires job { IsRunOf job.now J.job }
-    requires finished { AreFinished (outline_of (table_of Q.facts J.job) J.job) workers.items }
-    requires keeps { All (λ s. is_some s.steps ≡ keeps) workers.items }
+    requires finished { AreFinishedKeeping (outline_of (table_of Q.facts J.job) J.job) keeps workers.items }
     ensures tallies { IfOk result (λ run. AreTalliesOf (table_of Q.facts J.job) J.job run.tallies.items) }
-    ensures kept { keeps ≡ true → IfOk result (λ run.
-        TellFullLogs (outline_of (table_of Q.facts J.job) J.job) (map (λ v. v.items) run.kept.items)) }
-    ensures none_kept { keeps ≡ false → IfOk result (λ run. run.kept.items ≡ []) }
+    ensures kept { let o = outline_of (table_of Q.facts J.job) J.job in
+        IfOk result (λ run. AreKept o keeps (map (λ v. v.items) run.kept.items)) }
 {
     let tallies = tallies_of(alloc, job, workers.as_slice())?;
     let kept = kept_by(alloc, workers, keeps)?;
@@ -97,11 +94,9 @@ fn kept_by<Q: Query, J: Naming>(
     workers: Vec<Worker<Q, J>>,
     keeps: bool,
 ) -> Result<Vec<Vec<Kept>>, AllocError>
-    requires finished { AreFinished (outline_of (table_of Q.facts J.job) J.job) workers.items }
-    requires keeps { All (λ s. is_some s.steps ≡ keeps) workers.items }
-    ensures kept { keeps ≡ true → IfOk result (λ kept.
-        TellFullLogs (outline_of (table_of Q.facts J.job) J.job) (map (λ v. v.items) kept.items)) }
-    ensures none_kept { keeps ≡ false → IfOk result (λ kept. kept.items ≡ []) }
+    requires finished { AreFinishedKeeping (outline_of (table_of Q.facts J.job) J.job) keeps workers.items }
+    ensures { let o = outline_of (table_of Q.facts J.job) J.job in
+        IfOk result (λ kept. AreKept o keeps (map (λ v. v.items) kept.items)) }
 {
     if keeps {
         steps_of(alloc, workers)
@@ -115,8 +110,7 @@ fn steps_of<Q: Query, J: Naming>(
     alloc: Global,
     workers: Vec<Worker<Q, J>>,
 ) -> Result<Vec<Vec<Kept>>, AllocError>
-    requires finished { AreFinished (outline_of (table_of Q.facts J.job) J.job) workers.items }
-    requires keep { All (λ s. is_some s.steps ≡ true) workers.items }
+    requires finished { AreFinishedKeeping (outline_of (table_of Q.facts J.job) J.job) true workers.items }
     ensures { IfOk result (λ kept.
         TellFullLogs (outline_of (table_of Q.facts J.job) J.job) (map (λ v. v.items) kept.items)) }
 {
@@ -145,9 +139,7 @@ pub(crate) fn tallies_of<Q: Query, J: Naming>(
 ) -> Result<Vec<Tally>, AllocError>
     requires job { IsRunOf job.now J.job }
     requires finished { AreFinished (outline_of (table_of Q.facts J.job) J.job) workers.now }
-    ensures all { IfOk result (λ tallies. length tallies.items ≡ J.job.shape.workers) }
-    ensures tallies { IfOk result (λ tallies. (w : ℕ) (t : Told) → slice_get tallies.items w ≡ Some t
-        → IsTallyOf (table_of Q.facts J.job) J.job w t) }
+    ensures { IfOk result (λ tallies. AreTalliesOf (table_of Q.facts J.job) J.job tallies.items) }
 {
     let mut tallies = Vec::with_capacity(alloc, workers.len())?;
     for worker in workers {

@@ -1,4 +1,4 @@
-use Rattle.std.proofs.Common.{◌≡◌, ◌∙◌, ◌++◌, ◌∷◌, [], ap, arith, length, map, rules, sym}
+use Rattle.std.proofs.Common.{◌≡◌, ◌∙◌, ◌++◌, ◌∷◌, [], Err, ap, arith, length, map, rules, sym}
 use Rattle.std.specs.Vec.Iter.{into_iter_items}
 use Rattle.std.proofs.lemmas.List.{append-nil, nil_from_length}
 use Rattle.mp_outline.specs.JobOutline.{outline_of}
@@ -50,14 +50,20 @@ loop-place-preserved g c =
       finished = λ all. absurd cc;
     }
 
-pub returns-then-all-clause-marks : goal.returns-then-all-clause-marks
-returns-then-all-clause-marks g c =
+pub returns-then-all-clause-ends : goal.returns-then-all-clause-ends
+returns-then-all-clause-ends g c =
+    let over = c.loop-place.invariant.over c.if-all.true in
+    record { over = over; write = ((λ e. absurd cc), λ e. let same = sym over ∙ e in absurd cc) }
+
+pub returns-then-all-clause-back : goal.returns-then-all-clause-back
+returns-then-all-clause-back g c =
+    let i = c.loop-place.invariant in
     let marks = map mark_of c.loop-place.done.items in
     let over = nil_from_length (into_iter_items c.loop-place.place-iterator) (sym c.loop-place.place-iterator.rest.ok.0 ∙ c.in-None.ensures.steps.0) in
-    sym (append-nil marks) ∙ ap (λ left. marks ++ map mark_at left) (sym over) ∙ c.loop-place.invariant.marks c.if-all.true
+    record {
+      marks = sym (append-nil marks) ∙ ap (λ left. marks ++ map mark_at left) (sym over) ∙ i.marks c.if-all.true;
+      finished = i.finished c.if-all.true;
+    }
 
-pub returns-then-all-clause-over : goal.returns-then-all-clause-over
-returns-then-all-clause-over g c = c.loop-place.invariant.over c.if-all.true
-
-pub returns-then-all-clause-finished : goal.returns-then-all-clause-finished
-returns-then-all-clause-finished g c = c.loop-place.invariant.finished c.if-all.true
+pub returns-clause-ends : goal.returns-clause-ends
+returns-clause-ends g c = record { over = tt; write = ((λ e. c.cause_of.ensures.0 cc), λ e. ap Err (c.cause_of.ensures.1 e)) }

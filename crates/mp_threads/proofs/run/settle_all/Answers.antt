@@ -1,6 +1,6 @@
 use Rattle.std.proofs.Common.{◌∙◌, ◌++◌, ap, arith, length, map, rules, sym}
 use Rattle.std.specs.Vec.Iter.{into_iter_items}
-use Rattle.std.proofs.lemmas.List.{append-nil, length-map, nil_from_length}
+use Rattle.std.proofs.lemmas.List.{append-nil, nil_from_length}
 use Rattle.mp_threads.specs.Crews.{HasDoneNothing}
 use Rattle.mp_threads.specs.Places.{mark_at, mark_of}
 use Rattle.mp_threads.proofs.Lists.{all_head, all_tail, passed_on, room_left}
@@ -21,12 +21,8 @@ loop-member-preserved g c =
 pub settle-requires-clause-start : goal.settle-requires-clause-start
 settle-requires-clause-start g c κs within = all_head HasDoneNothing _ _ _ c.in-Some.ensures.steps.0 c.loop-member.invariant.start
 
-pub returns-clause-marks : goal.returns-clause-marks
-returns-clause-marks g c =
+pub returns : goal.returns
+returns g c =
     let settled = map mark_at c.loop-member.places.items in
     let over = nil_from_length (into_iter_items c.loop-member.member-iterator) (sym c.loop-member.member-iterator.rest.ok.0 ∙ c.in-None.ensures.steps.0) in
     sym (append-nil settled) ∙ ap (λ left. settled ++ map (λ m. mark_of m.worker) left) (sym over) ∙ c.loop-member.invariant.marks
-
-pub returns-clause-many : goal.returns-clause-many
-returns-clause-many g c =
-    sym (length-map c.loop-member.places.items mark_at) ∙ ap length (returns-clause-marks g c) ∙ length-map (into_iter_items c.args.members) (λ m. mark_of m.worker)

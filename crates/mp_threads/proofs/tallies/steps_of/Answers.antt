@@ -27,20 +27,20 @@ loop-worker-preserved g c =
       many = let taken = ap length s in omega (arith, longer, taken, i.many);
       room = room_left _ _ _ _ _ _ _ _ pushed.items s (let e = pushed.capacity in omega arith) i.room;
       told = one_more_at (λ w v. KeptTellFullLog o w v.items) _ c.loop-worker.kept.items c.steps_in.result n pushed.items refl i.told
-          (subst (λ (w : ℕ). KeptTellFullLog o w c.steps_in.result.items) (c.requires.finished.numbers n c.in-Some.worker next.0) c.steps_in.ensures);
+          (subst (λ (w : ℕ). KeptTellFullLog o w c.steps_in.result.items) (c.requires.finished.finished.numbers n c.in-Some.worker next.0) c.steps_in.ensures);
     }
 
 pub steps_in-requires-clause-finished : goal.steps_in-requires-clause-finished
 steps_in-requires-clause-finished g c κs within =
     let i = c.loop-worker.invariant in
     let n = length c.loop-worker.kept.items in
-    c.requires.finished.each n c.in-Some.worker (took_next n c.args.workers.items c.in-Some.worker _ (sym i.left ∙ c.in-Some.ensures.steps.0)).0
+    c.requires.finished.finished.each n c.in-Some.worker (took_next n c.args.workers.items c.in-Some.worker _ (sym i.left ∙ c.in-Some.ensures.steps.0)).0
 
 pub steps_in-requires-clause-keeps : goal.steps_in-requires-clause-keeps
 steps_in-requires-clause-keeps g c κs within =
     let i = c.loop-worker.invariant in
     let n = length c.loop-worker.kept.items in
-    all_at (λ (s : WorkerState). is_some s.steps ≡ true) c.args.workers.items n c.in-Some.worker c.requires.keep (took_next n c.args.workers.items c.in-Some.worker _ (sym i.left ∙ c.in-Some.ensures.steps.0)).0
+    all_at (λ (s : WorkerState). is_some s.steps ≡ true) c.args.workers.items n c.in-Some.worker c.requires.finished.keep (took_next n c.args.workers.items c.in-Some.worker _ (sym i.left ∙ c.in-Some.ensures.steps.0)).0
 
 pub returns : goal.returns
 returns g c =
@@ -49,6 +49,6 @@ returns g c =
     let over = nil_from_length (into_iter_items c.loop-worker.worker-iterator) (sym c.loop-worker.worker-iterator.rest.ok.0 ∙ c.in-None.ensures.steps.0) in
     let none = ap length over in
     record {
-      all = length-map c.loop-worker.kept.items (λ v. v.items) ∙ (let e = i.many in omega (arith, e, none)) ∙ c.requires.finished.all;
+      all = length-map c.loop-worker.kept.items (λ v. v.items) ∙ (let e = i.many in omega (arith, e, none)) ∙ c.requires.finished.finished.all;
       each = each_of_map (KeptTellFullLog o) (λ v. v.items) c.loop-worker.kept.items i.told;
     }

@@ -1,4 +1,4 @@
-use Rattle.std.proofs.Common.{[], ◌∷◌, ap, arith, length, length-append, subst, ℕ}
+use Rattle.std.proofs.Common.{[], ◌∷◌, ◌∙◌, ◌≡◌, ap, arith, length, length-append, subst, ℕ}
 use Rattle.mp_tally.specs.Tallies.{IsTallyOf}
 use Rattle.mp_threads.proofs.Tallied.{one_more_at, stands_at}
 use Rattle.mp_threads.proofs.tallies.tallies_of.Goals as goal
@@ -29,3 +29,9 @@ loop-worker-preserved g c =
       tallies = one_more_at (IsTallyOf q job) _ tallies tally index pushed.items i.many i.tallies
           (subst (λ (w : ℕ). IsTallyOf q job w tally) (c.requires.finished.numbers index worker at) c.in_ok-tally_of.ensures);
     }
+
+pub returns : goal.returns
+returns g c =
+    let i = c.loop-worker.invariant in
+    let all : length c.loop-worker.tallies.items ≡ length c.args.workers.now = omega (arith, i.many, c.loop-worker-test.false, c.loop-worker.auto.worker-index-end) in
+    record { all = all ∙ c.requires.finished.all; each = i.tallies }

@@ -7,4 +7,4 @@ use Rattle.mp_threads.proofs.tallies.told_by.Goals as goal
 pub tallies_of-requires-clause-finished : goal.tallies_of-requires-clause-finished
 tallies_of-requires-clause-finished g c κs within =
     let o = outline_of (table_of g.Q.Query.facts g.J.Naming.job) g.J.Naming.job in
-    subst (AreFinished o) (sym c.as_slice.ensures.value) c.requires.finished
+    subst (AreFinished o) (sym c.as_slice.ensures.value) c.requires.finished.finished
