@@ -1,5 +1,5 @@
 -- How a run ends, by the span that is asked for.
-use Rattle.std.proofs.Common.{◌≡◌, ◌⊎◌, inl, inr, ℕ, Bool, List, Option, Some, Result, Ok, Err, arith, subst, sym}
+use Rattle.std.proofs.Common.{◌≡◌, ◌⊎◌, ◌∙◌, inl, inr, ℕ, Bool, List, Option, Some, Result, Ok, Err, ap, arith, refl, subst, sym}
 use Rattle.std.specs.Prelude.{IfErr}
 use Rattle.std.proofs.lemmas.Result.{on_err_weaker, on_ok_weaker}
 use Rattle.mp_checkpoint_laws.specs.Files.{IsFileOf}
@@ -7,7 +7,6 @@ use Rattle.mp_control.specs.Settings.{SettingsFacts}
 use Rattle.mp_model.specs.declared.record.Event.{Event}
 use Rattle.mp_model.specs.Facts.{JobFacts, QueryFacts}
 use Rattle.mp_names.specs.declared.kinds.Kept.{Kept}
-use Rattle.mp_outline.specs.JobOutline.{outline_of}
 use Rattle.mp_outside.specs.Fault.{Rose}
 use Rattle.mp_outside.specs.Files.{Files}
 use Rattle.mp_opening.specs.Checkpoints.{CheckpointOf}
@@ -15,12 +14,13 @@ use Rattle.mp_words.specs.Values.{From, Options, SpanAsked, Until, Whole}
 use Rattle.mp_words.specs.Words.{Run}
 use Rattle.mp_command.specs.declared.flow.Flow.{Flow}
 use Rattle.mp_command.specs.declared.refusal.Refusal.{Refusal}
+use Rattle.mp_command.specs.declared.refusal.Refusal.TheVariants as refusal
 use Rattle.mp_command.specs.Audits.{LacksCheckpoint, HasCheckpoint, bad_checkpoint_of}
 use Rattle.mp_command.specs.Calls.{StopsAnswer}
-use Rattle.mp_command.specs.Config.{flow_of, flow_with, job_asked, outline_asked, run_of}
+use Rattle.mp_command.specs.Config.{flow_of, flow_with, job_asked, outline_asked}
 use Rattle.mp_command.specs.Ends.{CameTo, Leaves, WritesFile}
 use Rattle.mp_command.specs.Inputs.{Found, inputs_of, nothing_found}
-use Rattle.mp_command.specs.Outcome.{Outcome, status_of}
+use Rattle.mp_command.specs.Outcome.{BadCheckpoint, NoMemory, Outcome, status_of}
 use Rattle.mp_command.specs.Queries.{SomeQuery, query_of}
 use Rattle.mp_command.specs.Reading.{ReadsAll}
 use Rattle.mp_command.specs.Refused.{outcome_of}
@@ -29,61 +29,97 @@ use Rattle.mp_command.specs.Writing.{Answer, IsTextInSpan, IsTextOf, IsTextOfJob
 use Rattle.mp_command.proofs.Came.{came_refuted, came_stopped}
 use Rattle.mp_command.proofs.Leaving.{leaves_alone, leaves_part, refuted_late}
 use Rattle.mp_command.proofs.Parted.{all_as, some_as}
-use Rattle.mp_cli.specs.Keeping.{IsKeptBy}
-use Rattle.mp_cli.specs.Wrote.{EndsRun, Wrote}
+use Rattle.mp_cli.specs.Keeping.{IsKeptOf}
+use Rattle.mp_cli.specs.Wrote.{EndsInSpan, Writes, Wrote}
 
 -- a run that was stopped refutes nothing
 or_refuted : {T : Type 0} (Refutes : Outcome → Type 0) (end : Result T Refusal) → IfErr end (λ r. StopsAnswer (outcome_of r)) → IfErr end (λ r. StopsAnswer (outcome_of r) ⊎ Refutes (outcome_of r))
 or_refuted Refutes (Ok x) stops = tt
 or_refuted Refutes (Err r) stops = inl stops
 
--- A query by its number, the texts of its cells and its table, with these values; the bytes that a job of it goes on from, and what is
--- known of the steps that are kept
-module _ {Cell : Type 0} (number : ℕ) (text : ℕ → Cell → List ℕ) (facts : List ℕ → QueryFacts Cell) (values bytes : List ℕ) (job : JobFacts) (Keeps : List (List Kept) → Type 0) (asked : Options) (old new : Option Files) where
+-- A depot, by its files and its count of the faults of writes; a query by its number, the texts of its cells and its table, with these
+-- values; the bytes that a job of it goes on from
+module _ {D : Type 0} (files : D → Option Files) (write_faults : D → ℕ) {Cell : Type 0} (number : ℕ) (text : ℕ → Cell → List ℕ) (facts : List ℕ → QueryFacts Cell) (values bytes : List ℕ) (job : JobFacts) (asked : Options) (old new : D) where
   abbrev pub Ends : {T : Type 0} → Result T Refusal → Type 0
-  Ends end = EndsRun (IsTextInSpan number text facts values asked.span bytes job Keeps) (IsRefutedBy number text facts values asked.span bytes) asked end old new
+  Ends end = EndsInSpan files write_faults number text facts values job bytes asked end old new
+
+  -- the text for a purpose in this span
+  abbrev pub InSpan : SpanAsked → Purpose → List ℕ → Type 0
+  InSpan span purpose written = IsTextInSpan number text facts values span bytes job (IsKeptOf (facts values) job asked) purpose written
 
   -- what is written in a span that is the one that is asked for
-  in_span : {T : Type 0} (end : Result T Refusal) (span : SpanAsked) → asked.span ≡ span
-      → Wrote (IsTextInSpan number text facts values span bytes job Keeps) (targets_of (Run asked)) end old new
-      → IfErr end (λ r. StopsAnswer (outcome_of r)) → Ends end
-  in_span end span is wrote stops = record {
-    wrote = subst (λ (s : SpanAsked). Wrote (IsTextInSpan number text facts values s bytes job Keeps) (targets_of (Run asked)) end old new) (sym is) wrote;
-    refused = or_refuted (λ o. (bad_checkpoint_of asked.span ≡ Some o) × IsRefutedBy number text facts values asked.span bytes × (new ≡ old)) end stops;
+  in_span : {T : Type 0} (end : Result T Refusal) (span : SpanAsked) → asked.span ≡ span → Writes files write_faults (InSpan span) asked end old new → Ends end
+  in_span end span is writes = record {
+    wrote = subst (λ (s : SpanAsked). Wrote (InSpan s) (targets_of (Run asked)) end (files old) (files new)) (sym is) writes.wrote;
+    refused = or_refuted (λ o. (bad_checkpoint_of asked.span ≡ Some o) × IsRefutedBy number text facts values asked.span bytes × (files new ≡ files old)) end writes.refused;
+    failed = writes.failed;
   }
 
   -- a run of all events
-  pub whole_ends : {T : Type 0} (end : Result T Refusal) → asked.span ≡ Whole → Wrote (IsTextOfJob (facts values) job Keeps) (targets_of (Run asked)) end old new
-      → IfErr end (λ r. StopsAnswer (outcome_of r)) → Ends end
-  whole_ends end is wrote stops = in_span end Whole is wrote stops
+  pub whole_ends : {T : Type 0} (end : Result T Refusal) → asked.span ≡ Whole → Writes files write_faults (IsTextOfJob (facts values) job (IsKeptOf (facts values) job asked)) asked end old new → Ends end
+  whole_ends end is writes = in_span end Whole is writes
 
   -- one that stops
   pub stop_ends : {T : Type 0} (end : Result T Refusal) (t : ℕ) (save : List ℕ) → asked.span ≡ Until t save → job.values ≡ values → (stopped : JobFacts) → stopped ≡ stopped_at t job
-      → Wrote (IsTextOfStop number text facts stopped.values stopped t) (targets_of (Run asked)) end old new
-      → IfErr end (λ r. StopsAnswer (outcome_of r)) → Ends end
-  stop_ends end t save is own stopped made wrote stops =
+      → Writes files write_faults (IsTextOfStop number text facts stopped.values stopped t) asked end old new → Ends end
+  stop_ends end t save is own stopped made writes =
       in_span end (Until t save) is
-      (subst (λ (vs : List ℕ). Wrote (IsTextOfStop number text facts vs (stopped_at t job) t) (targets_of (Run asked)) end old new) own
-      (subst (λ (j : JobFacts). Wrote (IsTextOfStop number text facts j.values j t) (targets_of (Run asked)) end old new) made wrote))
-      stops
+      (subst (λ (vs : List ℕ). Writes files write_faults (IsTextOfStop number text facts vs (stopped_at t job) t) asked end old new) own
+      (subst (λ (j : JobFacts). Writes files write_faults (IsTextOfStop number text facts j.values j t) asked end old new) made writes))
 
   -- one that goes on from a checkpoint
   pub rest_ends : {T : Type 0} (end : Result T Refusal) (name : List ℕ) → asked.span ≡ From name → (c : CheckpointOf Cell) → IsFileOf (format_by number text facts values) c bytes
       → (resumed : JobFacts) → resumed ≡ resumed_from text c job
-      → Wrote (IsTextOfRest facts resumed) (targets_of (Run asked)) end old new
-      → IfErr end (λ r. StopsAnswer (outcome_of r)) → Ends end
-  rest_ends end name is c file resumed made wrote stops =
-      let rest = subst (λ (j : JobFacts). Wrote (IsTextOfRest facts j) (targets_of (Run asked)) end old new) made wrote in
+      → Writes files write_faults (IsTextOfRest facts resumed) asked end old new → Ends end
+  rest_ends end name is c file resumed made writes =
+      let rest = subst (λ (j : JobFacts). Writes files write_faults (IsTextOfRest facts j) asked end old new) made writes in
       let Is = IsTextOfRest facts (resumed_from text c job) in
-      let Goes = IsTextInSpan number text facts values (From name) bytes job Keeps in
+      let Goes = InSpan (From name) in
       let turns : (purpose : Purpose) (written : List ℕ) → Is purpose written → Goes purpose written = λ purpose written h. (c, file, h) in
-      in_span end (From name) is
-      (record {
-        whole = on_ok_weaker end (λ w. all_as Is Goes turns (targets_of (Run asked)) old new w) rest.whole;
-        part = on_err_weaker end (λ w. some_as Is Goes turns (targets_of (Run asked)) old new w) rest.part;
+      in_span end (From name) is (record {
+        wrote = record {
+          whole = on_ok_weaker end (λ w. all_as Is Goes turns (targets_of (Run asked)) (files old) (files new) w) rest.wrote.whole;
+          part = on_err_weaker end (λ w. some_as Is Goes turns (targets_of (Run asked)) (files old) (files new) w) rest.wrote.part;
+        };
+        refused = rest.refused;
+        failed = rest.failed;
       })
-      stops
 
+module _ {D : Type 0} (files : D → Option Files) (write_faults : D → ℕ) {Cell : Type 0} (number : ℕ) (text : ℕ → Cell → List ℕ) (facts : List ℕ → QueryFacts Cell) (values bytes : List ℕ) (job : JobFacts) (asked : Options) (kept : D) where
+  -- where there is no memory for a job nothing is written
+  pub short_ends : {T : Type 0} → Ends files write_faults number text facts values bytes job asked kept kept {T = T} (Err refusal.NoMemory)
+  short_ends = record {
+    wrote = record { whole = tt; part = inl refl };
+    refused = inl (inr refl);
+    failed = λ eight. absurd (omega (arith, eight));
+  }
+
+  -- nor where what a run goes on from is no checkpoint
+  pub refuted_ends : {T : Type 0} (r : Refusal) (name : List ℕ) → asked.span ≡ From name
+      → (outcome_of r ≡ NoMemory) ⊎ ((outcome_of r ≡ BadCheckpoint name) × IsRefutedBy number text facts values (From name) bytes)
+      → Ends files write_faults number text facts values bytes job asked kept kept {T = T} (Err r)
+  refuted_ends r name is (inl short) = record {
+    wrote = record { whole = tt; part = inl refl };
+    refused = inl (inr short);
+    failed = λ seven. absurd (omega (arith, sym seven ∙ ap status_of short));
+  }
+  refuted_ends r name is (inr (bad, refuted)) = record {
+    wrote = record { whole = tt; part = inl refl };
+    refused = inr (ap bad_checkpoint_of is ∙ ap Some (sym bad), subst (λ (s : SpanAsked). IsRefutedBy number text facts values s bytes) (sym is) refuted, refl);
+    failed = λ seven. absurd (omega (arith, sym seven ∙ ap status_of bad));
+  }
+
+-- where there is no memory for a job its run writes nothing
+pub short_writes : {D T : Type 0} (files : D → Option Files) (write_faults : D → ℕ) (IsText : Purpose → List ℕ → Type 0) (asked : Options) (kept : D) → Writes files write_faults {T = T} IsText asked (Err refusal.NoMemory) kept kept
+short_writes files write_faults IsText asked kept = record {
+  wrote = record { whole = tt; part = inl refl };
+  refused = inr refl;
+  failed = λ eight. absurd (omega (arith, eight));
+}
+
+-- A query by its number, the texts of its cells and its table, with these values; the bytes that a job of it goes on from, and what is
+-- known of the steps that are kept
+module _ {Cell : Type 0} (number : ℕ) (text : ℕ → Cell → List ℕ) (facts : List ℕ → QueryFacts Cell) (values bytes : List ℕ) (job : JobFacts) (Keeps : List (List Kept) → Type 0) where
   -- what a run goes on from is a checkpoint where it has written an answer
   answer_confirms : (span : SpanAsked) (written : List ℕ) → IsTextInSpan number text facts values span bytes job Keeps Answer written → IsConfirmedBy number text facts values span bytes
   answer_confirms Whole written is = tt
@@ -91,19 +127,17 @@ module _ {Cell : Type 0} (number : ℕ) (text : ℕ → Cell → List ℕ) (fact
   answer_confirms (From name) written (c, file, is) = (c, file)
 
 -- how a run of a job of a query ends, with these values and the bytes that were read
-abbrev pub EndsBy : {T : Type 0} → SomeQuery → List ℕ → List ℕ → JobFacts → Options → Result T Refusal → Option Files → Option Files → Type 0
-EndsBy some values bytes job asked end old new =
-    let Keeps = IsKeptBy (outline_of (some.facts values) (run_of asked.paced job)) asked.depth asked.schedule in
-    EndsRun (IsTextInSpan some.number some.text some.facts values asked.span bytes job Keeps) (IsRefutedBy some.number some.text some.facts values asked.span bytes) asked end old new
+abbrev pub EndsBy : {D T : Type 0} → (D → Option Files) → (D → ℕ) → SomeQuery → List ℕ → List ℕ → JobFacts → Options → Result T Refusal → D → D → Type 0
+EndsBy files write_faults some values bytes job asked end old new =
+    EndsInSpan files write_faults some.number some.text some.facts values job bytes asked end old new
 
 -- a run of all events ends so, whatever its query is
-pub all_end : {T : Type 0} (asked : Options) (flow : Flow) (events : List Event) (settings : SettingsFacts) (bytes : List ℕ) (end : Result T Refusal) (old new : Option Files) → asked.span ≡ Whole
-    → Wrote (IsTextOfJob ((query_of flow.query).facts settings.values) (job_asked flow events settings) (IsKeptBy (outline_asked asked.paced flow events settings) asked.depth asked.schedule)) (targets_of (Run asked)) end old new
-    → IfErr end (λ r. StopsAnswer (outcome_of r)) → EndsBy (query_of flow.query) settings.values bytes (job_asked flow events settings) asked end old new
-all_end asked flow events settings bytes end old new is wrote stops =
+pub all_end : {D T : Type 0} (files : D → Option Files) (write_faults : D → ℕ) (asked : Options) (flow : Flow) (events : List Event) (settings : SettingsFacts) (bytes : List ℕ) (end : Result T Refusal) (old new : D) → asked.span ≡ Whole
+    → (let q = (query_of flow.query).facts settings.values in let job = job_asked flow events settings in Writes files write_faults (IsTextOfJob q job (IsKeptOf q job asked)) asked end old new)
+    → EndsBy files write_faults (query_of flow.query) settings.values bytes (job_asked flow events settings) asked end old new
+all_end files write_faults asked flow events settings bytes end old new is writes =
     let some = query_of flow.query in
-    let Keeps = IsKeptBy (outline_asked asked.paced flow events settings) asked.depth asked.schedule in
-    whole_ends some.number some.text some.facts settings.values bytes (job_asked flow events settings) Keeps asked old new end is wrote stops
+    whole_ends files write_faults some.number some.text some.facts settings.values bytes (job_asked flow events settings) asked old new end is writes
 
 -- what was found is as a run wants it that has written by it
 pub confirmed : (AreKept : Keeping) (asked : Options) (found : Found) (old new : Option Files) → WritesAll (IsTextOf AreKept (Run asked) found) (targets_of (Run asked)) old new → HasCheckpoint asked found
@@ -111,7 +145,7 @@ confirmed AreKept asked found old new (written, is, rest) =
     let flow = flow_with (flow_of asked) found.pipe in
     let some = query_of flow.query in
     let Keeps = AreKept (outline_asked asked.paced flow found.events found.settings) asked.depth asked.schedule in
-    answer_confirms some.number some.text some.facts found.settings.values found.checkpoint (job_asked flow found.events found.settings) Keeps asked old new asked.span written is
+    answer_confirms some.number some.text some.facts found.settings.values found.checkpoint (job_asked flow found.events found.settings) Keeps asked.span written is
 
 -- What a command came to whose run ends without an answer
 

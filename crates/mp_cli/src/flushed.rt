@@ -1,5 +1,6 @@
 //! What a run came to whose answer waits in a buffer.
-ghost use Rattle.mp_cli.specs.Flushed.{EndsFlushed};
+ghost use Rattle.std.specs.Prelude.{◌≡◌};
+ghost use Rattle.mp_cli.specs.Flushed.{once_flushed};
 
 use mp_command::Refusal;
 use mp_outside::Fault;
@@ -9,7 +10,7 @@ pub fn once_flushed<'a, T: Drop>(
     ran: Result<T, Refusal<'a>>,
     flushed: Result<(), Fault>,
 ) -> Result<T, Refusal<'a>>
-    ensures { EndsFlushed ran.entry flushed result }
+    ensures { result ≡ once_flushed ran.entry flushed }
 {
     let run = ran?;
     flushed?;

@@ -1,15 +1,11 @@
 //! A run that goes on from a checkpoint.
-ghost use Rattle.std.specs.Prelude.{◌≡◌, IfErr};
+ghost use Rattle.std.specs.Prelude.{◌≡◌};
 ghost use Rattle.mp_model.specs.Tables.{table_of};
 ghost use Rattle.mp_output.specs.Rows.{GivesRows};
-ghost use Rattle.mp_outside.specs.Fault.{Rose};
 ghost use Rattle.mp_words.specs.Limits.{AreWithinLimits};
 ghost use Rattle.mp_words.specs.Values.{From, options_in};
-ghost use Rattle.mp_words.specs.Words.{Run};
-ghost use Rattle.mp_command.specs.Calls.{StopsAnswer};
-ghost use Rattle.mp_command.specs.Refused.{EndsAs, outcome_of};
-ghost use Rattle.mp_command.specs.Writing.{IsTextOfRest, targets_of};
-ghost use Rattle.mp_cli.specs.Wrote.{Wrote};
+ghost use Rattle.mp_command.specs.Writing.{IsTextOfRest};
+ghost use Rattle.mp_cli.specs.Wrote.{Writes};
 
 use crate::running::answer_to;
 use mp_command::{Refusal, report_to};
@@ -40,11 +36,8 @@ pub fn write_rest<
     requires options { AreWithinLimits options.now }
     requires span { (options_in options.now).span ≡ From name.now }
     requires rows { GivesRows (table_of Q.facts job.now) }
-    ensures wrote { Wrote (IsTextOfRest Q.facts job.now) (targets_of (Run (options_in options.now))) result (D.files depot.old) (D.files depot.new) }
-    ensures refused { IfErr result (λ r. StopsAnswer (outcome_of r)) }
-
-    ensures failed { IfErr result (λ r. EndsAs r 7
-        → Rose (D.write_faults depot.old) (D.write_faults depot.new)) }
+    ensures { let IsText = IsTextOfRest Q.facts job.now in
+        Writes D.files D.write_faults IsText (options_in options.now) result depot.old depot.new }
 {
     let run = answer_to(rt, depot, options, job, gate)?;
     report_to(

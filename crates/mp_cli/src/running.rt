@@ -1,21 +1,13 @@
 //! The run of a job, and the answer's way into its file.
-ghost use Rattle.std.specs.Prelude.{◌≡◌, ◌<◌, ◌≤◌, ◌∷◌, [], IfErr, IfOk, IsSome, OnErr, OnOk, length, map};
+ghost use Rattle.std.specs.Prelude.{◌≡◌, ◌<◌, [], IfOk};
 ghost use Rattle.std.specs.Option.{ForSome};
 ghost use Rattle.mp_model.specs.Answers.{one_thread_answer};
 ghost use Rattle.mp_model.specs.Tables.{table_of};
-ghost use Rattle.mp_outline.specs.JobOutline.{outline_of};
 ghost use Rattle.mp_output.specs.Rows.{GivesRows};
-ghost use Rattle.mp_outside.specs.Fault.{Rose};
-ghost use Rattle.mp_outside.specs.Files.{with_file};
-ghost use Rattle.mp_tally.specs.Tallies.{AreTalliesOf};
 ghost use Rattle.mp_words.specs.Limits.{AreWithinLimits};
-ghost use Rattle.mp_command.specs.Calls.{StopsAnswer};
-ghost use Rattle.mp_command.specs.Refused.{EndsAs, outcome_of};
-ghost use Rattle.mp_command.specs.Config.{run_of};
-ghost use Rattle.mp_command.specs.Writing.{WritesSome, answer_at};
-ghost use Rattle.mp_cli.specs.Answered.{Answers};
-ghost use Rattle.mp_cli.specs.Keeping.{IsKeptBy};
-ghost use Rattle.mp_cli.specs.Running.{TellsSteps};
+ghost use Rattle.mp_words.specs.Values.{options_in};
+ghost use Rattle.mp_cli.specs.Answered.{Answers, AnswersFile};
+ghost use Rattle.mp_cli.specs.Running.{TellsRun};
 
 use crate::causes::refused_after;
 use crate::flushed::once_flushed;
@@ -63,24 +55,9 @@ pub fn answer_to<
 ) -> Result<Ran, Refusal<'a>>
     requires options { AreWithinLimits options.now }
     requires rows { GivesRows (table_of Q.facts job.now) }
-    ensures made { let o = outline_of (table_of Q.facts job.now) (run_of options.now.paced job.now) in
-        IfOk result (λ run. TellsSteps o options.now.depth options.now.schedule run.steps) }
-    ensures tallies { IfOk result (λ run.
-        AreTalliesOf (table_of Q.facts job.now) job.now run.tallies.items) }
-    ensures kept { let o = outline_of (table_of Q.facts job.now) (run_of options.now.paced job.now) in
-        IfOk result (λ run. IsSome options.now.journal
-        → IsKeptBy o options.now.depth options.now.schedule (map (λ v. v.items) run.kept.items)) }
-    ensures lists { IfOk result (λ run. length run.kept.items ≤ job.now.shape.workers) }
-    ensures whole { let answer = one_thread_answer (table_of Q.facts job.now) job.now.events in
-        OnOk result (D.files depot.new ≡ with_file (D.files depot.old) options.now.out.now answer) }
-    ensures part { let answer = one_thread_answer (table_of Q.facts job.now) job.now.events in
-        OnErr result (WritesSome (λ _ text. text ≡ answer)
-        (answer_at options.now.out.now ∷ []) (D.files depot.old) (D.files depot.new)) }
-    ensures refused { IfErr result (λ r. StopsAnswer (outcome_of r)) }
-
-    ensures failed { IfErr result (λ r. EndsAs r 7
-        → Rose (D.write_faults depot.old) (D.write_faults depot.new)) }
-    ensures faults_grow { D.write_faults depot.old ≤ D.write_faults depot.new }
+    ensures tells { IfOk result (λ run. TellsRun (table_of Q.facts job.now) job.now (options_in options.now) run) }
+    ensures leaves { let answer = one_thread_answer (table_of Q.facts job.now) job.now.events in
+        AnswersFile D.files D.write_faults options.now.out.now answer result depot.old depot.new }
 {
     depot.begin(options.out)?;
     let mut sink = DepotSink::new(depot, options.out);
@@ -105,14 +82,7 @@ fn run_gathered<
     requires depth { 0 < options.now.depth }
     requires rows { GivesRows (table_of Q.facts job.now) }
     requires begun { ForSome (S.written sink.old) (λ bytes. bytes ≡ []) }
-    ensures made { let o = outline_of (table_of Q.facts job.now) (run_of options.now.paced job.now) in
-        IfOk result (λ run. TellsSteps o options.now.depth options.now.schedule run.steps) }
-    ensures tallies { IfOk result (λ run.
-        AreTalliesOf (table_of Q.facts job.now) job.now run.tallies.items) }
-    ensures kept { let o = outline_of (table_of Q.facts job.now) (run_of options.now.paced job.now) in
-        IfOk result (λ run. IsSome options.now.journal
-        → IsKeptBy o options.now.depth options.now.schedule (map (λ v. v.items) run.kept.items)) }
-    ensures lists { IfOk result (λ run. length run.kept.items ≤ job.now.shape.workers) }
+    ensures tells { IfOk result (λ run. TellsRun (table_of Q.facts job.now) job.now (options_in options.now) run) }
     ensures leaves { Answers (table_of Q.facts job.now) job.now.events S.written S.faults S.frame
         result sink.old sink.new }
 {
@@ -134,14 +104,7 @@ fn run_into<'a, Q: Query + Send, G: Gate + Sync, S: Sink, R: Threads + Wait + Sy
 ) -> Result<Ran, Refusal<'a>>
     requires depth { 0 < options.now.depth }
     requires rows { GivesRows (table_of Q.facts job.now) }
-    ensures made { let o = outline_of (table_of Q.facts job.now) (run_of options.now.paced job.now) in
-        IfOk result (λ run. TellsSteps o options.now.depth options.now.schedule run.steps) }
-    ensures tallies { IfOk result (λ run.
-        AreTalliesOf (table_of Q.facts job.now) job.now run.tallies.items) }
-    ensures kept { let o = outline_of (table_of Q.facts job.now) (run_of options.now.paced job.now) in
-        IfOk result (λ run. IsSome options.now.journal
-        → IsKeptBy o options.now.depth options.now.schedule (map (λ v. v.items) run.kept.items)) }
-    ensures lists { IfOk result (λ run. length run.kept.items ≤ job.now.shape.workers) }
+    ensures tells { IfOk result (λ run. TellsRun (table_of Q.facts job.now) job.now (options_in options.now) run) }
     ensures leaves { Answers (table_of Q.facts job.now) job.now.events S.written S.faults S.frame
         result sink.old sink.new }
 {

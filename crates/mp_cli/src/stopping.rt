@@ -1,23 +1,17 @@
 //! A run that stops at a time, and what it leaves.
-ghost use Rattle.std.specs.Prelude.{◌≡◌, ◌<◌, ◌≤◌, ◌∷◌, [], IfErr, IfOk, None, OnErr, OnOk, Some, map};
+ghost use Rattle.std.specs.Prelude.{◌≡◌, ◌<◌, [], IfOk, None, Some, map};
 ghost use Rattle.std.specs.Option.{ForSome};
 ghost use Rattle.mp_model.specs.Answers.{one_thread_answer};
 ghost use Rattle.mp_model.specs.Legal.{EventsAreLegal};
 ghost use Rattle.mp_model.specs.Plain.{EventsArePlain};
 ghost use Rattle.mp_model.specs.Tables.{table_of};
-ghost use Rattle.mp_msg.specs.LastStates.{AreAllStates};
 ghost use Rattle.mp_output.specs.Rows.{GivesRows};
-ghost use Rattle.mp_outside.specs.Fault.{Rose};
-ghost use Rattle.mp_outside.specs.Files.{with_file};
-ghost use Rattle.mp_tally.specs.Tallies.{AreTalliesOf};
 ghost use Rattle.mp_words.specs.Limits.{AreWithinLimits};
 ghost use Rattle.mp_words.specs.Values.{Until, options_in};
-ghost use Rattle.mp_words.specs.Words.{Run};
-ghost use Rattle.mp_command.specs.Calls.{StopsAnswer};
-ghost use Rattle.mp_command.specs.Refused.{EndsAs, outcome_of};
-ghost use Rattle.mp_command.specs.Writing.{IsTextOfStop, WritesSome, answer_at, targets_of};
-ghost use Rattle.mp_cli.specs.Answered.{Answers};
-ghost use Rattle.mp_cli.specs.Wrote.{Wrote};
+ghost use Rattle.mp_command.specs.Writing.{IsTextOfStop};
+ghost use Rattle.mp_cli.specs.Answered.{Answers, AnswersFile};
+ghost use Rattle.mp_cli.specs.Running.{TellsStop};
+ghost use Rattle.mp_cli.specs.Wrote.{Writes};
 
 use crate::causes::refused_after;
 use crate::flushed::once_flushed;
@@ -69,12 +63,8 @@ pub fn write_stopped<
     requires fresh { job.now.from ≡ None }
     requires events { EventsAreLegal job.now.events }
     requires plain { EventsArePlain job.now.events }
-    ensures wrote { let IsText = IsTextOfStop Q.NUMBER Q.text_of Q.facts job.now.values job.now plan.entry.time in
-        Wrote IsText (targets_of (Run (options_in options.now))) result (D.files depot.old) (D.files depot.new) }
-    ensures refused { IfErr result (λ r. StopsAnswer (outcome_of r)) }
-
-    ensures failed { IfErr result (λ r. EndsAs r 7
-        → Rose (D.write_faults depot.old) (D.write_faults depot.new)) }
+    ensures { let IsText = IsTextOfStop Q.NUMBER Q.text_of Q.facts job.now.values job.now plan.entry.time in
+        Writes D.files D.write_faults IsText (options_in options.now) result depot.old depot.new }
 {
     let run = answer_stopped(rt, depot, options, job, gate)?;
     report_to(
@@ -104,20 +94,10 @@ fn answer_stopped<
 ) -> Result<Stopped<Q::Cell>, Refusal<'a>>
     requires options { AreWithinLimits options.now }
     requires rows { GivesRows (table_of Q.facts job.now) }
-    ensures tallies { IfOk result (λ run.
-        AreTalliesOf (table_of Q.facts job.now) job.now run.tallies.items) }
-    ensures states { IfOk result (λ run.
-        AreAllStates (table_of Q.facts job.now) job.now (map (λ own. own.items) run.states.items)) }
-    ensures whole { let answer = one_thread_answer (table_of Q.facts job.now) job.now.events in
-        OnOk result (D.files depot.new ≡ with_file (D.files depot.old) options.now.out.now answer) }
-    ensures part { let answer = one_thread_answer (table_of Q.facts job.now) job.now.events in
-        OnErr result (WritesSome (λ _ text. text ≡ answer)
-        (answer_at options.now.out.now ∷ []) (D.files depot.old) (D.files depot.new)) }
-    ensures refused { IfErr result (λ r. StopsAnswer (outcome_of r)) }
-
-    ensures failed { IfErr result (λ r. EndsAs r 7
-        → Rose (D.write_faults depot.old) (D.write_faults depot.new)) }
-    ensures faults_grow { D.write_faults depot.old ≤ D.write_faults depot.new }
+    ensures tells { IfOk result (λ run.
+        TellsStop (table_of Q.facts job.now) job.now run.tallies.items (map (λ own. own.items) run.states.items)) }
+    ensures leaves { let answer = one_thread_answer (table_of Q.facts job.now) job.now.events in
+        AnswersFile D.files D.write_faults options.now.out.now answer result depot.old depot.new }
 {
     depot.begin(options.out)?;
     let mut sink = DepotSink::new(depot, options.out);
@@ -142,10 +122,8 @@ fn stop_gathered<
     requires depth { 0 < options.now.depth }
     requires rows { GivesRows (table_of Q.facts job.now) }
     requires begun { ForSome (S.written sink.old) (λ bytes. bytes ≡ []) }
-    ensures tallies { IfOk result (λ run.
-        AreTalliesOf (table_of Q.facts job.now) job.now run.tallies.items) }
-    ensures states { IfOk result (λ run.
-        AreAllStates (table_of Q.facts job.now) job.now (map (λ own. own.items) run.states.items)) }
+    ensures tells { IfOk result (λ run.
+        TellsStop (table_of Q.facts job.now) job.now run.tallies.items (map (λ own. own.items) run.states.items)) }
     ensures leaves { Answers (table_of Q.facts job.now) job.now.events S.written S.faults S.frame
         result sink.old sink.new }
 {
@@ -167,10 +145,8 @@ fn stop_into<'a, Q: Query + Send, G: Gate + Sync, S: Sink, R: Threads + Wait + S
 ) -> Result<Stopped<Q::Cell>, Refusal<'a>>
     requires depth { 0 < options.now.depth }
     requires rows { GivesRows (table_of Q.facts job.now) }
-    ensures tallies { IfOk result (λ run.
-        AreTalliesOf (table_of Q.facts job.now) job.now run.tallies.items) }
-    ensures states { IfOk result (λ run.
-        AreAllStates (table_of Q.facts job.now) job.now (map (λ own. own.items) run.states.items)) }
+    ensures tells { IfOk result (λ run.
+        TellsStop (table_of Q.facts job.now) job.now run.tallies.items (map (λ own. own.items) run.states.items)) }
     ensures leaves { Answers (table_of Q.facts job.now) job.now.events S.written S.faults S.frame
         result sink.old sink.new }
 {

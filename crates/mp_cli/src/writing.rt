@@ -1,30 +1,24 @@
 //! What a run writes: the answer, and then the report, what is saved and the journal.
-ghost use Rattle.std.specs.Prelude.{◌≡◌, ◌≤◌, ℕ, List, [], IfErr, IfOk, length};
+ghost use Rattle.std.specs.Prelude.{◌≡◌, ◌≤◌, ℕ, List, [], IfOk, length};
 ghost use Rattle.mp_control.specs.Settings.{settings_in};
 ghost use Rattle.mp_model.specs.Legal.{EventsAreLegal};
 ghost use Rattle.mp_model.specs.Plain.{EventsArePlain};
-ghost use Rattle.mp_model.specs.Rules.{numbers_with};
 ghost use Rattle.mp_model.specs.Tables.{table_of};
 ghost use Rattle.mp_names.specs.Limits.{most_bytes};
 ghost use Rattle.mp_output.specs.Rows.{GivesRows};
-ghost use Rattle.mp_outside.specs.Fault.{Rose};
-ghost use Rattle.mp_outline.specs.JobOutline.{outline_of};
-ghost use Rattle.mp_tally.specs.Tallies.{AreTalliesOf};
 ghost use Rattle.mp_words.specs.Limits.{AreWithinLimits};
 ghost use Rattle.mp_words.specs.Values.{options_in};
 ghost use Rattle.mp_words.specs.Words.{Run};
 ghost use Rattle.mp_command.specs.declared.flow.FlowQuery.TheVariants.{Named};
 ghost use Rattle.mp_command.specs.Audits.{LacksCheckpoint};
-ghost use Rattle.mp_command.specs.Calls.{StopsAnswer};
-ghost use Rattle.mp_command.specs.Config.{SettingsFit, SettingsFitFlow, flow_for, flow_of, flow_with, job_with, run_of, shape_with};
+ghost use Rattle.mp_command.specs.Config.{SettingsFit, SettingsFitFlow, flow_for, flow_of, flow_with, job_asked, shape_with};
 ghost use Rattle.mp_command.specs.InputFiles.{found_in};
 ghost use Rattle.mp_command.specs.Queries.{IsSound, query_named};
-ghost use Rattle.mp_command.specs.Refused.{EndsAs, outcome_of};
-ghost use Rattle.mp_command.specs.Spans.{IsRefutedBy};
-ghost use Rattle.mp_command.specs.Writing.{IsTextInSpan, IsTextOf, IsTextOfFlow, IsTextOfJob, save_target, targets_of};
-ghost use Rattle.mp_cli.specs.Keeping.{IsKeptBy};
-ghost use Rattle.mp_cli.specs.Running.{TellsSteps};
-ghost use Rattle.mp_cli.specs.Wrote.{EndsRun, Wrote};
+ghost use Rattle.mp_command.specs.Writing.{IsTextOf, IsTextOfJob, save_target};
+ghost use Rattle.mp_cli.specs.Jobs.{job_by};
+ghost use Rattle.mp_cli.specs.Keeping.{IsKeptBy, IsKeptOf};
+ghost use Rattle.mp_cli.specs.Running.{TellsRun};
+ghost use Rattle.mp_cli.specs.Wrote.{EndsInSpan, EndsRun, Writes};
 
 use crate::resuming::write_rest;
 use crate::running::{Ran, answer_to};
@@ -63,11 +57,9 @@ pub fn write_answer<'a, D: Depot, G: Gate + Sync, R: Threads + Wait + Sync + All
     requires plain { EventsArePlain read.parts.events.items }
     requires few { length read.parts.checkpoint.items ≤ most_bytes }
     requires settings { SettingsFitFlow read.flow (settings_in read.parts.settings) }
-    ensures ends { let asked = options_in options.now in
-        EndsRun (IsTextOf IsKeptBy (Run asked) (found_in read)) (LacksCheckpoint asked (found_in read)) asked result (D.files depot.old) (D.files depot.new) }
-
-    ensures failed { IfErr result (λ r. EndsAs r 7
-        → Rose (D.write_faults depot.old) (D.write_faults depot.new)) }
+    ensures { let asked = options_in options.now in
+        let IsText = IsTextOf IsKeptBy (Run asked) (found_in read) in
+        EndsRun D.files D.write_faults IsText (LacksCheckpoint asked (found_in read)) asked result depot.old depot.new }
 {
     let Inputs { flow, parts } = read;
     match flow.query {
@@ -93,14 +85,11 @@ fn write_named<'a, D: Depot, G: Gate + Sync, R: Threads + Wait + Sync + AllocGlo
     requires plain { EventsArePlain parts.events.items }
     requires few { length parts.checkpoint.items ≤ most_bytes }
     requires settings { SettingsFitFlow (flow_for (flow_of (options_in options.now)) (Named name)) (settings_in parts.settings) }
-    ensures ends { let asked = options_in options.now in
+    ensures { let asked = options_in options.now in
         let some = query_named name in
-        let bytes = parts.checkpoint.items in
-        let IsText = IsTextOfFlow IsKeptBy asked (flow_for (flow_of asked) (Named name)) parts.events.items (settings_in parts.settings) bytes in
-        EndsRun IsText (IsRefutedBy some.number some.text some.facts parts.settings.values asked.span bytes) asked result (D.files depot.old) (D.files depot.new) }
-
-    ensures failed { IfErr result (λ r. EndsAs r 7
-        → Rose (D.write_faults depot.old) (D.write_faults depot.new)) }
+        let job = job_asked (flow_for (flow_of asked) (Named name)) parts.events.items (settings_in parts.settings) in
+        EndsInSpan D.files D.write_faults some.number some.text some.facts job.values job parts.checkpoint.items asked
+        result depot.old depot.new }
 {
     match name {
         QueryName::Q1 => write_saved(rt, depot, Q1::given(), options, parts, gate),
@@ -137,17 +126,10 @@ fn write_saved<
     requires settings { let stages = (Q.facts (Q.values given)).stages in
         SettingsFit (shape_with options.now.workers options.now.bins stages) (Q.rules given) (settings_in parts.settings) }
     requires rows { (numbers : List ℕ) → GivesRows (Q.facts numbers) }
-    ensures ends { let asked = options_in options.now in
-        let numbers = numbers_with (Q.rules given) (Q.values given) parts.settings.values in
-        let shape = shape_with asked.workers asked.bins (Q.facts (Q.values given)).stages in
-        let job = job_with shape numbers parts.events.items (settings_in parts.settings) in
-        let bytes = parts.checkpoint.items in
-        let Keeps = IsKeptBy (outline_of (Q.facts numbers) (run_of asked.paced job)) asked.depth asked.schedule in
-        EndsRun (IsTextInSpan Q.NUMBER Q.text_of Q.facts numbers asked.span bytes job Keeps)
-        (IsRefutedBy Q.NUMBER Q.text_of Q.facts numbers asked.span bytes) asked result (D.files depot.old) (D.files depot.new) }
-
-    ensures failed { IfErr result (λ r. EndsAs r 7
-        → Rose (D.write_faults depot.old) (D.write_faults depot.new)) }
+    ensures { let asked = options_in options.now in
+        let job = job_by Q.facts (Q.rules given) (Q.values given) asked parts.events.items (settings_in parts.settings) in
+        EndsInSpan D.files D.write_faults Q.NUMBER Q.text_of Q.facts job.values job parts.checkpoint.items asked
+        result depot.old depot.new }
 {
     match options.span {
         Span::Whole => {
@@ -185,31 +167,13 @@ fn run_asked<'a, D: Depot, Q: Query + Send, G: Gate + Sync, R: Threads + Wait + 
         SettingsFit (shape_with options.now.workers options.now.bins stages) (Q.rules given) (settings_in parts.settings) }
     requires rows { (numbers : List ℕ) → GivesRows (Q.facts numbers) }
     requires no_save { save_target (options_in options.now).span ≡ [] }
-    ensures made { let asked = options_in options.now in
-        let numbers = numbers_with (Q.rules given) (Q.values given) parts.settings.values in
-        let stages = (Q.facts (Q.values given)).stages in
-        let shape = shape_with asked.workers asked.bins stages in
-        let job = job_with shape numbers parts.events.items (settings_in parts.settings) in
-        let o = outline_of (Q.facts numbers) (run_of asked.paced job) in
-        IfOk result (λ run. TellsSteps o asked.depth asked.schedule run.steps) }
-    ensures tallies { let asked = options_in options.now in
-        let numbers = numbers_with (Q.rules given) (Q.values given) parts.settings.values in
-        let stages = (Q.facts (Q.values given)).stages in
-        let shape = shape_with asked.workers asked.bins stages in
-        let job = job_with shape numbers parts.events.items (settings_in parts.settings) in
-        IfOk result (λ run. AreTalliesOf (Q.facts numbers) job run.tallies.items) }
-    ensures wrote { let asked = options_in options.now in
-        let numbers = numbers_with (Q.rules given) (Q.values given) parts.settings.values in
-        let stages = (Q.facts (Q.values given)).stages in
-        let shape = shape_with asked.workers asked.bins stages in
-        let job = job_with shape numbers parts.events.items (settings_in parts.settings) in
-        let Keeps = IsKeptBy (outline_of (Q.facts numbers) (run_of asked.paced job)) asked.depth asked.schedule in
-        Wrote (IsTextOfJob (Q.facts numbers) job Keeps) (targets_of (Run asked)) result
-        (D.files depot.old) (D.files depot.new) }
-    ensures refused { IfErr result (λ r. StopsAnswer (outcome_of r)) }
-
-    ensures failed { IfErr result (λ r. EndsAs r 7
-        → Rose (D.write_faults depot.old) (D.write_faults depot.new)) }
+    ensures tells { let asked = options_in options.now in
+        let job = job_by Q.facts (Q.rules given) (Q.values given) asked parts.events.items (settings_in parts.settings) in
+        IfOk result (λ run. TellsRun (Q.facts job.values) job asked run) }
+    ensures writes { let asked = options_in options.now in
+        let job = job_by Q.facts (Q.rules given) (Q.values given) asked parts.events.items (settings_in parts.settings) in
+        let IsText = IsTextOfJob (Q.facts job.values) job (IsKeptOf (Q.facts job.values) job asked) in
+        Writes D.files D.write_faults IsText asked result depot.old depot.new }
 {
     let job = job_for(rt.alloc(), given, options.workers, options.bins, parts)?;
     write_all(rt, depot, options, &job, gate)
@@ -227,18 +191,10 @@ fn write_all<'a, D: Depot, Q: Query + Send, G: Gate + Sync, R: Threads + Wait + 
     requires rows { GivesRows (table_of Q.facts job.now) }
     requires size { job.now.shape.workers ≡ options.now.workers }
     requires no_save { save_target (options_in options.now).span ≡ [] }
-    ensures made { let o = outline_of (table_of Q.facts job.now) (run_of options.now.paced job.now) in
-        IfOk result (λ run. TellsSteps o options.now.depth options.now.schedule run.steps) }
-    ensures tallies { IfOk result (λ run. AreTalliesOf (table_of Q.facts job.now) job.now run.tallies.items) }
-    ensures wrote { let asked = options_in options.now in
-        let q = table_of Q.facts job.now in
-        let Keeps = IsKeptBy (outline_of q (run_of asked.paced job.now)) asked.depth asked.schedule in
-        Wrote (IsTextOfJob q job.now Keeps) (targets_of (Run asked)) result
-        (D.files depot.old) (D.files depot.new) }
-    ensures refused { IfErr result (λ r. StopsAnswer (outcome_of r)) }
-
-    ensures failed { IfErr result (λ r. EndsAs r 7
-        → Rose (D.write_faults depot.old) (D.write_faults depot.new)) }
+    ensures tells { IfOk result (λ run. TellsRun (table_of Q.facts job.now) job.now (options_in options.now) run) }
+    ensures writes { let q = table_of Q.facts job.now in
+        let IsText = IsTextOfJob q job.now (IsKeptOf q job.now (options_in options.now)) in
+        Writes D.files D.write_faults IsText (options_in options.now) result depot.old depot.new }
 {
     let run = answer_to(rt, depot, options, job, gate)?;
     report_to(

@@ -18,14 +18,14 @@ demo_settings-requires-clause-bins g c = rw c.of_demo-flow.ensures (few_bins c.a
 
 pub unreachable-requires : goal.unreachable-requires
 unreachable-requires g c =
-    let whole = rw (c.run_in_memory-asked.ensures.out, c.run_in_memory-asked.ensures.report, c.run_in_memory-asked.ensures.journal, c.run_in_memory-asked.ensures.span) at c.in_ok-write_answer.ensures.ends.wrote.whole in
+    let whole = rw (c.run_in_memory-asked.ensures.out, c.run_in_memory-asked.ensures.report, c.run_in_memory-asked.ensures.journal, c.run_in_memory-asked.ensures.span) at c.in_ok-write_answer.ensures.wrote.whole in
     let got = got_written _ _ _ _ c.new-memory.ensures.files whole.2 in
     let held = ap option_copied (sym c.in-None.is) ∙ c.get.ensures ∙ got in
     cc
 
 pub returns-clause-line : goal.returns-clause-line
 returns-clause-line g c =
-    let whole = rw (c.run_in_memory-asked.ensures.out, c.run_in_memory-asked.ensures.report, c.run_in_memory-asked.ensures.journal, c.run_in_memory-asked.ensures.span) at c.in_ok-write_answer.ensures.ends.wrote.whole in
+    let whole = rw (c.run_in_memory-asked.ensures.out, c.run_in_memory-asked.ensures.report, c.run_in_memory-asked.ensures.journal, c.run_in_memory-asked.ensures.span) at c.in_ok-write_answer.ensures.wrote.whole in
     let got = got_written _ _ _ _ c.new-memory.ensures.files whole.2 in
     let held = copied_some _ _ _ c.in-Some.is (c.get.ensures ∙ got) in
     let pipe = pipe_in c.of_demo-flow.result.query in

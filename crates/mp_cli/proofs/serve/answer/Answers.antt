@@ -26,14 +26,14 @@ returns-in_err-write_answer-clause-came g c =
     let asked = options_in c.args.options.now in
     let p = err_from_is_err_and c.from_residual-in_err-write_answer.result c.from_residual-in_err-write_answer.ensures.1 in
     let failed = rw c.read_run.ensures.writes at c.in_err-write_answer.ensures.failed in
-    rw (p.1, p.2) (came_ended g.D.Depot.files g.D.Depot.found g.D.Depot.read_faults g.D.Depot.write_faults asked c.args.depot.now c.write_answer.new.depot (found_in c.in_ok-read.read) _ _ c.in_ok-read.ensures.found c.in_err-write_answer.ensures.ends.refused (λ e. (tt, failed e)))
+    rw (p.1, p.2) (came_ended g.D.Depot.files g.D.Depot.found g.D.Depot.read_faults g.D.Depot.write_faults asked c.args.depot.now c.write_answer.new.depot (found_in c.in_ok-read.read) _ _ c.in_ok-read.ensures.found c.in_err-write_answer.ensures.refused (λ e. (tt, failed e)))
 
 pub returns-in_err-write_answer-clause-left : goal.returns-in_err-write_answer-clause-left
 returns-in_err-write_answer-clause-left g c =
     let asked = options_in c.args.options.now in
     let p = err_from_is_err_and c.from_residual-in_err-write_answer.result c.from_residual-in_err-write_answer.ensures.1 in
-    let ended = rw c.read_run.ensures.files at c.in_err-write_answer.ensures.ends.refused in
-    let part = rw c.read_run.ensures.files at c.in_err-write_answer.ensures.ends.wrote.part in
+    let ended = rw c.read_run.ensures.files at c.in_err-write_answer.ensures.refused in
+    let part = rw c.read_run.ensures.files at c.in_err-write_answer.ensures.wrote.part in
     rw (p.1, p.2) (leaves_ended IsKeptBy asked (found_in c.in_ok-read.read) _ _ _ c.in_ok-read.ensures.found ended part)
 
 pub returns-clause-came : goal.returns-clause-came
@@ -45,5 +45,5 @@ pub returns-clause-left : goal.returns-clause-left
 returns-clause-left g c =
     let asked = options_in c.args.options.now in
     let found = found_in c.in_ok-read.read in
-    let whole = rw c.read_run.ensures.files at c.in_ok-write_answer.ensures.ends.wrote.whole in
+    let whole = rw c.read_run.ensures.files at c.in_ok-write_answer.ensures.wrote.whole in
     leaves_whole IsKeptBy (Run asked) _ _ _ (found, c.in_ok-read.ensures.found, confirmed IsKeptBy asked found _ _ whole, whole)

@@ -4,7 +4,7 @@ use Rattle.std.proofs.lemmas.Result.{err_from_is_err_and, on_err_weaker, on_ok_w
 use Rattle.mp_buffered.proofs.Front.{same_beside, same_lender}
 use Rattle.mp_outside.proofs.SinkLemmas.{grown-nothing}
 use Rattle.mp_output.proofs.Writing.{on_err}
-use Rattle.mp_cli.proofs.Handed.{failed_once, reached, stopped_once, whole_once}
+use Rattle.mp_cli.proofs.Handed.{failed_once, reached, stopped_once, told_once, whole_once}
 use Rattle.mp_cli.proofs.stopping.stop_gathered.Goals as goal
 
 pub returns-in_err-waits-clause-leaves : goal.returns-in_err-waits-clause-leaves
@@ -17,6 +17,9 @@ returns-in_err-waits-clause-leaves g c =
       failed = λ eight. absurd (omega (arith, eight));
       appends = record { same_frame = refl; faults_grow = omega arith };
     })
+
+pub returns-clause-tells : goal.returns-clause-tells
+returns-clause-tells g c = told_once _ _ _ _ c.once_flushed.ensures c.stop_into-ran.ensures.tells
 
 pub returns-clause-leaves : goal.returns-clause-leaves
 returns-clause-leaves g c =

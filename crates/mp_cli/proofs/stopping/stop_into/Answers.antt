@@ -2,12 +2,12 @@
 use Rattle.mp_cli.proofs.Handed.{ran_on, was_stopped}
 use Rattle.mp_cli.proofs.stopping.stop_into.Goals as goal
 
-pub returns-in-Ok-clause-tallies : goal.returns-in-Ok-clause-tallies
-returns-in-Ok-clause-tallies g c = record { all = c.in-Ok.ensures.all; each = c.in-Ok.ensures.tallies }
+pub returns-in-Ok-clause-tells : goal.returns-in-Ok-clause-tells
+returns-in-Ok-clause-tells g c = record { tallies = c.in-Ok.ensures.tallies; states = c.in-Ok.ensures.states }
 
-pub returns-in-Ok-replay_with_states-clause-tallies : goal.returns-in-Ok-replay_with_states-clause-tallies
-returns-in-Ok-replay_with_states-clause-tallies g c =
-    record { all = c.in-Ok-replay_with_states.ensures.all; each = c.in-Ok-replay_with_states.ensures.tallies }
+pub returns-in-Ok-replay_with_states-clause-tells : goal.returns-in-Ok-replay_with_states-clause-tells
+returns-in-Ok-replay_with_states-clause-tells g c =
+    record { tallies = c.in-Ok-replay_with_states.ensures.tallies; states = c.in-Ok-replay_with_states.ensures.states }
 
 pub returns-in-Ok-clause-leaves : goal.returns-in-Ok-clause-leaves
 returns-in-Ok-clause-leaves g c = ran_on _ _ _ _ _ _ _ _ _ c.in-Ok.ensures.leaves

@@ -1,18 +1,16 @@
 -- The job has the query's own table, with the values that were read.
 use Rattle.std.proofs.Common.{ap, IfOk, subst, sym}
+use Rattle.std.proofs.lemmas.Result.{err_from_is_err_and}
 use Rattle.mp_model.specs.Facts.{JobFacts, QueryFacts}
-use Rattle.mp_outline.specs.JobOutline.{outline_of}
 use Rattle.mp_output.specs.Rows.{GivesRows}
-use Rattle.mp_tally.specs.Tallies.{AreTalliesOf}
 use Rattle.mp_model.specs.Rules.{numbers_with}
 use Rattle.mp_words.specs.Values.{options_in}
-use Rattle.mp_words.specs.Words.{Run}
-use Rattle.mp_command.specs.Config.{run_of}
-use Rattle.mp_command.specs.Writing.{IsTextOfJob, targets_of}
+use Rattle.mp_command.specs.Writing.{IsTextOfJob}
 use Rattle.mp_command.proofs.Asked.{of_own}
-use Rattle.mp_cli.specs.Keeping.{IsKeptBy}
-use Rattle.mp_cli.specs.Running.{TellsSteps}
-use Rattle.mp_cli.specs.Wrote.{Wrote}
+use Rattle.mp_cli.specs.Keeping.{IsKeptOf}
+use Rattle.mp_cli.specs.Running.{TellsRun}
+use Rattle.mp_cli.specs.Wrote.{Writes}
+use Rattle.mp_cli.proofs.Ended.{short_writes}
 use Rattle.mp_cli.proofs.writing.run_asked.Goals as goal
 
 pub write_all-requires-clause-rows : goal.write_all-requires-clause-rows
@@ -23,18 +21,18 @@ write_all-requires-clause-rows g c κs within =
 pub write_all-requires-clause-size : goal.write_all-requires-clause-size
 write_all-requires-clause-size g c κs within = ap (λ (j : JobFacts). j.shape.workers) c.in_ok-job.ensures.job
 
-pub returns-clause-made : goal.returns-clause-made
-returns-clause-made g c =
-    let asked = options_in c.args.options.now in
-    of_own (λ (q : QueryFacts _) (j : JobFacts). IfOk c.write_all.result (λ run. TellsSteps (outline_of q (run_of asked.paced j)) asked.depth asked.schedule run.steps)) _ _ _ _ c.in_ok-job.ensures.table c.in_ok-job.ensures.job c.write_all.ensures.made
+pub returns-in_err-job-clause-writes : goal.returns-in_err-job-clause-writes
+returns-in_err-job-clause-writes g c =
+    let p = err_from_is_err_and c.from_residual.result c.from_residual.ensures.1 in
+    rw (p.1, p.2) (short_writes g.D.Depot.files g.D.Depot.write_faults _ _ c.args.depot.now)
 
-pub returns-clause-tallies : goal.returns-clause-tallies
-returns-clause-tallies g c =
-    of_own (λ (q : QueryFacts _) (j : JobFacts). IfOk c.write_all.result (λ run. AreTalliesOf q j run.tallies.items)) _ _ _ _ c.in_ok-job.ensures.table c.in_ok-job.ensures.job c.write_all.ensures.tallies
-
-pub returns-clause-wrote : goal.returns-clause-wrote
-returns-clause-wrote g c =
+pub returns-clause-tells : goal.returns-clause-tells
+returns-clause-tells g c =
     let asked = options_in c.args.options.now in
-    let old = g.D.Depot.files c.args.depot.now in
-    let new = g.D.Depot.files c.write_all.new.depot in
-    of_own (λ (q : QueryFacts _) (j : JobFacts). Wrote (IsTextOfJob q j (IsKeptBy (outline_of q (run_of asked.paced j)) asked.depth asked.schedule)) (targets_of (Run asked)) c.write_all.result old new) _ _ _ _ c.in_ok-job.ensures.table c.in_ok-job.ensures.job c.write_all.ensures.wrote
+    of_own (λ (q : QueryFacts _) (j : JobFacts). IfOk c.write_all.result (λ run. TellsRun q j asked run)) _ _ _ _ c.in_ok-job.ensures.table c.in_ok-job.ensures.job c.write_all.ensures.tells
+
+pub returns-clause-writes : goal.returns-clause-writes
+returns-clause-writes g c =
+    let asked = options_in c.args.options.now in
+    of_own (λ (q : QueryFacts _) (j : JobFacts). Writes g.D.Depot.files g.D.Depot.write_faults (IsTextOfJob q j (IsKeptOf q j asked)) asked c.write_all.result c.args.depot.now c.write_all.new.depot)
+    _ _ _ _ c.in_ok-job.ensures.table c.in_ok-job.ensures.job c.write_all.ensures.writes
