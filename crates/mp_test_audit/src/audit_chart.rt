@@ -10,7 +10,7 @@ use mp_chart::{Chart, Entry};
 use mp_left_counts::Work;
 use mp_names::{Kind, Loc, Name, Tag, Time};
 use std::alloc::{AllocError, Global};
-use std::test::Fail;
+use std::process::Abort;
 
 /// The bid, which goes to the one worker.
 const BIDS: [Entry; 1] = [Entry {
@@ -158,53 +158,65 @@ fn audited(alloc: Global, steps: &[(Kind, u64)]) -> Result<Result<u64, AuditStop
     Ok(audit(alloc, OneBid, 64, journal.as_slice()))
 }
 
-#[test]
-fn the_worked_journal_is_legal(rt: HostRuntime) -> Result<(), Fail> {
-    let steps = [
-        (Kind::Ingest, 0),
-        (Kind::Route(0), 0),
-        (Kind::Receive(0), 0),
-        (Kind::Exchange, 1),
-        (Kind::Apply(0), 0),
-        (Kind::SendRow, 0),
-        (Kind::Receive(0), 0),
-        (Kind::Exchange, 2),
-        (Kind::Write, 0),
-    ];
-    assert_eq!(rt; audited(rt.alloc(), &steps)?, Ok(9));
-    assert_eq!(rt; audited(rt.alloc(), &steps[..8])?, Err(AuditStop::NoRun));
+/// The audit says this of these steps.
+fn says(
+    rt: &impl Abort,
+    alloc: Global,
+    steps: &[(Kind, u64)],
+    wanted: Result<u64, AuditStop>,
+) -> Result<(), AllocError> {
+    let said = audited(alloc, steps)?;
+    assert!(rt; said == wanted);
     Ok(())
 }
 
-#[test]
-fn a_group_waits_for_an_exchange(rt: HostRuntime) -> Result<(), Fail> {
-    let steps = [
-        (Kind::Ingest, 0),
-        (Kind::Route(0), 0),
-        (Kind::Receive(0), 0),
-        (Kind::Apply(0), 0),
-        (Kind::SendRow, 0),
-        (Kind::Receive(0), 0),
-        (Kind::Exchange, 2),
-        (Kind::Write, 0),
-    ];
-    assert_eq!(rt; audited(rt.alloc(), &steps)?, Err(AuditStop::NoRun));
-    Ok(())
-}
+const WORKED: [(Kind, u64); 9] = [
+    (Kind::Ingest, 0),
+    (Kind::Route(0), 0),
+    (Kind::Receive(0), 0),
+    (Kind::Exchange, 1),
+    (Kind::Apply(0), 0),
+    (Kind::SendRow, 0),
+    (Kind::Receive(0), 0),
+    (Kind::Exchange, 2),
+    (Kind::Write, 0),
+];
 
 #[test]
-fn an_exchange_gives_its_version(rt: HostRuntime) -> Result<(), Fail> {
-    let steps = [
-        (Kind::Ingest, 0),
-        (Kind::Route(0), 0),
-        (Kind::Receive(0), 0),
-        (Kind::Exchange, 2),
-        (Kind::Apply(0), 0),
-        (Kind::SendRow, 0),
-        (Kind::Receive(0), 0),
-        (Kind::Exchange, 2),
-        (Kind::Write, 0),
-    ];
-    assert_eq!(rt; audited(rt.alloc(), &steps)?, Err(AuditStop::NoRun));
-    Ok(())
+fn the_worked_journal_is_legal(rt: HostRuntime) -> Result<(), AllocError> {
+    says(&rt, rt.alloc(), &WORKED, Ok(9))?;
+    says(&rt, rt.alloc(), &WORKED[..8], Err(AuditStop::NoRun))
+}
+
+const NO_EXCHANGE: [(Kind, u64); 8] = [
+    (Kind::Ingest, 0),
+    (Kind::Route(0), 0),
+    (Kind::Receive(0), 0),
+    (Kind::Apply(0), 0),
+    (Kind::SendRow, 0),
+    (Kind::Receive(0), 0),
+    (Kind::Exchange, 2),
+    (Kind::Write, 0),
+];
+
+#[test]
+fn a_group_waits_for_an_exchange(rt: HostRuntime) -> Result<(), AllocError> {
+    says(&rt, rt.alloc(), &NO_EXCHANGE, Err(AuditStop::NoRun))
+}
+
+const OTHER_VERSION: [(Kind, u64); 9] = [
+    (Kind::Ingest, 0),
+    (Kind::Route(0), 0),
+    (Kind::Receive(0), 0),
+    (Kind::Exchange, 2),
+    (Kind::Apply(0), 0),
+    (Kind::SendRow, 0),
+    (Kind::Receive(0), 0),
+    (Kind::Exchange, 2),
+    (Kind::Write, 0),
+];
+
+#[test]
+fn an_exchange_gives_its_version(rt: HostRuntime) -> Result<(), AllocError> {
+    says(&rt, rt.alloc(), &OTHER_VERSION, Err(AuditStop::NoRun))
 }

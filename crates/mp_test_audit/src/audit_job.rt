@@ -11,7 +11,7 @@ use mp_names::Kind;
 use mp_q_simple::Q1;
 use std::alloc::{AllocError, Global};
 use std::marker::Brand;
-use std::test::Fail;
+use std::process::Abort;
 
 const SHAPE: Shape = Shape {
     workers: 1,
@@ -89,30 +89,36 @@ fn add_steps(steps: &[(Kind, u64)], kept: &mut Vec<Kept>) -> Result<(), AllocErr
     Ok(())
 }
 
-#[test]
-fn the_worked_journal_is_legal(rt: HostRuntime) -> Result<(), Fail> {
-    let audited = audited(rt.alloc(), &[(Kind::Exchange, 1)], ANSWER)?;
-    assert_eq!(rt; audited, Ok(9));
+// The audit says this of these steps with this answer.
+fn says(
+    rt: &impl Abort,
+    alloc: Global,
+    steps: &[(Kind, u64)],
+    answer: &[u8],
+    wanted: Result<u64, AuditStop>,
+) -> Result<(), AllocError> {
+    let said = audited(alloc, steps, answer)?;
+    assert!(rt; said == wanted);
     Ok(())
 }
 
-#[test]
-fn a_group_waits_for_an_exchange(rt: HostRuntime) -> Result<(), Fail> {
-    let audited = audited(rt.alloc(), &[], ANSWER)?;
-    assert_eq!(rt; audited, Err(AuditStop::NoRun));
-    Ok(())
-}
+const REFUTED: Result<u64, AuditStop> = Err(AuditStop::NoRun);
 
 #[test]
-fn an_exchange_gives_its_version(rt: HostRuntime) -> Result<(), Fail> {
-    let audited = audited(rt.alloc(), &[(Kind::Exchange, 2)], ANSWER)?;
-    assert_eq!(rt; audited, Err(AuditStop::NoRun));
-    Ok(())
+fn the_worked_journal_is_legal(rt: HostRuntime) -> Result<(), AllocError> {
+    says(&rt, rt.alloc(), &[(Kind::Exchange, 1)], ANSWER, Ok(9))
 }
 
+// A group waits for an exchange. An exchange gives its version. Another answer is of no run.
 #[test]
-fn another_answer_is_of_no_run(rt: HostRuntime) -> Result<(), Fail> {
-    let audited = audited(rt.alloc(), &[(Kind::Exchange, 1)], b"5|7|2|90\n")?;
-    assert_eq!(rt; audited, Err(AuditStop::NoRun));
-    Ok(())
+fn others_are_refuted(rt: HostRuntime) -> Result<(), AllocError> {
+    says(&rt, rt.alloc(), &[], ANSWER, REFUTED)?;
+    says(&rt, rt.alloc(), &[(Kind::Exchange, 2)], ANSWER, REFUTED)?;
+    says(
+        &rt,
+        rt.alloc(),
+        &[(Kind::Exchange, 1)],
+        b"5|7|2|90\n",
+        REFUTED,
+    )
 }

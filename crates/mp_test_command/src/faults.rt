@@ -1,7 +1,7 @@
 //! What comes of faults: which come first, and what then stands in the files.
 ghost use Rattle.std.specs.Prelude.{◌<◌};
 
-use crate::fixture::{End, Holds, SeeingDepot, Seen, ends, failing_files, files};
+use crate::fixture::{End, failing_files, files, just_ends};
 use mp_outside::{MemDepot, Op};
 use std::alloc::{AllocError, Global};
 use std::process::Abort;
@@ -271,20 +271,19 @@ fn prepare(depot: &mut MemDepot, files: &[File], calls: &[Call], op: Op) -> Resu
 }
 
 /// A depot that has these, and gives and takes so many bytes at most.
-fn failing_after<'s>(
+fn failing_after(
     alloc: Global,
-    seen: &'s Seen,
     asked: &Asked,
     portion: u64,
     calls: &[Call],
     op: Op,
-) -> Result<SeeingDepot<'s>, AllocError>
+) -> Result<MemDepot, AllocError>
     requires { 0 < portion }
 {
     let mut memory = MemDepot::new(alloc);
     prepare(&mut memory, asked.files, calls, op)?;
     memory.take_at_most(portion);
-    Ok(SeeingDepot { memory, seen })
+    Ok(memory)
 }
 
 /// Does a run where the call after these fails, and compares its end.
@@ -298,20 +297,19 @@ fn fails_after<R: Threads + Wait + Sync + AllocGlobal + Abort>(
 ) -> Result<(), AllocError>
     requires { 0 < portion }
 {
-    let seen = Seen::nothing();
-    let mut depot = failing_after(rt.alloc(), &seen, asked, portion, calls, op)?;
-    ends_so(rt, &mut depot, asked, calls, end)
+    let mut memory = failing_after(rt.alloc(), asked, portion, calls, op)?;
+    ends_so(rt, &mut memory, asked, calls, end)
 }
 
 fn ends_so<R: Threads + Wait + Sync + AllocGlobal + Abort>(
     rt: &R,
-    depot: &mut SeeingDepot<'_>,
+    memory: &mut MemDepot,
     asked: &Asked,
     calls: &[Call],
     end: End<'_>,
 ) -> Result<(), AllocError> {
-    ends(rt, depot, asked.line, Holds::Nobody, end)?;
-    hold(rt, rt.alloc(), &depot.memory, asked.files, calls)
+    just_ends(rt, memory, asked.line, end)?;
+    hold(rt, rt.alloc(), memory, asked.files, calls)
 }
 
 fn end_of(op: Op) -> End<'static> {
@@ -392,9 +390,8 @@ fn finds<R: Threads + Wait + Sync + AllocGlobal + Abort>(
     nth: u64,
     end: End<'_>,
 ) -> Result<(), AllocError> {
-    let seen = Seen::nothing();
-    let mut depot = failing_files(rt.alloc(), &seen, b"x", Op::Find, nth)?;
-    ends(rt, &mut depot, Q1, Holds::Nobody, end)
+    let mut memory = failing_files(rt.alloc(), b"x", Op::Find, nth)?;
+    just_ends(rt, &mut memory, Q1, end)
 }
 
 #[test]
@@ -410,9 +407,8 @@ fn says_first<R: Threads + Wait + Sync + AllocGlobal + Abort>(
     events: &[u8],
     end: End<'_>,
 ) -> Result<(), AllocError> {
-    let seen = Seen::nothing();
-    let mut depot = files(rt.alloc(), &seen, events)?;
-    ends(rt, &mut depot, line, Holds::Nobody, end)
+    let mut memory = files(rt.alloc(), events)?;
+    just_ends(rt, &mut memory, line, end)
 }
 
 /// The output fails at each of the bytes, and at none.

@@ -103,19 +103,19 @@ impl<'s> Gate for SeeingGate<'s> {
     }
 }
 
-/// A depot in memory that tells of appends.
+/// A depot in memory that tells of appends. It is lent both, so that nothing is let go with it.
 #[derive(Drop)]
-pub struct SeeingDepot<'s> {
-    pub memory: MemDepot,
-    pub seen: &'s Seen,
+struct SeeingDepot<'s> {
+    memory: &'s mut MemDepot,
+    seen: &'s Seen,
 }
 
 impl<'s> Depot for SeeingDepot<'s> {
-    ghost files = { λ d. depot_files d.memory };
+    ghost files = { λ d. depot_files d.memory.now };
 
-    ghost read_faults = { λ d. depot_read_faults d.memory };
+    ghost read_faults = { λ d. depot_read_faults d.memory.now };
 
-    ghost write_faults = { λ d. depot_write_faults d.memory };
+    ghost write_faults = { λ d. depot_write_faults d.memory.now };
 
     ghost found = { λ before name there after. ⊤ };
 
@@ -148,27 +148,22 @@ fn put_files(memory: &mut MemDepot, events: &[u8]) -> Result<(), AllocError> {
 }
 
 /// A depot with an event file `e` and an empty configuration `c`.
-pub fn files<'s>(
-    alloc: Global,
-    seen: &'s Seen,
-    events: &[u8],
-) -> Result<SeeingDepot<'s>, AllocError> {
+pub fn files(alloc: Global, events: &[u8]) -> Result<MemDepot, AllocError> {
     let mut memory = MemDepot::new(alloc);
     put_files(&mut memory, events)?;
-    Ok(SeeingDepot { memory, seen })
+    Ok(memory)
 }
 
 /// Such a depot, where one call fails.
-pub fn failing_files<'s>(
+pub fn failing_files(
     alloc: Global,
-    seen: &'s Seen,
     events: &[u8],
     op: Op,
     nth: u64,
-) -> Result<SeeingDepot<'s>, AllocError> {
-    let mut depot = files(alloc, seen, events)?;
-    depot.memory.fail(op, nth)?;
-    Ok(depot)
+) -> Result<MemDepot, AllocError> {
+    let mut memory = files(alloc, events)?;
+    memory.fail(op, nth)?;
+    Ok(memory)
 }
 
 fn push(alloc: Global, words: &mut Vec<String>, word: &str) -> Result<(), AllocError> {
@@ -186,22 +181,19 @@ fn cut(alloc: Global, line: &str) -> Result<Vec<String>, AllocError> {
     Ok(words)
 }
 
-/// Does what a line says on the files of a depot, with a gate: the status. One kind of depot and one of gate serve all tests, so
+/// Does what the words say on the files of a depot, with a gate: the status. One kind of depot and one of gate serve all tests, so
 /// that the command is compiled once.
 fn code_of<R: Threads + Wait + Sync + AllocGlobal>(
     rt: &R,
-    depot: &mut SeeingDepot<'_>,
+    memory: &mut MemDepot,
+    seen: &Seen,
     said: &mut MemSink,
-    line: &str,
+    words: &[String],
     holds: Holds<'_>,
-) -> Result<u8, AllocError> {
-    let words = cut(rt.alloc(), line)?;
-    let gate = SeeingGate {
-        seen: depot.seen,
-        holds,
-    };
-    let ended = run(rt, words.as_slice(), depot, said, &gate);
-    Ok(ended.code)
+) -> u8 {
+    let gate = SeeingGate { seen, holds };
+    let mut depot = SeeingDepot { memory, seen };
+    run(rt, words, &mut depot, said, &gate).code
 }
 
 /// How a command ends: the status, and what it says, by an output that takes so many bytes one by one and then fails.
@@ -226,15 +218,28 @@ impl<'a> End<'a> {
 /// Does what a line says on the files of a depot, with a gate, and compares its end.
 pub fn ends<R: Threads + Wait + Sync + AllocGlobal + Abort>(
     rt: &R,
-    depot: &mut SeeingDepot<'_>,
+    memory: &mut MemDepot,
+    seen: &Seen,
     line: &str,
     holds: Holds<'_>,
     end: End<'_>,
 ) -> Result<(), AllocError> {
+    let words = cut(rt.alloc(), line)?;
     let mut said = output(rt.alloc(), end.taken)?;
-    let code = code_of(rt, depot, &mut said, line, holds)?;
+    let code = code_of(rt, memory, seen, &mut said, words.as_slice(), holds);
     assert!(rt; code == end.status && said.bytes() == end.says, "{line}");
     Ok(())
+}
+
+/// The same, where nobody is held back, and nobody looks at what is seen.
+pub fn just_ends<R: Threads + Wait + Sync + AllocGlobal + Abort>(
+    rt: &R,
+    memory: &mut MemDepot,
+    line: &str,
+    end: End<'_>,
+) -> Result<(), AllocError> {
+    let seen = Seen::nothing();
+    ends(rt, memory, &seen, line, Holds::Nobody, end)
 }
 
 /// An output that takes so many bytes one by one and then fails.

@@ -18,14 +18,9 @@ fn fails<R: Threads + Wait + Sync + AllocGlobal + Abort>(
     rt: &R,
     seen: &Seen,
 ) -> Result<(), AllocError> {
-    let mut depot = failing_files(rt.alloc(), seen, BIDS, Op::Append, 1)?;
-    ends(
-        rt,
-        &mut depot,
-        IN_THREE,
-        Holds::Second,
-        End::of(7, b"write fault\n"),
-    )
+    let mut memory = failing_files(rt.alloc(), BIDS, Op::Append, 1)?;
+    let end = End::of(7, b"write fault\n");
+    ends(rt, &mut memory, seen, IN_THREE, Holds::Second, end)
 }
 
 // The lines of time 5 are appended while worker 2 has read no event, so it can't have come to its end. If nobody told it that

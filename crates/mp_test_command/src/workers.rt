@@ -1,6 +1,7 @@
 //! That the answer comes of the workers: a gate and a depot see what they do.
-use crate::fixture::{End, Holds, SeeingDepot, Seen, ends, files};
+use crate::fixture::{End, Holds, Seen, ends, files};
 use mp_meet::Meet;
+use mp_outside::MemDepot;
 use std::alloc::AllocError;
 use std::process::Abort;
 use std::sync::Wait;
@@ -22,22 +23,23 @@ fn answers<R: Threads + Wait + Sync + AllocGlobal + Abort>(
     holds: Holds<'_>,
     seen: &Seen,
 ) -> Result<(), AllocError> {
-    let mut depot = files(rt.alloc(), seen, TWO_BIDS)?;
-    answers_in(rt, &mut depot, line, holds)
+    let mut memory = files(rt.alloc(), TWO_BIDS)?;
+    ends(rt, &mut memory, seen, line, holds, End::of(0, b""))?;
+    are_there(rt, &memory);
+    Ok(())
 }
 
-fn answers_in<R: Threads + Wait + Sync + AllocGlobal + Abort>(
+fn are_there(rt: &impl Abort, memory: &MemDepot) {
+    assert!(rt; memory.get("o") == Some(b"5|1|1|178\n5|4|1|89\n".as_slice()));
+}
+
+/// Two workers that meet answer.
+fn meet_and_answer<R: Threads + Wait + Sync + AllocGlobal + Abort>(
     rt: &R,
-    depot: &mut SeeingDepot<'_>,
-    line: &str,
-    holds: Holds<'_>,
+    meet: &Meet,
 ) -> Result<(), AllocError> {
-    ends(rt, depot, line, holds, End::of(0, b""))?;
-    assert!(rt;
-        depot.memory.get("o") == Some(b"5|1|1|178\n5|4|1|89\n".as_slice()),
-        "{line}"
-    );
-    Ok(())
+    let seen = Seen::nothing();
+    answers(rt, RUN, Holds::Two(meet), &seen)
 }
 
 // Workers 1 and 2 wait for each other, each before its first step of kind Apply. On one thread the first of them would
@@ -45,7 +47,7 @@ fn answers_in<R: Threads + Wait + Sync + AllocGlobal + Abort>(
 #[test]
 fn two_threads_meet(rt: HostRuntime) -> Result<(), AllocError> {
     let meet = Meet::new(1, 2, 1_000_000);
-    answers(&rt, RUN, Holds::Two(&meet), &Seen::nothing())?;
+    meet_and_answer(&rt, &meet)?;
     assert!(rt; !meet.missed());
     Ok(())
 }

@@ -3,6 +3,7 @@ ghost use Rattle.std.specs.Prelude.{◌≡◌, true};
 ghost use Rattle.mp_job.specs.Runs.{IsRunOf};
 
 use crate::jobs::{job_by, made};
+use crate::refused::Refused;
 use mp_board::Cause;
 use mp_drive::{RunPlan, replay};
 use mp_fold::answer_pieces;
@@ -16,7 +17,6 @@ use std::alloc::{AllocError, Global};
 use std::marker::Brand;
 use std::process::Abort;
 use std::sync::Wait;
-use std::test::Fail;
 use std::thread::Threads;
 
 const WORKERS: u32 = 16;
@@ -67,7 +67,7 @@ fn write<J: Naming + Send + Sync, R: Threads + Wait + Sync + AllocGlobal + Abort
 }
 
 #[test]
-fn paced_runs_write_the_answer(rt: HostRuntime) -> Result<(), Fail> {
+fn paced_runs_write_the_answer(rt: HostRuntime) -> Result<(), Refused> {
     for (seed, config) in JOBS {
         let answer = folded(rt.alloc(), seed)?;
         let events = made(rt.alloc(), EVENTS, seed)?;

@@ -2,13 +2,13 @@
 ghost use Rattle.std.specs.Prelude.{◌<◌, ◌≤◌, IfOk};
 ghost use Rattle.mp_model.specs.Legal.{EventsAreLegal};
 
+use crate::refused::Refused;
 use mp_control::{RuleList, read_settings};
 use mp_job::{Event, Job};
 use mp_make::make_events;
 use mp_names::Shape;
 use mp_q_auction::Q4;
 use std::alloc::{AllocError, Global};
-use std::test::Fail;
 
 /// So many events, made from a seed. `AllocError`: no memory.
 pub fn made(alloc: Global, count: u32, seed: u64) -> Result<Vec<Event>, AllocError>
@@ -24,7 +24,7 @@ pub fn job_by(
     events: Vec<Event>,
     config: &[u8],
     workers: u32,
-) -> Result<Job<Q4>, Fail>
+) -> Result<Job<Q4>, Refused>
     requires events { EventsAreLegal events.items }
     requires some_worker { 0 < workers }
     requires few_workers { workers ≤ 64 }

@@ -11,4 +11,6 @@ mod jobs;
 #[cfg(test)]
 mod packets;
 #[cfg(test)]
+mod refused;
+#[cfg(test)]
 mod sends;

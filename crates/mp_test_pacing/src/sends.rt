@@ -2,6 +2,7 @@
 ghost use Rattle.std.specs.Prelude.{◌≡◌, true, false};
 ghost use Rattle.mp_job.specs.Runs.{IsRunOf};
 
+use crate::refused::Refused;
 use mp_board::Cause;
 use mp_control::{RuleList, read_settings};
 use mp_drive::Plain;
@@ -14,7 +15,6 @@ use mp_q_simple::Q1;
 use mp_worker::Turn;
 use std::alloc::Global;
 use std::marker::Brand;
-use std::test::Fail;
 
 const SHAPE: Shape = Shape {
     workers: 2,
@@ -23,7 +23,7 @@ const SHAPE: Shape = Shape {
 };
 
 /// One bid, and a bin that goes to worker 1 and comes back.
-fn job_of(alloc: Global, moves: &[u8]) -> Result<Job<Q1>, Fail> {
+fn job_of(alloc: Global, moves: &[u8]) -> Result<Job<Q1>, Refused> {
     let events = read_events(alloc, b"B|5|1|1|100\n")?;
     let settings = read_settings(alloc, moves, &SHAPE, &RuleList::new())?;
     let job = Job::new(alloc, Q1::given(), events, settings.controls, SHAPE)?;
@@ -58,7 +58,7 @@ fn told(index: u32, to: u32) -> Turn {
 
 // The second move waits until all know that the bin has arrived, where the run is paced.
 #[test]
-fn paced_sends(rt: HostRuntime) -> Result<(), Fail> {
+fn paced_sends(rt: HostRuntime) -> Result<(), Refused> {
     let job = job_of(rt.alloc(), b"M|10|0|0|1\nM|20|0|0|0\n")?;
     let paced = sent_paced::<Brand>(rt.alloc(), &job)?;
     assert!(rt; paced.as_slice() == [told(0, 0), told(0, 1), Turn::NotNow].as_slice());
@@ -69,7 +69,7 @@ fn paced_sends(rt: HostRuntime) -> Result<(), Fail> {
 
 // Where the later move stands first, the sooner one goes out first all the same.
 #[test]
-fn paced_moves_go_out_by_time(rt: HostRuntime) -> Result<(), Fail> {
+fn paced_moves_go_out_by_time(rt: HostRuntime) -> Result<(), Refused> {
     let job = job_of(rt.alloc(), b"M|20|0|0|0\nM|10|0|0|1\n")?;
     let paced = sent_paced::<Brand>(rt.alloc(), &job)?;
     assert!(rt; paced.as_slice() == [told(1, 0), told(1, 1), Turn::NotNow].as_slice());

@@ -6,4 +6,6 @@
 #[cfg(test)]
 mod drawn;
 #[cfg(test)]
+mod refused;
+#[cfg(test)]
 mod workers;

@@ -4,6 +4,7 @@ ghost use Rattle.mp_job.specs.Runs.{IsRunOf};
 ghost use Rattle.mp_model.specs.Legal.{EventsAreLegal};
 
 use crate::drawn::{config_text, pipe_text};
+use crate::refused::Refused;
 use mp_board::Cause;
 use mp_control::{RuleList, read_settings};
 use mp_draws::Draws;
@@ -20,7 +21,6 @@ use mp_pipeline::Pipe;
 use std::alloc::{AllocError, Global};
 use std::marker::Brand;
 use std::process::Abort;
-use std::test::Fail;
 
 /// How many pipelines are drawn, each with its events and moves.
 const DRAWN: u64 = 100;
@@ -64,7 +64,7 @@ fn writes<J: Naming>(
 }
 
 /// By a seed's pipeline, events and moves, workers write what the fold gives: how many bytes.
-fn agree(rt: &impl Abort, alloc: Global, seed: u64) -> Result<usize, Fail> {
+fn agree(rt: &impl Abort, alloc: Global, seed: u64) -> Result<usize, Refused> {
     let mut draws = Draws::of(seed);
     let text = pipe_text(alloc, &mut draws)?;
     let pipe = read_pipe(alloc, text.as_slice())?;
@@ -92,7 +92,7 @@ fn agree(rt: &impl Abort, alloc: Global, seed: u64) -> Result<usize, Fail> {
 }
 
 #[test]
-fn workers_answer_drawn_pipelines(rt: HostRuntime) -> Result<(), Fail> {
+fn workers_answer_drawn_pipelines(rt: HostRuntime) -> Result<(), Refused> {
     let mut answered = 0;
     for seed in 0..DRAWN {
         if agree(&rt, rt.alloc(), seed)? > 0 {

@@ -4,6 +4,7 @@ ghost use Rattle.mp_job.specs.Runs.{IsRunOf};
 ghost use Rattle.mp_model.specs.Tables.{table_of};
 ghost use Rattle.mp_output.specs.Rows.{GivesRows};
 
+use crate::refused::Refused;
 use crate::saving::PLAN;
 use mp_board::Cause;
 use mp_drive::replay;
@@ -15,7 +16,6 @@ use mp_threads::run_with_tallies;
 use std::marker::Brand;
 use std::process::Abort;
 use std::sync::Wait;
-use std::test::Fail;
 use std::thread::Threads;
 
 /// The workers of a job write this answer, by four schedules and on threads.
@@ -23,7 +23,7 @@ pub fn writes<Q: Query + Send, R: Threads + Wait + Sync + AllocGlobal + Abort>(
     rt: &R,
     job: &Job<Q>,
     answer: &[u8],
-) -> Result<(), Fail>
+) -> Result<(), Refused>
     requires rows { GivesRows (table_of Q.facts job.now) }
 {
     for seed in 0..4 {

@@ -11,4 +11,6 @@ mod lots;
 #[cfg(test)]
 mod persons;
 #[cfg(test)]
+mod refused;
+#[cfg(test)]
 mod saving;

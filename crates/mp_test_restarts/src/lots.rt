@@ -2,6 +2,7 @@
 ghost use Rattle.std.specs.Prelude.{◌≡◌, ◌≤◌, IfOk, None, Some, false};
 
 use crate::going::writes;
+use crate::refused::Refused;
 use crate::saving::leaves;
 use mp_checkpoint::read_checkpoint;
 use mp_control::{RuleList, read_settings};
@@ -12,7 +13,6 @@ use mp_q_auction::Q4;
 use std::alloc::Global;
 use std::process::Abort;
 use std::sync::Wait;
-use std::test::Fail;
 use std::thread::Threads;
 
 /// That of the job that stops.
@@ -30,7 +30,7 @@ const SECOND: Shape = Shape {
 };
 
 /// The job of these events that stops at a time. Both bins of both stages move at 30, and would move again at 60.
-fn job_until(alloc: Global, text: &[u8], time: u64) -> Result<Job<Q4>, Fail>
+fn job_until(alloc: Global, text: &[u8], time: u64) -> Result<Job<Q4>, Refused>
     requires first { 1 ≤ time }
     requires last { time ≤ 1000 }
     ensures stops { IfOk result (λ job. job.until ≡ Some time) }
@@ -50,7 +50,7 @@ fn job_until(alloc: Global, text: &[u8], time: u64) -> Result<Job<Q4>, Fail>
 
 /// The job of these events that goes on from the checkpoint of this file. All bins of both stages move at 60, and those of the
 /// first one after another from 61 on; those at 30 would have moved before.
-fn job_from(rt: &(impl Abort + AllocGlobal), text: &[u8], file: &[u8]) -> Result<Job<Q4>, Fail> {
+fn job_from(rt: &(impl Abort + AllocGlobal), text: &[u8], file: &[u8]) -> Result<Job<Q4>, Refused> {
     assert!(rt; file.len() <= 1000);
     let alloc = rt.alloc();
     let query = Q4::given();
@@ -88,7 +88,7 @@ fn is_left(
     time: u64,
     answer: &[u8],
     file: &[u8],
-) -> Result<(), Fail>
+) -> Result<(), Refused>
     requires first { 1 ≤ time }
     requires last { time ≤ 1000 }
 {
@@ -99,7 +99,7 @@ fn is_left(
 // An open lot. Then one lot is sold before the job stops, and the other one closes at that very time: its row is of the rest of the
 // answer. The cells of both lots stay, and the sum and the count of sales of the category are saved.
 #[test]
-fn lots_are_saved(rt: HostRuntime) -> Result<(), Fail> {
+fn lots_are_saved(rt: HostRuntime) -> Result<(), Refused> {
     is_left(&rt, OUTBID, 50, b"", OPEN)?;
     is_left(&rt, TWO, 70, b"40|10|60\n", CLOSING)
 }
@@ -110,7 +110,7 @@ fn goes_on<R: Threads + Wait + Sync + AllocGlobal + Abort>(
     events: &[u8],
     file: &[u8],
     answer: &[u8],
-) -> Result<(), Fail> {
+) -> Result<(), Refused> {
     let job = job_from(rt, events, file)?;
     writes(rt, &job, answer)
 }
@@ -118,7 +118,7 @@ fn goes_on<R: Threads + Wait + Sync + AllocGlobal + Abort>(
 // The lot was open at 50, with a best bid of 60: it closes at 100, before the bid of 90; or a later bid outbids the one that was saved.
 // Then a lot closes at the very time that the job goes on from, and the sum and the count of the category go on from what was saved.
 #[test]
-fn lots_go_on(rt: HostRuntime) -> Result<(), Fail> {
+fn lots_go_on(rt: HostRuntime) -> Result<(), Refused> {
     goes_on(&rt, LATE, OPEN, b"100|10|60\n")?;
     goes_on(&rt, OUTBID, OPEN, b"100|10|90\n")?;
     goes_on(&rt, TWO, CLOSING, b"70|10|75\n")

@@ -2,6 +2,7 @@
 ghost use Rattle.std.specs.Prelude.{◌≡◌, IfOk, None, Some, false};
 
 use crate::going::writes;
+use crate::refused::Refused;
 use crate::saving::leaves;
 use mp_checkpoint::read_checkpoint;
 use mp_events::read_events;
@@ -10,7 +11,6 @@ use mp_names::Shape;
 use mp_q_join::Q8;
 use std::alloc::Global;
 use std::process::Abort;
-use std::test::Fail;
 
 /// That of the job that stops.
 const FIRST: Shape = Shape {
@@ -33,7 +33,7 @@ const EVENTS: &[u8] =
 const SAVED: &[u8] = b"K|1|q8|150|43200\nc|0|5|1|Ann|0\nw|0|5|43200\nE|2\n";
 
 /// The job of the events that stops at 150.
-fn job_until_150(alloc: Global) -> Result<Job<Q8>, Fail>
+fn job_until_150(alloc: Global) -> Result<Job<Q8>, Refused>
     ensures stops { IfOk result (λ job. job.until ≡ Some 150) }
     ensures fresh { IfOk result (λ job. job.from ≡ None) }
     ensures pace { IfOk result (λ job. job.paced ≡ false) }
@@ -47,7 +47,7 @@ fn job_until_150(alloc: Global) -> Result<Job<Q8>, Fail>
 }
 
 /// The job of the events that goes on from the checkpoint of this file.
-fn job_from(rt: &(impl Abort + AllocGlobal), file: &[u8]) -> Result<Job<Q8>, Fail> {
+fn job_from(rt: &(impl Abort + AllocGlobal), file: &[u8]) -> Result<Job<Q8>, Refused> {
     assert!(rt; file.len() <= 1000);
     let alloc = rt.alloc();
     let query = Q8::given();
@@ -61,14 +61,14 @@ fn job_from(rt: &(impl Abort + AllocGlobal), file: &[u8]) -> Result<Job<Q8>, Fai
 }
 
 #[test]
-fn a_person_is_saved(rt: HostRuntime) -> Result<(), Fail> {
+fn a_person_is_saved(rt: HostRuntime) -> Result<(), Refused> {
     let job = job_until_150(rt.alloc())?;
     leaves(&rt, rt.alloc(), &job, 150, b"", SAVED)
 }
 
 // Her auction opens within the day: that she sells is told at the day's end. The other person's first auction opens a day later.
 #[test]
-fn a_person_goes_on(rt: HostRuntime) -> Result<(), Fail> {
+fn a_person_goes_on(rt: HostRuntime) -> Result<(), Refused> {
     let job = job_from(&rt, SAVED)?;
     writes(&rt, &job, b"43200|5|Ann\n")
 }

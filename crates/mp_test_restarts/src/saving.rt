@@ -4,6 +4,7 @@ ghost use Rattle.mp_model.specs.Tables.{table_of};
 ghost use Rattle.mp_msg.specs.LastStates.{AreAllStates};
 ghost use Rattle.mp_output.specs.Rows.{GivesRows};
 
+use crate::refused::Refused;
 use mp_board::Cause;
 use mp_checkpoint::{fits, write_checkpoint};
 use mp_collect::collect;
@@ -18,7 +19,6 @@ use mp_saved::Saved;
 use std::alloc::{AllocError, Global};
 use std::marker::Brand;
 use std::process::Abort;
-use std::test::Fail;
 
 /// Mailboxes for two messages.
 pub const PLAN: RunPlan = RunPlan {
@@ -35,7 +35,7 @@ pub fn leaves<Q: Saved>(
     time: Time,
     answer: &[u8],
     file: &[u8],
-) -> Result<(), Fail>
+) -> Result<(), Refused>
     requires stops { job.now.until ≡ Some time }
     requires fresh { job.now.from ≡ None }
     requires pace { job.now.paced ≡ false }

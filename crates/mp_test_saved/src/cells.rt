@@ -4,12 +4,44 @@ use mp_q_join::{Q3, Q8};
 use mp_q_simple::{Q1, Q2};
 use mp_q_window::{Q5, Q7};
 use mp_saved::{CellRefused, Saved};
-use std::alloc::Global;
+use std::alloc::{AllocError, Global};
 use std::process::Abort;
-use std::test::Fail;
 
 /// The time at which the states are saved.
 const UNTIL: u64 = 50;
+
+/// A stage and a text.
+type Text = (u32, &'static [u8]);
+
+/// The cell is written as this text.
+fn is_written<Q: Saved>(
+    rt: &impl Abort,
+    query: &Q,
+    cell: &Q::Cell,
+    stage: u32,
+    text: &[u8],
+    out: &mut Vec<u8>,
+) -> Result<(), AllocError> {
+    out.clear();
+    query.put_cell(stage, cell, out)?;
+    assert!(rt; out.as_slice() == text);
+    Ok(())
+}
+
+/// So are the cell and its copy.
+fn are_written<Q: Saved>(
+    rt: &impl Abort,
+    alloc: Global,
+    query: &Q,
+    cell: &Q::Cell,
+    stage: u32,
+    text: &[u8],
+) -> Result<(), AllocError> {
+    let mut out = Vec::new(alloc);
+    is_written(rt, query, cell, stage, text, &mut out)?;
+    let copy = query.copy_cell(alloc, stage, cell)?;
+    is_written(rt, query, &copy, stage, text, &mut out)
+}
 
 /// The cell of a text is that of the text, and so is its copy.
 fn is_kept<Q: Saved>(
@@ -18,15 +50,9 @@ fn is_kept<Q: Saved>(
     query: &Q,
     stage: u32,
     text: &[u8],
-) -> Result<(), Fail> {
+) -> Result<(), CellRefused> {
     let cell = query.get_cell(alloc, stage, 1, UNTIL, text)?;
-    let mut first = Vec::new(alloc);
-    query.put_cell(stage, &cell, &mut first)?;
-    assert_eq!(rt; first.as_slice(), text);
-    let copy = query.copy_cell(alloc, stage, &cell)?;
-    let mut second = Vec::new(alloc);
-    query.put_cell(stage, &copy, &mut second)?;
-    assert_eq!(rt; second.as_slice(), text);
+    are_written(rt, alloc, query, &cell, stage, text)?;
     Ok(())
 }
 
@@ -36,89 +62,111 @@ fn is_refused<Q: Saved>(rt: &impl Abort, alloc: Global, query: &Q, stage: u32, t
     assert!(rt; matches!(why, Err(CellRefused::NoCell)));
 }
 
-#[test]
-fn saved_lot(rt: HostRuntime) -> Result<(), Fail> {
-    let alloc = rt.alloc();
-    let q4 = Q4::given();
-    is_kept(&rt, alloc, &q4, 0, b"1|9|10|0|100|1|60")?;
-    is_kept(&rt, alloc, &q4, 0, b"1|9|10|0|100|0")?;
-    is_kept(&rt, alloc, &q4, 0, b"0|1|60")?;
-    is_kept(&rt, alloc, &q4, 1, b"120|2")?;
-    is_refused(&rt, alloc, &q4, 0, b"0|0");
-    is_refused(&rt, alloc, &q4, 0, b"0|1|060");
-    is_refused(&rt, alloc, &q4, 0, b"0|1|60|");
-    is_refused(&rt, alloc, &q4, 1, b"0|0");
-    is_refused(&rt, alloc, &q4, 1, b"1|1000001");
-    is_refused(&rt, alloc, &q4, 2, b"120|2");
+/// The first texts are those of cells, and the others those of none.
+fn tells<Q: Saved>(
+    rt: &impl Abort,
+    alloc: Global,
+    query: &Q,
+    kept: &[Text],
+    refused: &[Text],
+) -> Result<(), CellRefused> {
+    for (stage, text) in kept {
+        is_kept(rt, alloc, query, *stage, text)?;
+    }
+    for (stage, text) in refused {
+        is_refused(rt, alloc, query, *stage, text);
+    }
     Ok(())
 }
 
-#[test]
-fn saved_person(rt: HostRuntime) -> Result<(), Fail> {
-    let alloc = rt.alloc();
-    let q8 = Q8::given();
-    is_kept(&rt, alloc, &q8, 0, b"1|Ann|0")?;
-    is_kept(&rt, alloc, &q8, 0, b"1|Ann|1")?;
-    is_kept(&rt, alloc, &q8, 0, b"0|1")?;
-    is_refused(&rt, alloc, &q8, 0, b"0|0");
-    is_refused(&rt, alloc, &q8, 0, b"1||0");
-    is_refused(&rt, alloc, &q8, 0, b"1|Ann|2");
-    is_refused(&rt, alloc, &q8, 0, b"1|Ann|0|0");
-    Ok(())
-}
+const LOTS: [Text; 4] = [
+    (0, b"1|9|10|0|100|1|60"),
+    (0, b"1|9|10|0|100|0"),
+    (0, b"0|1|60"),
+    (1, b"120|2"),
+];
+
+const NO_LOTS: [Text; 6] = [
+    (0, b"0|0"),
+    (0, b"0|1|060"),
+    (0, b"0|1|60|"),
+    (1, b"0|0"),
+    (1, b"1|1000001"),
+    (2, b"120|2"),
+];
 
 #[test]
-fn saved_sellers(rt: HostRuntime) -> Result<(), Fail> {
-    let alloc = rt.alloc();
-    let q3 = Q3::given();
-    is_kept(&rt, alloc, &q3, 0, b"1|Ann|Boise|ID")?;
-    is_kept(&rt, alloc, &q3, 0, b"0|9|7")?;
-    is_refused(&rt, alloc, &q3, 0, b"0");
-    is_refused(&rt, alloc, &q3, 0, b"0|07");
-    is_refused(&rt, alloc, &q3, 0, b"1|Ann|Boise");
-    is_refused(&rt, alloc, &q3, 0, b"2|Ann|Boise|ID");
-    Ok(())
+fn saved_lot(rt: HostRuntime) -> Result<(), CellRefused> {
+    tells(&rt, rt.alloc(), &Q4::given(), &LOTS, &NO_LOTS)
 }
 
-#[test]
-fn saved_prices(rt: HostRuntime) -> Result<(), Fail> {
-    let alloc = rt.alloc();
-    let q6 = Q6::given();
-    is_kept(&rt, alloc, &q6, 0, b"0|1|60")?;
-    is_kept(&rt, alloc, &q6, 1, b"5|6")?;
-    is_kept(&rt, alloc, &q6, 1, b"1|2|3|4|5|6|7|8|9|10")?;
-    is_refused(&rt, alloc, &q6, 1, b"1|2|3|4|5|6|7|8|9|10|11");
-    is_refused(&rt, alloc, &q6, 1, b"");
-    Ok(())
-}
+const PERSONS: [Text; 3] = [(0, b"1|Ann|0"), (0, b"1|Ann|1"), (0, b"0|1")];
+
+const NO_PERSONS: [Text; 4] = [
+    (0, b"0|0"),
+    (0, b"1||0"),
+    (0, b"1|Ann|2"),
+    (0, b"1|Ann|0|0"),
+];
 
 #[test]
-fn saved_windows(rt: HostRuntime) -> Result<(), Fail> {
-    let alloc = rt.alloc();
-    let q5 = Q5::given();
-    is_kept(&rt, alloc, &q5, 0, b"3|3|40")?;
-    is_refused(&rt, alloc, &q5, 0, b"3|2");
-    is_refused(&rt, alloc, &q5, 0, b"50");
-    is_refused(&rt, alloc, &q5, 1, b"3|3|40");
-    let q7 = Q7::given();
-    is_kept(&rt, alloc, &q7, 0, b"1|2|3")?;
-    is_refused(&rt, alloc, &q7, 0, b"1|2");
-    is_refused(&rt, alloc, &q7, 0, b"1|2|3|4");
-    Ok(())
+fn saved_person(rt: HostRuntime) -> Result<(), CellRefused> {
+    tells(&rt, rt.alloc(), &Q8::given(), &PERSONS, &NO_PERSONS)
+}
+
+const SELLERS: [Text; 2] = [(0, b"1|Ann|Boise|ID"), (0, b"0|9|7")];
+
+const NO_SELLERS: [Text; 4] = [
+    (0, b"0"),
+    (0, b"0|07"),
+    (0, b"1|Ann|Boise"),
+    (0, b"2|Ann|Boise|ID"),
+];
+
+#[test]
+fn saved_sellers(rt: HostRuntime) -> Result<(), CellRefused> {
+    tells(&rt, rt.alloc(), &Q3::given(), &SELLERS, &NO_SELLERS)
+}
+
+const PRICES: [Text; 3] = [(0, b"0|1|60"), (1, b"5|6"), (1, b"1|2|3|4|5|6|7|8|9|10")];
+
+const NO_PRICES: [Text; 2] = [(1, b"1|2|3|4|5|6|7|8|9|10|11"), (1, b"")];
+
+#[test]
+fn saved_prices(rt: HostRuntime) -> Result<(), CellRefused> {
+    tells(&rt, rt.alloc(), &Q6::given(), &PRICES, &NO_PRICES)
+}
+
+const COUNTS: [Text; 1] = [(0, b"3|3|40")];
+
+const NO_COUNTS: [Text; 3] = [(0, b"3|2"), (0, b"50"), (1, b"3|3|40")];
+
+const WINDOWS: [Text; 1] = [(0, b"1|2|3")];
+
+const NO_WINDOWS: [Text; 2] = [(0, b"1|2"), (0, b"1|2|3|4")];
+
+#[test]
+fn saved_windows(rt: HostRuntime) -> Result<(), CellRefused> {
+    tells(&rt, rt.alloc(), &Q5::given(), &COUNTS, &NO_COUNTS)?;
+    tells(&rt, rt.alloc(), &Q7::given(), &WINDOWS, &NO_WINDOWS)
 }
 
 #[test]
 fn nothing_is_saved(rt: HostRuntime) {
-    let alloc = rt.alloc();
-    is_refused(&rt, alloc, &Q1::given(), 0, b"");
-    is_refused(&rt, alloc, &Q2::given(), 0, b"1");
+    is_refused(&rt, rt.alloc(), &Q1::given(), 0, b"");
+    is_refused(&rt, rt.alloc(), &Q2::given(), 0, b"1");
+}
+
+/// The rules of the query have these values.
+fn has_values<Q: Saved>(rt: &impl Abort, query: &Q, wanted: &[u64]) {
+    assert!(rt; query.values().as_slice() == wanted);
 }
 
 #[test]
 fn values_of_rules(rt: HostRuntime) {
-    assert_eq!(rt; Q1::given().values().as_slice(), [89, 100].as_slice());
-    assert_eq!(rt; Q2::given().values().as_slice(), [123].as_slice());
-    assert_eq!(rt; Q4::given().values().as_slice().len(), 0);
-    assert_eq!(rt; Q8::given().values().as_slice(), [43_200].as_slice());
-    assert_eq!(rt; Q6::NUMBER, 6);
+    has_values(&rt, &Q1::given(), &[89, 100]);
+    has_values(&rt, &Q2::given(), &[123]);
+    has_values(&rt, &Q4::given(), &[]);
+    has_values(&rt, &Q8::given(), &[43_200]);
+    assert!(rt; Q6::NUMBER == 6);
 }

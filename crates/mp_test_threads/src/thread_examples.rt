@@ -13,14 +13,17 @@ use mp_thread_examples::{
 use std::alloc::{AllocError, Global};
 use std::process::Abort;
 use std::sync::{Arc, Wait};
-use std::test::*;
 use std::thread::{Threads, join};
 
+// So many times the first number was raised, and so many times any.
+fn are(rt: &impl Abort, counts: &Counts, left: u64, raised: u64) {
+    assert!(rt; counts.left() == left && counts.raised() == raised);
+}
+
 #[test]
-fn thousand_exchanges(rt: HostRuntime) -> Result<(), Fail> {
+fn thousand_exchanges(rt: HostRuntime) -> Result<(), AllocError> {
     let counts = count_in_two(&rt, rt.alloc())?;
-    assert_eq!(rt; counts.left(), 1000);
-    assert_eq!(rt; counts.raised(), 2000);
+    are(&rt, &counts, 1000, 2000);
     Ok(())
 }
 
@@ -49,7 +52,7 @@ fn relay_by_posts<R: Threads + Wait + Copy + Drop + Send + Sync>(
 }
 
 #[test]
-fn thousand_messages(rt: HostRuntime) -> Result<(), Fail> {
+fn thousand_messages(rt: HostRuntime) -> Result<(), AllocError> {
     let alloc = rt.alloc();
     are_in_order(&rt, relay(&rt, alloc, 1000, 1)?.as_slice());
     are_in_order(&rt, relay_by_posts(rt, alloc, 1000, 1)?.as_slice());
@@ -58,9 +61,9 @@ fn thousand_messages(rt: HostRuntime) -> Result<(), Fail> {
 
 // All numbers below 1,000 have come, in order.
 fn are_in_order(rt: &impl Abort, got: &[u64]) {
-    assert_eq!(rt; got.len(), 1000);
+    assert!(rt; got.len() == 1000);
     for (i, number) in got.iter().enumerate() {
-        assert_eq!(rt; *number, i as u64);
+        assert!(rt; *number == i as u64);
     }
 }
 
@@ -103,29 +106,29 @@ fn raise_second(rt: &impl Abort, lock: &SeatLock<Counts>, second: &mut Seat<Coun
     requires { IsIdle lock.now second.old × (second.old.number ≡ 1) × (second.old.row ≡ Some 0) }
 {
     let counts = lock.try_take(second).expect(rt, "the numbers");
-    assert_eq!(rt; (counts.left(), counts.raised()), (1, 1));
+    are(rt, &counts, 1, 1);
     raise_and_put(lock, second, counts, 1, 0);
 }
 
 #[test]
-fn two_seats(rt: HostRuntime) -> Result<(), Fail> {
+fn two_seats(rt: HostRuntime) -> Result<(), AllocError> {
     let (lock, mut first, mut second) = open_two(rt.alloc())?;
     raise_first(&rt, &lock, &mut first, &mut second);
     raise_second(&rt, &lock, &mut second);
     let counts = lock.take(&rt, &mut first);
-    assert_eq!(rt; (counts.left(), counts.raised()), (1, 2));
+    are(&rt, &counts, 1, 2);
     Ok(())
 }
 
 // The seats are given in another order than that of their numbers.
 #[test]
-fn closed_in_another_order(rt: HostRuntime) -> Result<(), Fail> {
+fn closed_in_another_order(rt: HostRuntime) -> Result<(), AllocError> {
     let seats = Vec::with_capacity(rt.alloc(), 2)?;
     let (lock, mut first, mut second) = open_two(rt.alloc())?;
-    assert_eq!(rt; (first.number(), second.number()), (0, 1));
+    assert!(rt; first.number() == 0 && second.number() == 1);
     raise_first(&rt, &lock, &mut first, &mut second);
     let counts = close_two(lock, seats, second, first);
-    assert_eq!(rt; (counts.left(), counts.raised()), (1, 1));
+    are(&rt, &counts, 1, 1);
     Ok(())
 }
 
@@ -149,12 +152,12 @@ fn turn_twice(
 {
     assert!(rt; clerk.turn());
     let counts = lock.try_take(second).expect(rt, "the numbers");
-    assert_eq!(rt; counts.left(), 1);
+    assert!(rt; counts.left() == 1);
     assert!(rt; !clerk.turn());
 }
 
 #[test]
-fn clerk_takes_turns(rt: HostRuntime) -> Result<(), Fail> {
+fn clerk_takes_turns(rt: HostRuntime) -> Result<(), AllocError> {
     let alloc = rt.alloc();
     let (lock, first, mut second) = open_two(alloc)?;
     let lock = Arc::new(alloc, lock)?;
@@ -185,11 +188,11 @@ fn push_and_pop_in_turns<P: Post<Number>, Q: Post<Number>>(
 }
 
 #[test]
-fn mailbox_of_one(rt: HostRuntime) -> Result<(), Fail> {
+fn mailbox_of_one(rt: HostRuntime) -> Result<(), AllocError> {
     let alloc = rt.alloc();
     let (mut first, mut second) = two_posts(rt, alloc, 1)?;
     let mut got = Vec::new(alloc);
     push_and_pop_in_turns(&rt, &mut first, &mut second, &mut got)?;
-    assert_eq!(rt; got.as_slice(), [0].as_slice());
+    assert!(rt; got.as_slice() == [0].as_slice());
     Ok(())
 }

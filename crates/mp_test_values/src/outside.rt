@@ -8,6 +8,9 @@ use mp_outside::{
     read_all, write_piece,
 };
 use std::alloc::{AllocError, Global};
+use std::env::Env;
+use std::fs::Files;
+use std::path::PathBuf;
 use std::process::Abort;
 use std::test::Fail;
 use std::{env, fs, process};
@@ -112,26 +115,51 @@ fn sinks_in_memory(rt: HostRuntime) -> Result<(), AllocError> {
     Ok(())
 }
 
+/// The pieces, one after the other.
+fn joined(alloc: Global, pieces: [&[u8]; 3]) -> Result<Vec<u8>, AllocError> {
+    let mut bytes = Vec::new(alloc);
+    for piece in pieces {
+        bytes.extend_from_slice(piece)?;
+    }
+    Ok(bytes)
+}
+
 /// 4 KiB go straight on, two bytes a write, and the next pieces wait. A long piece hands them on: two bytes are taken, and the
-/// write behind these fails, so it is refused. All others arrive, in order.
+/// write behind these fails, so it is refused.
+fn goes_through(rt: &impl Abort, buffered: &mut Buffered<'_, MemSink>, first: &[u8], long: &[u8]) {
+    takes(rt, buffered, first, true);
+    takes(rt, buffered, b"waits", true);
+    takes(rt, buffered, long, false);
+    takes(rt, buffered, b", last", true);
+    takes(rt, buffered, long, true);
+    assert!(rt; buffered.flush().is_ok());
+}
+
+fn has_pieces(
+    rt: &impl Abort,
+    alloc: Global,
+    sink: &MemSink,
+    pieces: [&[u8]; 3],
+) -> Result<(), AllocError> {
+    let wanted = joined(alloc, pieces)?;
+    assert!(rt; sink.bytes() == wanted.as_slice());
+    Ok(())
+}
+
+/// All but the refused piece arrive, in order.
+fn arrive(rt: &impl Abort, alloc: Global, first: &[u8], long: &[u8]) -> Result<(), AllocError> {
+    let mut room = room(alloc)?;
+    let mut sink = faulty_sink(alloc, 2_050)?;
+    sink.take_at_most(2);
+    goes_through(rt, &mut Buffered::new(&mut sink, &mut room), first, long);
+    has_pieces(rt, alloc, &sink, [first, b"waits, last", long])
+}
+
 #[test]
 fn sink_behind_a_buffer(rt: HostRuntime) -> Result<(), AllocError> {
-    let mut sink = faulty_sink(rt.alloc(), 2_050)?;
-    sink.take_at_most(2);
-    let mut room = room(rt.alloc())?;
-    let mut all = vec![in rt.alloc(); b'.'; 4_096]?;
+    let first = vec![in rt.alloc(); b'.'; 4_096]?;
     let long = vec![in rt.alloc(); b'-'; 65_537]?;
-    let mut buffered = Buffered::new(&mut sink, &mut room);
-    takes(&rt, &mut buffered, all.as_slice(), true);
-    takes(&rt, &mut buffered, b"waits", true);
-    takes(&rt, &mut buffered, long.as_slice(), false);
-    takes(&rt, &mut buffered, b", last", true);
-    takes(&rt, &mut buffered, long.as_slice(), true);
-    assert!(rt; buffered.flush().is_ok());
-    all.extend_from_slice(b"waits, last")?;
-    all.extend_from_slice(long.as_slice())?;
-    assert!(rt; sink.bytes() == all.as_slice());
-    Ok(())
+    arrive(&rt, rt.alloc(), first.as_slice(), long.as_slice())
 }
 
 #[test]
@@ -148,14 +176,35 @@ fn own_name(alloc: Global, id: u32) -> Result<String, AllocError> {
     format!(in alloc; "mp_outside_{id}")
 }
 
+/// A name in the folder for files that may go.
+fn own_path<R: Env + AllocGlobal>(rt: &R, own: &str) -> Result<PathBuf, Fail> {
+    let mut path = env::temp_dir(rt)?;
+    path.push(own)?;
+    Ok(path)
+}
+
+fn makes_twice_there<R: Files + AllocGlobal + Abort>(
+    rt: &R,
+    path: &str,
+) -> Result<(), ReadRefused> {
+    makes_twice(rt, rt.alloc(), &mut HostDepot::new(rt), path)
+}
+
+fn has_no_end<R: Files + AllocGlobal + Abort>(rt: &R, path: &str) {
+    assert!(rt; HostDepot::new(rt).append(path, b"more").is_err());
+}
+
 /// A file of the system is made twice. Once it is gone nothing can be put behind it.
+fn comes_and_goes<R: Files + AllocGlobal + Abort>(rt: &R, path: &str) -> Result<(), Fail> {
+    makes_twice_there(rt, path)?;
+    fs::remove_file(rt, path)?;
+    has_no_end(rt, path);
+    Ok(())
+}
+
 #[test]
 fn host_depot(rt: HostRuntime) -> Result<(), Fail> {
     let own = own_name(rt.alloc(), process::id(rt.process()))?;
-    let mut path = env::temp_dir(&rt)?;
-    path.push(own.as_str())?;
-    makes_twice(&rt, rt.alloc(), &mut HostDepot::new(&rt), path.as_str())?;
-    fs::remove_file(&rt, path.as_str())?;
-    assert!(rt; HostDepot::new(&rt).append(path.as_str(), b"more").is_err());
-    Ok(())
+    let path = own_path(&rt, own.as_str())?;
+    comes_and_goes(&rt, path.as_str())
 }
