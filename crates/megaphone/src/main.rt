@@ -10,7 +10,7 @@ ghost use Rattle.mp_outside.specs.Files.{SameFiles};
 ghost use Rattle.mp_words.specs.Words.{command_in};
 ghost use Rattle.mp_cli.specs.Keeping.{IsKeptBy};
 ghost use Rattle.mp_command.specs.Ends.{CameTo, ComesWhere, IsCommandAnswered, IsRefusal, SaysLine};
-ghost use Rattle.mp_command.specs.Outcome.{Outcome, line_said, status_of};
+ghost use Rattle.mp_command_files.specs.Outcome.{Outcome, line_said, status_of};
 
 use mp_cli::run;
 use mp_command::lack_memory;

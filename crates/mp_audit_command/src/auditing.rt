@@ -5,7 +5,7 @@ ghost use Rattle.mp_words.specs.Values.{audit_in};
 ghost use Rattle.mp_words.specs.Words.{Audit};
 ghost use Rattle.mp_command.specs.Ends.{CameTo, Leaves};
 ghost use Rattle.mp_command.specs.Lines.{legal_line};
-ghost use Rattle.mp_command.specs.Refused.{outcome_in};
+ghost use Rattle.mp_command_files.specs.Refused.{outcome_in};
 ghost use Rattle.mp_command.specs.Writing.{NoneKept};
 
 use crate::judging::judge_flow;

@@ -11,11 +11,12 @@ ghost use Rattle.mp_command.specs.Ends.{LacksOne};
 ghost use Rattle.mp_command.specs.Inputs.{Found, JournalFile, inputs_of, nothing_found};
 ghost use Rattle.mp_command.specs.Queries.{IsSound};
 ghost use Rattle.mp_command.specs.Reading.{ReadsAll, ReadsAs, RefusesAs, RefusesOne};
-ghost use Rattle.mp_command.specs.Refused.{EndsAs, outcome_of};
+ghost use Rattle.mp_command_files.specs.Refused.{EndsAs, outcome_of};
 ghost use Rattle.mp_audit_command.specs.Audited.{found_in};
 
-use mp_command::{Flow, InputFiles, Inputs, OnOneThread, Refusal, read_inputs, read_named};
-use mp_journal::{JournalRefused, Kept, read_journal};
+use mp_command::{Flow, InputFiles, Inputs, OnOneThread, Refusal, read_inputs};
+use mp_command_files::{read_named, steps_in};
+use mp_journal::Kept;
 use mp_outside::Depot;
 use mp_words::AuditOptions;
 use std::alloc::Global;
@@ -87,10 +88,5 @@ fn journal_in<'a, D: Depot>(
     ensures files { D.files depot.new ≡ D.files depot.old }
     ensures reads { D.read_faults depot.old ≤ D.read_faults depot.new }
 {
-    let text = read_named(alloc, depot, name)?;
-    match read_journal(alloc, text.as_slice(), &flow.shape()) {
-        Ok(lists) => Ok(lists),
-        Err(JournalRefused::BadLine { line, why }) => Err(Refusal::JournalRefused { line, why }),
-        Err(JournalRefused::NoMemory) => Err(Refusal::NoMemory),
-    }
+    steps_in(alloc, depot, name, &flow.shape())
 }

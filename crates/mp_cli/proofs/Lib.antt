@@ -1,5 +1,0 @@
--- The lemmas of this crate.
-mod Ended
-mod Handed
-mod Kept
-mod Targets

@@ -1,20 +1,17 @@
 //! A command carried out on the files of a depot.
 ghost use Rattle.std.specs.Prelude.{◌≡◌, Some};
-ghost use Rattle.mp_words.specs.Limits.{AreWithinLimits, IsWithinLimits};
-ghost use Rattle.mp_words.specs.Values.{options_in};
-ghost use Rattle.mp_words.specs.Words.{Run, asked_in, command_in};
-ghost use Rattle.mp_cli.specs.Keeping.{IsKeptBy};
+ghost use Rattle.mp_words.specs.Limits.{IsWithinLimits};
+ghost use Rattle.mp_words.specs.Words.{asked_in, command_in};
+ghost use Rattle.mp_run_command.specs.Keeping.{IsKeptBy};
 ghost use Rattle.mp_command.specs.Ends.{CameTo, EndsWith, Leaves};
-ghost use Rattle.mp_command.specs.Refused.{outcome_in};
+ghost use Rattle.mp_command_files.specs.Refused.{outcome_in};
 
-use crate::demo::demo;
-use crate::writing::write_answer;
 use mp_audit_command::audit;
-use mp_command::{Refusal, check, make, read_run};
-use mp_events_threads::OnThreads;
+use mp_command::{Refusal, check, make};
 use mp_gate::Gate;
 use mp_outside::Depot;
-use mp_words::{Command, RunOptions, Schedule, WordsRefused, parse};
+use mp_run_command::{answer, demo};
+use mp_words::{Command, WordsRefused, parse};
 use std::sync::Wait;
 use std::thread::Threads;
 
@@ -57,33 +54,5 @@ fn carry_out<'a, D: Depot, G: Gate + Sync, R: Threads + Wait + Sync + AllocGloba
         Command::Make(options) => make(rt.alloc(), depot, &options),
         Command::Demo(options) => demo(rt, &options, gate),
         Command::Audit(options) => audit(rt.alloc(), depot, &options),
-    }
-}
-
-/// Carries out a run: reads its files, the events on as many threads as the run has, and writes the answer and what else is asked
-/// for. It says nothing.
-fn answer<'a, D: Depot, G: Gate + Sync, R: Threads + Wait + Sync + AllocGlobal>(
-    rt: &R,
-    depot: &mut D,
-    options: &RunOptions<'a>,
-    gate: &G,
-) -> Result<Vec<u8>, Refusal<'a>>
-    requires { AreWithinLimits options.now }
-    ensures came { CameTo D.files D.found D.read_faults D.write_faults
-        (Some (Run (options_in options.now))) (outcome_in result) depot.old depot.new }
-    ensures left { Leaves IsKeptBy (Run (options_in options.now)) (outcome_in result)
-        (D.files depot.old) (D.files depot.new) }
-{
-    let reader = OnThreads::new(rt, reading_threads(options));
-    let read = read_run(rt.alloc(), depot, options, &reader)?;
-    write_answer(rt, depot, options, read, gate)?;
-    Ok(Vec::new(rt.alloc()))
-}
-
-// On how many threads a run reads its events: one for each worker, where the workers are on threads.
-fn reading_threads(options: &RunOptions) -> u32 {
-    match options.schedule {
-        Schedule::Threads => options.workers,
-        Schedule::Seeded(_) => 1,
     }
 }

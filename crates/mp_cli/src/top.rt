@@ -4,12 +4,12 @@ ghost use Rattle.mp_outside.specs.Fault.{Rose};
 ghost use Rattle.mp_outside.specs.Files.{SameFiles};
 ghost use Rattle.mp_outside.specs.Sink.{grown};
 ghost use Rattle.mp_words.specs.Words.{Asked, command_in};
-ghost use Rattle.mp_cli.specs.Keeping.{IsKeptBy};
+ghost use Rattle.mp_run_command.specs.Keeping.{IsKeptBy};
 ghost use Rattle.mp_command.specs.Audits.{refuted_end};
 ghost use Rattle.mp_command.specs.Ends.{CameTo, ComesWhere, IsCommandAnswered, IsCommandAnsweredInPart, IsCommandRefuted};
 ghost use Rattle.mp_command.specs.Ends.{IsRefusal, LacksInput, OthersStay, SaysAnswer, SaysLine, WritesFile};
 ghost use Rattle.mp_command.specs.Calls.{MayCome, called_for};
-ghost use Rattle.mp_command.specs.Outcome.{Outcome, line_said, status_of};
+ghost use Rattle.mp_command_files.specs.Outcome.{Outcome, line_said, status_of};
 
 use crate::serve::serve;
 use mp_command::{Status, tell};

@@ -3,7 +3,7 @@ use Rattle.std.proofs.Common.{ℕ, ◌++◌, inl, inr, Option, List, [], ◌∷�
 use Rattle.mp_outside.specs.Files.{Files}
 use Rattle.mp_command.specs.Calls.{IsNamedIn}
 use Rattle.mp_command.specs.Inputs.{Found, Input}
-use Rattle.mp_command.specs.Outcome.{Outcome}
+use Rattle.mp_command_files.specs.Outcome.{Outcome}
 use Rattle.mp_command.specs.Reading.{ReadsAll, RefusesOne}
 
 module _ (told : Option Files) where

@@ -7,15 +7,16 @@ use Rattle.mp_outside.specs.Fault.{Rose}
 use Rattle.mp_outside.specs.Files.{Files}
 use Rattle.mp_words.specs.declared.options.DemoOptions.{DemoOptions}
 use Rattle.mp_words.specs.Words.{Asked, Demo}
-use Rattle.mp_command.specs.declared.refusal.Refusal.{Refusal}
+use Rattle.mp_command_files.specs.declared.refusal.Refusal.{Refusal}
 use Rattle.mp_command.specs.Audits.{IsRefuted, refuted_end}
-use Rattle.mp_command.specs.Calls.{MayCome, Refutes, StopsAnswer}
+use Rattle.mp_command_files.specs.Outcome.{StopsAnswer}
+use Rattle.mp_command.specs.Calls.{MayCome, Refutes}
 use Rattle.mp_command.specs.Ends.{CameTo, IsRefusal, LacksOne, Leaves, WritesFile}
 use Rattle.mp_command.specs.Inputs.{Found, Input, inputs_of, nothing_found}
 use Rattle.mp_command.specs.Lines.{demo_line, line_after}
-use Rattle.mp_command.specs.Outcome.{Outcome, Answered, NoMemory, Usage, status_of}
+use Rattle.mp_command_files.specs.Outcome.{Outcome, Answered, NoMemory, Usage, status_of}
 use Rattle.mp_command.specs.Reading.{ReadsAll, RefusesOne}
-use Rattle.mp_command.specs.Refused.{outcome_in, outcome_of}
+use Rattle.mp_command_files.specs.Refused.{outcome_in, outcome_of}
 use Rattle.mp_command.specs.Writing.{Keeping}
 use Rattle.mp_command.proofs.Coming.{may_answer, may_lack_memory, may_refuse, may_stop, refuses_as_refusal}
 use Rattle.mp_command.proofs.Leaving.{leaves_alone, no_both, no_refusal, refuted_late}

@@ -12,7 +12,7 @@ use Rattle.mp_command.specs.Calls.{ComesOf, IsRefusalOf, MayCome, MayEnd, MayEnd
 use Rattle.mp_command.specs.Ends.{ComesWhere, EndsWith, IsCommandAnsweredInPart, IsCommandRefuted, IsRefusal, IsStop, SaysAnswer, SaysLine, WritesFile, status_at_fault}
 use Rattle.mp_command.specs.Inputs.{AnswerFile, CheckpointFile, ConfigFile, EventFile, Found, Input, JournalFile, PipeFile, inputs_of, nothing_found, read_as}
 use Rattle.mp_command.specs.Lines.{line_after}
-use Rattle.mp_command.specs.Outcome.{Outcome, Answered, NoMemory, TooLarge, WriteFault, line_said, status_of}
+use Rattle.mp_command_files.specs.Outcome.{Outcome, Answered, NoMemory, TooLarge, WriteFault, line_said, status_of}
 use Rattle.mp_command.specs.Writing.{Keeping}
 use Rattle.mp_command.proofs.Coming.{may_lack_memory, refusal_of_text}
 use Rattle.mp_command.proofs.Leaving.{no_both, no_stop, refuted_late, status_is, stopped_alone}

@@ -16,14 +16,16 @@ use Rattle.mp_pipe_file.specs.declared.refused.PipeReason.{PipeReason}
 use Rattle.mp_pipe_file.specs.Pipes.{pipe_of}
 use Rattle.mp_pipeline.specs.Pipes.{PipeFacts}
 use Rattle.mp_words.specs.Words.{Asked}
-use Rattle.mp_command.specs.Calls.{ComesOf, IsOfCommand, IsRefusalOf, MayCome, MayEnd, StopsAnswer, files_call_for, unless_refused, with_text}
+use Rattle.mp_command_files.specs.Outcome.{StopsAnswer}
+use Rattle.mp_command.specs.Calls.{ComesOf, IsOfCommand, IsRefusalOf, MayCome, MayEnd, files_call_for, unless_refused, with_text}
 use Rattle.mp_command.specs.declared.flow.Flow.{Flow}
 use Rattle.mp_command.specs.Config.{flow_with, shape_of}
 use Rattle.mp_command.specs.Ends.{IsRefusal}
 use Rattle.mp_command.specs.Inputs.{AnswerFile, CheckpointFile, ConfigFile, EventFile, Found, Input, JournalFile, PipeFile, nothing_found, read_as, with_events, with_journal, with_pipe, with_settings}
-use Rattle.mp_command.specs.Outcome.{Outcome, Answered, ConfigRefused, EventsRefused, JournalRefused, NoMemory, PipeRefused, ReadFault, status_of}
+use Rattle.mp_command_files.specs.Outcome.{Outcome, Answered, ConfigRefused, EventsRefused, JournalRefused, NoMemory, PipeRefused, ReadFault, status_of}
 use Rattle.mp_command.specs.Queries.{rules_of}
-use Rattle.mp_command.specs.Reading.{CannotRead, IsRead, ReadsAll, ReadsAs, RefusesAs, RefusesOne, absent, failed, large, no_memory}
+use Rattle.mp_command_files.specs.Texts.{CannotRead, IsRead, absent, failed, large, no_memory}
+use Rattle.mp_command.specs.Reading.{ReadsAll, ReadsAs, RefusesAs, RefusesOne}
 
 -- the bytes of a name that is there with a property, where files are told
 held : (files : Files) (name : List ℕ) (Has : List ℕ → Type 0) → IsThereWith (Some files) name Has → (bytes : List ℕ) × (file_at (Some files) name ≡ Some bytes) × Has bytes

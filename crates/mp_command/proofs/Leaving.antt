@@ -17,9 +17,9 @@ use Rattle.mp_words.specs.declared.options.Command.{Command}
 use Rattle.mp_words.specs.declared.options.Command.TheVariants as read
 use Rattle.mp_words.specs.declared.options.RunOptions.{RunOptions}
 use Rattle.mp_command.specs.Audits.{bad_checkpoint_of, refuted_end}
-use Rattle.mp_command.specs.Calls.{StopsAnswer}
+use Rattle.mp_command_files.specs.Outcome.{StopsAnswer}
 use Rattle.mp_command.specs.Ends.{AreInPart, EndsWith, IsCommandAnsweredInPart, IsDone, IsDoneInPart, IsLeft, IsRefusal, IsSame, IsStop, IsWhole, Leaves, MakesNoRun}
-use Rattle.mp_command.specs.Outcome.{Outcome, Answered, BadCheckpoint, ConfigRefused, EventsRefused, JournalRefused, NoFile, NoMemory, NoRun, PipeRefused, ReadFault, TooLarge, Usage, WriteFault, status_of}
+use Rattle.mp_command_files.specs.Outcome.{Outcome, Answered, BadCheckpoint, ConfigRefused, EventsRefused, JournalRefused, NoFile, NoMemory, NoRun, PipeRefused, ReadFault, TooLarge, Usage, WriteFault, status_of}
 use Rattle.mp_command.specs.Writing.{AreApart, IsTextOf, Journal, Keeping, NoneKept, Purpose, Report, Target, WritesAll, WritesPart, WritesSome, WritesWhole, save_target, target_in, targets_of}
 
 -- a target is behind the first of a list, so it has another name; and so is the rest apart

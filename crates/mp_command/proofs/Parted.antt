@@ -1,8 +1,26 @@
 -- Files that are written one after the other, and such as are written in part.
-use Rattle.std.proofs.Common.{◌≡◌, ◌++◌, inl, inr, Option, None, Some, List, [], ◌∷◌, ℕ, refl, subst}
-use Rattle.std.specs.Prelude.{IsSome}
-use Rattle.mp_outside.specs.Files.{Files}
+use Rattle.std.proofs.Common.{◌≡◌, ◌++◌, inl, inr, Option, None, Some, List, [], ◌∷◌, ℕ, Result, Ok, Err, refl, subst}
+use Rattle.std.specs.Prelude.{IsSome, OnErr, OnOk}
+use Rattle.mp_outside.specs.Files.{Files, with_file}
+use Rattle.mp_command_files.specs.EventFile.{HoldsPart}
 use Rattle.mp_command.specs.Writing.{Purpose, Target, WritesAll, WritesSome, target_in}
+
+-- one file alone was written in part
+part_alone : (text : List ℕ) (target : Target) (old new : Option Files) → HoldsPart target.name text old new → WritesSome (λ _ written. written ≡ text) (target ∷ []) old new
+part_alone text target old new (inl same) = inl same
+part_alone text target old new (inr part) = inr (text, refl, inl part)
+
+-- what is written of one file alone, by the answer of the call that writes it: all of the text
+pub whole_answered : {A E : Type 0} (result : Result A E) (text : List ℕ) (target : Target) (old new : Option Files) → OnOk result (new ≡ with_file old target.name text)
+    → OnOk result (WritesAll (λ _ written. written ≡ text) (target ∷ []) old new)
+whole_answered (Ok a) text target old new whole = (text, refl, whole)
+whole_answered (Err e) text target old new whole = tt
+
+-- or a part
+pub part_answered : {A E : Type 0} (result : Result A E) (text : List ℕ) (target : Target) (old new : Option Files) → OnErr result (HoldsPart target.name text old new)
+    → OnErr result (WritesSome (λ _ written. written ≡ text) (target ∷ []) old new)
+part_answered (Ok a) text target old new part = tt
+part_answered (Err e) text target old new part = part_alone text target old new part
 
 module _ (IsText : Purpose → List ℕ → Type 0) where
   -- nothing was written

@@ -20,8 +20,8 @@ use Rattle.mp_pipeline.specs.Pipes.{may_stand}
 use Rattle.mp_plans.specs.Plans.{all_at_once_records, fluid_records, planned}
 use Rattle.mp_words.specs.declared.options.QueryName.{QueryName}
 use Rattle.mp_words.specs.declared.options.QueryName.TheVariants.{Q1, Q2, Q3, Q4, Q5, Q6, Q7, Q8}
-use Rattle.mp_command.specs.Calls.{StopsAnswer}
-use Rattle.mp_command.specs.Outcome.{Outcome, NoMemory, status_of}
+use Rattle.mp_command_files.specs.Outcome.{StopsAnswer}
+use Rattle.mp_command_files.specs.Outcome.{Outcome, NoMemory, status_of}
 use Rattle.mp_command.specs.declared.flow.FlowQuery.{FlowQuery}
 use Rattle.mp_command.specs.declared.flow.FlowQuery.TheVariants.{Named, Piped}
 use Rattle.mp_command.specs.Queries.{IsSound, answer_of, rules_of, stages_of}

@@ -10,7 +10,7 @@ use Rattle.mp_command.specs.declared.flow.Flow.{Flow}
 use Rattle.mp_command.specs.Config.{flow_of, flow_to_audit, flow_with, outline_asked}
 use Rattle.mp_command.specs.Inputs.{Found}
 use Rattle.mp_command.specs.Lines.{step_count}
-use Rattle.mp_command.specs.Outcome.{Outcome, BadCheckpoint, NoRun}
+use Rattle.mp_command_files.specs.Outcome.{Outcome, BadCheckpoint, NoRun}
 use Rattle.mp_command.specs.Queries.{answer_of, query_of}
 use Rattle.mp_command.specs.Spans.{IsConfirmedBy, IsRefutedBy}
 

@@ -10,7 +10,7 @@ use Rattle.mp_words.specs.Words.{Asked}
 use Rattle.mp_command.specs.Audits.{IsRefuted, refuted_end}
 use Rattle.mp_command.specs.Inputs.{Found, Input, AnswerFile, CheckpointFile, ConfigFile, EventFile, JournalFile, PipeFile, inputs_of, nothing_found, read_as}
 use Rattle.mp_command.specs.Lines.{line_after}
-use Rattle.mp_command.specs.Outcome.{Outcome, Answered, ConfigRefused, EventsRefused, JournalRefused, NoFile, NoMemory, PipeRefused, ReadFault, TooLarge, Usage, WriteFault, status_of}
+use Rattle.mp_command_files.specs.Outcome.{Outcome, Answered, ConfigRefused, EventsRefused, JournalRefused, NoFile, NoMemory, PipeRefused, ReadFault, StopsAnswer, TooLarge, Usage, WriteFault, status_of}
 use Rattle.mp_command.specs.Reading.{ReadsAll}
 
 -- what comes of a named file: it isn't there, it is larger than is allowed, or it has a text
@@ -44,10 +44,6 @@ IsNamedIn (input ∷ more) name = (name ≡ input.1) ⊎ IsNamedIn more name
 abbrev pub MayFail : List (Input × List ℕ) → Outcome → Outcome → Type 0
 MayFail inputs called outcome =
     ((outcome ≡ ReadFault) × (inputs ≢ [])) ⊎ (((outcome ≡ WriteFault) × (status_of called ≡ 0)) ⊎ (outcome ≡ NoMemory))
-
--- what may stop the writing of an answer: a fault, or want of memory
-abbrev pub StopsAnswer : Outcome → Type 0
-StopsAnswer outcome = (outcome ≡ WriteFault) ⊎ (outcome ≡ NoMemory)
 
 -- the text of an input is refused so
 abbrev pub IsRefusalOf : Input → Outcome → Type 0

@@ -8,7 +8,7 @@ use Rattle.mp_words.specs.Words.{Asked, Run, Check, Make, Demo, Audit}
 use Rattle.mp_command.specs.Audits.{IsConfirmed}
 use Rattle.mp_command.specs.Calls.{IsNamedIn, MayCome, Refutes}
 use Rattle.mp_command.specs.Inputs.{Found, Input, inputs_of, nothing_found}
-use Rattle.mp_command.specs.Outcome.{Outcome, status_of}
+use Rattle.mp_command_files.specs.Outcome.{Outcome, status_of}
 use Rattle.mp_command.specs.Reading.{ReadsAll}
 use Rattle.mp_command.specs.Writing.{IsTextOf, Keeping, Purpose, Target, WritesPart, WritesWhole, targets_of}
 

@@ -15,7 +15,7 @@ use Rattle.mp_pipeline.specs.Pipes.{PipeFacts}
 use Rattle.mp_words.specs.Values.{From, Named, Piped, QueryAsked, SpanAsked, Until, Whole}
 use Rattle.mp_words.specs.Words.{Asked, Run, Check, Make, Demo, Audit}
 use Rattle.mp_command.specs.Config.{FlowAsked, flow_of, flow_to_audit, flow_to_check, flow_with, shape_of}
-use Rattle.mp_command.specs.Outcome.{Outcome, ConfigRefused, EventsRefused, JournalRefused, PipeRefused}
+use Rattle.mp_command_files.specs.Outcome.{Outcome, ConfigRefused, EventsRefused, JournalRefused, PipeRefused}
 use Rattle.mp_command.specs.Queries.{rules_of}
 
 -- what a file is read as: events, a pipeline, the configuration of a dataflow, a checkpoint, an answer, or the journal of a dataflow's job

@@ -6,9 +6,7 @@ pub mod Ends
 pub mod InputFiles
 pub mod Inputs
 pub mod Lines
-pub mod Outcome
 pub mod Queries
 pub mod Reading
-pub mod Refused
 pub mod Spans
 pub mod Writing

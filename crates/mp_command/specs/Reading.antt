@@ -1,21 +1,9 @@
 -- What comes of reading a command's files.
-use Rattle.std.specs.Prelude.{ℕ, ◌≡◌, ◌<◌, ◌≤◌, ◌⊎◌, Option, None, Ok, Err, List, [], ◌∷◌, length}
-use Rattle.mp_names.specs.Limits.{most_bytes}
-use Rattle.mp_outside.specs.Files.{Files, file_at, IsThereWith}
+use Rattle.std.specs.Prelude.{ℕ, ◌≡◌, ◌⊎◌, Option, Ok, Err, List, [], ◌∷◌}
+use Rattle.mp_outside.specs.Files.{Files}
+use Rattle.mp_command_files.specs.Outcome.{Outcome}
+use Rattle.mp_command_files.specs.Texts.{CannotRead, IsRead}
 use Rattle.mp_command.specs.Inputs.{Found, Input, read_as}
-use Rattle.mp_command.specs.Outcome.{Outcome, NoFile, NoMemory, ReadFault, TooLarge}
-
--- the text is the file's, where files are told, and no longer than is allowed
-pub record IsRead (told : Option Files) (name text : List ℕ) : Type 0 where
-  pub whole : IsThereWith told name (λ bytes. text ≡ bytes)
-  pub within : length text ≤ most_bytes
-
--- why a file gave no text: it isn't there, it is too large, or the outside failed
-pub data CannotRead (told : Option Files) (name : List ℕ) : Outcome → Type 0 where
-  absent : file_at told name ≡ None → CannotRead told name (NoFile name)
-  large : IsThereWith told name (λ bytes. most_bytes < length bytes) → CannotRead told name (TooLarge name)
-  failed : CannotRead told name ReadFault
-  no_memory : CannotRead told name NoMemory
 
 -- the file was read, and with its text so much is found
 abbrev pub ReadsAs : Option Files → Input × List ℕ → Found → Found → Type 0

@@ -1,8 +1,7 @@
 -- The files that a command writes, one after the other, and what they hold.
 use Rattle.std.specs.Prelude.{ℕ, ◌≡◌, ◌≢◌, ◌⊎◌, ◌++◌, Option, Some, None, List, [], ◌∷◌, take}
-use Rattle.std.specs.List.{AllPairs, flat_map}
+use Rattle.std.specs.List.{AllPairs}
 use Rattle.mp_checkpoint_laws.specs.Files.{IsFileOf}
-use Rattle.mp_events.specs.Written.{line_of_event}
 use Rattle.mp_make.specs.Made.{made_events}
 use Rattle.mp_model.specs.declared.record.Event.{Event}
 use Rattle.mp_model.specs.Answers.{one_thread_answer}
@@ -20,6 +19,7 @@ use Rattle.mp_words.specs.Values.{From, MakeAsked, Options, SpanAsked, Until, Wh
 use Rattle.mp_words.specs.Words.{Asked, Run, Check, Make, Demo, Audit}
 use Rattle.mp_control.specs.Settings.{SettingsFacts}
 use Rattle.mp_command.specs.declared.flow.Flow.{Flow}
+use Rattle.mp_command_files.specs.EventFile.{event_file}
 use Rattle.mp_command.specs.Audits.{IsConfirmed}
 use Rattle.mp_command.specs.Config.{flow_of, flow_with, job_asked, outline_asked}
 use Rattle.mp_command.specs.Inputs.{Found, inputs_of, nothing_found}
@@ -71,10 +71,6 @@ targets_of (Audit asked) = []
 -- no two of them have one name
 abbrev pub AreApart : List Target → Type 0
 AreApart targets = AllPairs (λ one other. other.name ≢ one.name) targets
-
--- the file of the lines of these events
-abbrev pub event_file : List Event → List ℕ
-event_file events = flat_map line_of_event events
 
 -- the file of the events that are made of so many and a seed
 abbrev pub made_file : MakeAsked → List ℕ

@@ -5,11 +5,11 @@ ghost use Rattle.mp_words.specs.Values.{check_in};
 ghost use Rattle.mp_words.specs.Words.{Check};
 ghost use Rattle.mp_command.specs.Ends.{CameTo, Leaves};
 ghost use Rattle.mp_command.specs.Lines.{ok_line};
-ghost use Rattle.mp_command.specs.Refused.{outcome_in};
+ghost use Rattle.mp_command_files.specs.Refused.{outcome_in};
 ghost use Rattle.mp_command.specs.Writing.{NoneKept};
 
 use crate::reading::{InputFiles, read_inputs};
-use crate::refusal::Refusal;
+use mp_command_files::Refusal;
 use mp_events::OnOneThread;
 use mp_outside::Depot;
 use mp_text::put_number;

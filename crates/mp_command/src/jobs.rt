@@ -11,13 +11,13 @@ ghost use Rattle.mp_opening.specs.Checkpoints.{CheckpointOf};
 ghost use Rattle.mp_words.specs.Limits.{IsBinCount, IsPositiveUpTo};
 ghost use Rattle.mp_words.specs.Values.{From};
 ghost use Rattle.mp_command.specs.Config.{SettingsFit, job_with, shape_with};
-ghost use Rattle.mp_command.specs.Outcome.{BadCheckpoint, NoMemory};
-ghost use Rattle.mp_command.specs.Refused.{outcome_of};
+ghost use Rattle.mp_command_files.specs.Outcome.{BadCheckpoint, NoMemory};
+ghost use Rattle.mp_command_files.specs.Refused.{outcome_of};
 ghost use Rattle.mp_command.specs.Spans.{IsRefutedBy, format_by, resumed_from, stopped_at};
 
 use crate::reading::JobParts;
-use crate::refusal::Refusal;
 use mp_checkpoint::{CheckpointRefused, read_checkpoint};
+use mp_command_files::Refusal;
 use mp_control::Settings;
 use mp_job::{Job, JobInputs, Shape, Time};
 use mp_model::{Event, Query};

@@ -1,20 +1,16 @@
 //! The command `make`: events that are made from a seed, as a file.
-ghost use Rattle.std.specs.Prelude.{◌≡◌, Err, ℕ, OnErr, OnOk, IfErr, Some, take};
+ghost use Rattle.std.specs.Prelude.{◌≡◌, OnErr, OnOk, IfErr, Some};
 ghost use Rattle.mp_outside.specs.Fault.{Rose};
-ghost use Rattle.mp_outside.specs.Sink.{OnlyAppends, grown};
-ghost use Rattle.mp_outside.specs.declared.fault.Fault.TheVariants.{Failed};
 ghost use Rattle.mp_words.specs.Values.{make_in};
 ghost use Rattle.mp_words.specs.Words.{Make};
-ghost use Rattle.mp_command.specs.Calls.{StopsAnswer};
+ghost use Rattle.mp_command_files.specs.Outcome.{StopsAnswer};
 ghost use Rattle.mp_command.specs.Ends.{CameTo, Leaves};
-ghost use Rattle.mp_command.specs.Refused.{EndsAs, outcome_in, outcome_of};
-ghost use Rattle.mp_command.specs.Writing.{NoneKept, WritesAll, WritesSome, event_file, made_file, targets_of};
+ghost use Rattle.mp_command_files.specs.Refused.{EndsAs, outcome_in, outcome_of};
+ghost use Rattle.mp_command.specs.Writing.{NoneKept, WritesAll, WritesSome, made_file, targets_of};
 
-use crate::refusal::Refusal;
-use mp_events::write_event;
+use mp_command_files::{Refusal, events_to};
 use mp_make::make_events;
-use mp_model::Event;
-use mp_outside::{Depot, DepotSink, Fault, Sink, write_piece};
+use mp_outside::Depot;
 use mp_words::MakeOptions;
 use std::alloc::Global;
 
@@ -50,25 +46,5 @@ fn make_file<'a, D: Depot>(
         → Rose (D.write_faults depot.old) (D.write_faults depot.new)) }
 {
     let events = make_events(alloc, options.count, options.seed)?;
-    depot.begin(options.out)?;
-    let mut sink = DepotSink::new(depot, options.out);
-    Ok(write_events(alloc, events.as_slice(), &mut sink)?)
-}
-
-/// Writes the lines of events, each as one piece. `Failed`: the sink's own; `NoMemory`: no memory. A part of the
-/// lines, from the front, may be written.
-fn write_events<S: Sink>(alloc: Global, events: &[Event], sink: &mut S) -> Result<(), Fault>
-    ensures whole { OnOk result
-        (S.written sink.new ≡ grown (S.written sink.old) (event_file events.now)) }
-    ensures part { OnErr result ((k : ℕ)
-        × (S.written sink.new ≡ grown (S.written sink.old) (take k (event_file events.now)))) }
-    ensures failed { result ≡ Err Failed → Rose (S.faults sink.old) (S.faults sink.new) }
-    ensures appends_only { OnlyAppends S.frame S.faults sink.old sink.new }
-{
-    for event in events {
-        let mut line = Vec::new(alloc);
-        write_event(&mut line, event)?;
-        write_piece(sink, line.as_slice())?;
-    }
-    Ok(())
+    events_to(alloc, depot, options.out, events.as_slice())
 }

@@ -1,29 +1,26 @@
-//! The files that a command reads.
-ghost use Rattle.std.specs.Prelude.{◌≡◌, ◌<◌, ◌≤◌, [], List, false, true, IfOk, IfErr};
+//! The files that a command reads, one after the other.
+ghost use Rattle.std.specs.Prelude.{◌≡◌, ◌<◌, ◌≤◌, [], List, false, IfOk, IfErr};
 ghost use Rattle.mp_control.specs.Settings.{settings_in};
 ghost use Rattle.mp_model.specs.declared.record.Event.{Event};
 ghost use Rattle.mp_model.specs.Legal.{EventsAreLegal};
 ghost use Rattle.mp_model.specs.Plain.{EventsArePlain};
 ghost use Rattle.mp_outside.specs.Fault.{Rose};
-ghost use Rattle.mp_pipeline.specs.Pipes.{are_sound};
 ghost use Rattle.mp_words.specs.Values.{audit_in, check_in, options_in, query_in};
 ghost use Rattle.mp_words.specs.Words.{Check};
 ghost use Rattle.mp_command.specs.Config.{FlowAsked, SettingsFitFlow, flow_of, flow_to_audit, flow_to_check, flow_with};
 ghost use Rattle.mp_command.specs.Ends.{LacksOne};
 ghost use Rattle.mp_command.specs.InputFiles.{flow_in, found_in, inputs_in, pipe_in};
-ghost use Rattle.mp_command.specs.Inputs.{ConfigFile, EventFile, Found, PipeFile, files_of, inputs_of, nothing_found, pipe_input};
+ghost use Rattle.mp_command.specs.Inputs.{ConfigFile, Found, files_of, inputs_of, nothing_found, pipe_input};
 ghost use Rattle.mp_command.specs.Queries.{IsSound, query_with};
-ghost use Rattle.mp_command.specs.Reading.{CannotRead, IsRead, ReadsAll, ReadsAs, RefusesAs, RefusesOne};
-ghost use Rattle.mp_command.specs.Refused.{EndsAs, outcome_of};
+ghost use Rattle.mp_command.specs.Reading.{ReadsAll, ReadsAs, RefusesAs, RefusesOne};
+ghost use Rattle.mp_command_files.specs.Refused.{EndsAs, outcome_of};
 
 use crate::flow::{Flow, FlowQuery};
-use crate::refusal::Refusal;
-use mp_control::{ControlRefused, Settings, read_settings};
-use mp_events::{EventReading, EventsRefused};
+use mp_command_files::{Refusal, config_in, events_in, pipe_in};
+use mp_control::Settings;
+use mp_events::EventReading;
 use mp_model::Event;
-use mp_names::limits::MAX_BYTES;
-use mp_outside::{Depot, ReadRefused, read_all};
-use mp_pipe_file::{Pipe, PipeRefused, read_pipe};
+use mp_outside::Depot;
 use mp_words::{AuditOptions, CheckOptions, QueryOption, RunOptions};
 use std::alloc::Global;
 
@@ -154,36 +151,6 @@ pub fn read_inputs<'a, D: Depot, E: EventReading>(
     Ok(Inputs { flow, parts })
 }
 
-/// The events of the event file of this name, by this reader.
-/// `NoFile`, `ReadFault`, `TooLarge` and `NoMemory`: the file can't be read; `EventsRefused`: its first bad line.
-fn events_in<'a, D: Depot, E: EventReading>(
-    alloc: Global,
-    depot: &mut D,
-    name: &'a str,
-    reader: &E,
-) -> Result<Vec<Event>, Refusal<'a>>
-    ensures events { IfOk result (λ v. (found : Found)
-        → ReadsAs (D.files depot.old) (EventFile, name.now) found (record found { events = v.items })) }
-    ensures legal { IfOk result (λ v. EventsAreLegal v.items) }
-    ensures plain { IfOk result (λ v. EventsArePlain v.items) }
-    ensures refused { IfErr result (λ r. (found : Found)
-        → RefusesAs (D.files depot.old) (EventFile, name.now) found (outcome_of r)) }
-
-    ensures failed { IfErr result (λ r. EndsAs r 6
-        → Rose (D.read_faults depot.old) (D.read_faults depot.new)) }
-    ensures not_found { IfErr result (λ r. EndsAs r 5 → D.found depot.old name.now false depot.new) }
-    ensures files { D.files depot.new ≡ D.files depot.old }
-    ensures reads { D.read_faults depot.old ≤ D.read_faults depot.new }
-    ensures writes { D.write_faults depot.new ≡ D.write_faults depot.old }
-{
-    let text = read_named(alloc, depot, name)?;
-    match reader.read_events(alloc, text.as_slice()) {
-        Ok(events) => Ok(events),
-        Err(EventsRefused::BadLine { line, why }) => Err(Refusal::EventsRefused { line, why }),
-        Err(EventsRefused::NoMemory) => Err(Refusal::NoMemory),
-    }
-}
-
 /// The query that is asked for; where that is a pipeline, the one that its file says. It is read behind events.
 /// `NoFile`, `ReadFault`, `TooLarge` and `NoMemory`: the file can't be read; `PipeRefused`: its first bad line.
 fn query_in<'a, D: Depot>(
@@ -211,30 +178,6 @@ fn query_in<'a, D: Depot>(
     }
 }
 
-/// The pipeline that the file of this name says.
-/// `NoFile`, `ReadFault`, `TooLarge` and `NoMemory`: the file can't be read; `PipeRefused`: its first bad line.
-fn pipe_in<'a, D: Depot>(alloc: Global, depot: &mut D, name: &'a str) -> Result<Pipe, Refusal<'a>>
-    ensures pipe { IfOk result (λ p. (found : Found)
-        → ReadsAs (D.files depot.old) (PipeFile, name.now) found (record found { pipe = p })) }
-    ensures sound { IfOk result (λ p. are_sound p.lines ≡ true) }
-    ensures refused { IfErr result (λ r. (found : Found)
-        → RefusesAs (D.files depot.old) (PipeFile, name.now) found (outcome_of r)) }
-
-    ensures failed { IfErr result (λ r. EndsAs r 6
-        → Rose (D.read_faults depot.old) (D.read_faults depot.new)) }
-    ensures not_found { IfErr result (λ r. EndsAs r 5 → D.found depot.old name.now false depot.new) }
-    ensures files { D.files depot.new ≡ D.files depot.old }
-    ensures reads { D.read_faults depot.old ≤ D.read_faults depot.new }
-    ensures writes { D.write_faults depot.new ≡ D.write_faults depot.old }
-{
-    let text = read_named(alloc, depot, name)?;
-    match read_pipe(alloc, text.as_slice()) {
-        Ok(pipe) => Ok(pipe),
-        Err(PipeRefused::BadLine { line, why }) => Err(Refusal::PipeRefused { line, why }),
-        Err(PipeRefused::NoMemory) => Err(Refusal::NoMemory),
-    }
-}
-
 /// What the configuration of this name says, for a dataflow with a worker and a bin. `NoFile`, `ReadFault`,
 /// `TooLarge` and `NoMemory`: the file can't be read; `ConfigRefused`: its first bad line.
 fn settings_in<'a, D: Depot>(
@@ -259,36 +202,5 @@ fn settings_in<'a, D: Depot>(
     ensures reads { D.read_faults depot.old ≤ D.read_faults depot.new }
     ensures writes { D.write_faults depot.new ≡ D.write_faults depot.old }
 {
-    let text = read_named(alloc, depot, name)?;
-    match read_settings(alloc, text.as_slice(), &flow.shape(), &flow.rules()) {
-        Ok(settings) => Ok(settings),
-        Err(ControlRefused::BadLine { line, why }) => Err(Refusal::ConfigRefused { line, why }),
-        Err(ControlRefused::NoMemory) => Err(Refusal::NoMemory),
-    }
-}
-
-/// The bytes of the file of this name. `NoFile`: it isn't there; `ReadFault`: a find or a read failed; `TooLarge`: it has more
-/// bytes than are allowed; `NoMemory`: no memory.
-pub fn read_named<'a, D: Depot>(
-    alloc: Global,
-    depot: &mut D,
-    name: &'a str,
-) -> Result<Vec<u8>, Refusal<'a>>
-    ensures text { IfOk result (λ v. IsRead (D.files depot.old) name.now v.items) }
-    ensures refused { IfErr result (λ r. CannotRead (D.files depot.old) name.now (outcome_of r)) }
-
-    ensures failed { IfErr result (λ r. EndsAs r 6
-        → Rose (D.read_faults depot.old) (D.read_faults depot.new)) }
-    ensures not_found { IfErr result (λ r. EndsAs r 5 → D.found depot.old name.now false depot.new) }
-    ensures files { D.files depot.new ≡ D.files depot.old }
-    ensures reads { D.read_faults depot.old ≤ D.read_faults depot.new }
-    ensures writes { D.write_faults depot.new ≡ D.write_faults depot.old }
-{
-    match read_all(alloc, depot, name, MAX_BYTES) {
-        Ok(text) => Ok(text),
-        Err(ReadRefused::NotThere) => Err(Refusal::NoFile(name)),
-        Err(ReadRefused::Failed) => Err(Refusal::ReadFault),
-        Err(ReadRefused::TooLarge) => Err(Refusal::TooLarge(name)),
-        Err(ReadRefused::NoMemory) => Err(Refusal::NoMemory),
-    }
+    config_in(alloc, depot, name, &flow.shape(), &flow.rules())
 }

@@ -8,12 +8,12 @@ ghost use Rattle.mp_outside.specs.Sink.{OnlyAppends, grown};
 ghost use Rattle.mp_report.specs.Journal.{journal_text};
 ghost use Rattle.mp_report.specs.Report.{IsReport};
 ghost use Rattle.mp_tally.specs.Tallies.{AreTalliesOf};
-ghost use Rattle.mp_command.specs.Calls.{StopsAnswer};
-ghost use Rattle.mp_command.specs.Refused.{EndsAs, outcome_of};
+ghost use Rattle.mp_command_files.specs.Outcome.{StopsAnswer};
+ghost use Rattle.mp_command_files.specs.Refused.{EndsAs, outcome_of};
 ghost use Rattle.mp_command.specs.Writing.{Journal, Report, WritesAll, WritesSome, target_in};
 
-use crate::refusal::Refusal;
 use mp_buffered::{Buffered, room};
+use mp_command_files::Refusal;
 use mp_job::Job;
 use mp_journal::Kept;
 use mp_model::Query;

@@ -14,10 +14,10 @@ ghost use Rattle.mp_command.specs.InputFiles.{found_in};
 ghost use Rattle.mp_command.specs.Inputs.{Found, checkpoint_input, inputs_of, nothing_found};
 ghost use Rattle.mp_command.specs.Queries.{IsSound};
 ghost use Rattle.mp_command.specs.Reading.{ReadsAll, RefusesOne};
-ghost use Rattle.mp_command.specs.Refused.{EndsAs, outcome_of};
+ghost use Rattle.mp_command_files.specs.Refused.{EndsAs, outcome_of};
 
-use crate::reading::{InputFiles, Inputs, JobParts, read_inputs, read_named};
-use crate::refusal::Refusal;
+use crate::reading::{InputFiles, Inputs, JobParts, read_inputs};
+use mp_command_files::{Refusal, read_named};
 use mp_events::EventReading;
 use mp_outside::Depot;
 use mp_words::{RunOptions, Span};

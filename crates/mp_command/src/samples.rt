@@ -6,11 +6,11 @@ ghost use Rattle.mp_command.specs.Config.{SettingsFitFlow, demo_controls, demo_s
 ghost use Rattle.mp_command.specs.Queries.{IsSound};
 ghost use Rattle.mp_words.specs.Limits.{AreWithinLimits, DemoIsWithinLimits};
 ghost use Rattle.mp_command.specs.Lines.{answer_name};
-ghost use Rattle.mp_command.specs.Outcome.{NoMemory};
-ghost use Rattle.mp_command.specs.Refused.{outcome_of};
+ghost use Rattle.mp_command_files.specs.Outcome.{NoMemory};
+ghost use Rattle.mp_command_files.specs.Refused.{outcome_of};
 
 use crate::flow::Flow;
-use crate::refusal::Refusal;
+use mp_command_files::Refusal;
 use mp_control::{Settings, Shape, ValueList};
 use mp_plans::{Control, all_at_once, fluid};
 use mp_words::{DemoOptions, QueryOption, RunOptions, Schedule, Span};

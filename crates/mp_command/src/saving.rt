@@ -5,14 +5,14 @@ ghost use Rattle.mp_model.specs.Plain.{EventsArePlain};
 ghost use Rattle.mp_model.specs.Tables.{table_of};
 ghost use Rattle.mp_msg.specs.LastStates.{AreAllStates};
 ghost use Rattle.mp_outside.specs.Fault.{Rose};
-ghost use Rattle.mp_command.specs.Calls.{StopsAnswer};
-ghost use Rattle.mp_command.specs.Refused.{EndsAs, outcome_of};
+ghost use Rattle.mp_command_files.specs.Outcome.{StopsAnswer};
+ghost use Rattle.mp_command_files.specs.Refused.{EndsAs, outcome_of};
 ghost use Rattle.mp_command.specs.Spans.{IsLeftAt, IsSaveOf, format_by};
 ghost use Rattle.mp_command.specs.Writing.{WritesAll, WritesSome, save_at};
 
-use crate::refusal::Refusal;
 use mp_checkpoint::write_checkpoint;
 use mp_collect::collect;
+use mp_command_files::Refusal;
 use mp_job::{Job, Time};
 use mp_model::Naming;
 use mp_msg::BinState;

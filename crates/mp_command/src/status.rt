@@ -2,10 +2,10 @@
 ghost use Rattle.std.specs.Prelude.{◌≡◌, ℕ, take, codes};
 ghost use Rattle.mp_outside.specs.Sink.{grown};
 ghost use Rattle.mp_command.specs.Ends.{SaysLine};
-ghost use Rattle.mp_command.specs.Outcome.{line_said, status_of};
-ghost use Rattle.mp_command.specs.Refused.{line_of, outcome_in, outcome_of};
+ghost use Rattle.mp_command_files.specs.Outcome.{line_said, status_of};
+ghost use Rattle.mp_command_files.specs.Refused.{line_of, outcome_in, outcome_of};
 
-use crate::refusal::Refusal;
+use mp_command_files::Refusal;
 use mp_outside::{Fault, Sink, write_piece};
 
 /// How a call ended: the status of the process.

@@ -1,12 +1,2 @@
--- What the contracts of this crate cite.
-pub mod Journals
-pub mod Driven
-pub mod Driving
-pub mod Kept
-pub mod Opened
-pub mod Ownership
-pub mod Pacing
-pub mod Places
-pub mod Refused
-pub mod Schedule
-pub mod Told
+-- What the crates above take of those below through this one.
+pub mod Below

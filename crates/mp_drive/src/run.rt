@@ -3,18 +3,17 @@ ghost use Rattle.std.specs.Prelude.{◌≡◌, ◌<◌, [], IfOk, IsTrue, false,
 ghost use Rattle.mp_model.specs.Tables.{table_of};
 ghost use Rattle.mp_outline.specs.JobOutline.{outline_of};
 ghost use Rattle.mp_answer_laws.specs.Runs.{RunLeaves};
-ghost use Rattle.mp_drive.specs.Schedule.{EndsAfter, IsKeptBySchedule};
+ghost use Rattle.mp_schedule.specs.Schedule.{EndsAfter, IsKeptBySchedule};
 ghost use Rattle.mp_tally.specs.Tallies.{AreTalliesOf};
 ghost use Rattle.mp_worker.specs.Plans.{MayRun};
 
-use crate::{Plain, RunPlan};
 use mp_board::Cause;
 use mp_gate::Gate;
 use mp_job::Job;
 use mp_model::{Naming, Query};
 use mp_names::Kept;
 use mp_outside::Sink;
-use mp_tally::Tally;
+use mp_schedule::{Plain, RunPlan, Tally, drive_seed};
 use std::alloc::Global;
 
 /// Runs a whole job on one thread by a plan and by the schedule of a seed, and writes the answer: how many steps
@@ -47,7 +46,7 @@ pub fn replay<Q: Query, J: Naming, S: Sink, G: Gate>(
             keeps,
         },
     )?;
-    plain.drive_seed(seed, gate, sink)
+    drive_seed(&mut plain, seed, gate, sink)
 }
 
 /// What a whole run came to.
@@ -85,7 +84,7 @@ pub fn replay_with_tallies<Q: Query, J: Naming, S: Sink, G: Gate>(
         RunLeaves q J.job S.written S.faults S.frame result sink.old sink.new }
 {
     let mut plain = Plain::<Q, J>::open_by(alloc, job, plan)?;
-    let steps = plain.drive_seed(seed, gate, sink)?;
+    let steps = drive_seed(&mut plain, seed, gate, sink)?;
     let tallies = plain.tallies(alloc)?;
     let kept = if plan.keeps {
         plain.into_kept(alloc)?

@@ -4,18 +4,17 @@ ghost use Rattle.mp_model.specs.Tables.{table_of};
 ghost use Rattle.mp_msg.specs.LastStates.{AreAllStates};
 ghost use Rattle.mp_outline.specs.JobOutline.{outline_of};
 ghost use Rattle.mp_answer_laws.specs.Runs.{RunLeaves};
-ghost use Rattle.mp_drive.specs.Schedule.{EndsAfter};
+ghost use Rattle.mp_schedule.specs.Schedule.{EndsAfter};
 ghost use Rattle.mp_tally.specs.Tallies.{AreTalliesOf};
 ghost use Rattle.mp_worker.specs.Plans.{MayRun};
 
-use crate::{Plain, RunPlan};
 use mp_board::Cause;
 use mp_gate::Gate;
 use mp_job::Job;
 use mp_model::{Naming, Query};
 use mp_msg::BinState;
 use mp_outside::Sink;
-use mp_tally::Tally;
+use mp_schedule::{Plain, RunPlan, Tally, drive_seed};
 use std::alloc::Global;
 
 /// What a whole run came to, with what the bins have at its end.
@@ -50,7 +49,7 @@ pub fn replay_with_states<Q: Query, J: Naming, S: Sink, G: Gate>(
         RunLeaves q J.job S.written S.faults S.frame result sink.old sink.new }
 {
     let mut plain = Plain::<Q, J>::open_by(alloc, job, plan)?;
-    let steps = plain.drive_seed(seed, gate, sink)?;
+    let steps = drive_seed(&mut plain, seed, gate, sink)?;
     let tallies = plain.tallies(alloc)?;
     let states = plain.into_states(alloc)?;
     Ok(ReplayedStates {

@@ -1,9 +1,8 @@
 -- What a bin begins with, and the state that is made of it.
-use Rattle.std.proofs.Common.{◌≡◌, ◌≢◌, ◌↔◌, ◌⊎◌, ◌<◌, ◌∙◌, ◌==◌, ◌+◌, ◌++◌, ℕ, nat_eq, true, false, All, Contains, IsSome, List, [], ◌∷◌, None, Option, Some, ap, cond, get_or, inl, inr, length, refl, subst, sym, take, ⊎_elim}
+use Rattle.std.proofs.Common.{◌≡◌, ◌≢◌, ◌↔◌, ◌⊎◌, ◌∙◌, ◌==◌, ◌+◌, ◌++◌, ℕ, nat_eq, true, false, All, Contains, IsSome, List, [], ◌∷◌, None, Option, Some, ap, cond, inl, inr, refl, subst, sym, ⊎_elim}
 use Rattle.std.specs.Map.{lookup}
 use Rattle.std.specs.Option.{unwrap_or}
 use Rattle.std.proofs.lemmas.Bool.{both_ways, cases_Bool, eq-eqb, eqb-true, false≢true}
-use Rattle.std.proofs.lemmas.List.{take_more}
 use Rattle.std.proofs.lemmas.List.Elements.{All-cons, All-contains, All-nil, Contains-append_left, Contains-push, Contains-push_cases}
 use Rattle.indexmap.specs.IndexMap.{IndexMap, get}
 use Rattle.mp_bins.specs.Bins.{bin_of_key}
@@ -11,7 +10,7 @@ use Rattle.mp_model.specs.Facts.{JobFacts, QueryFacts}
 use Rattle.mp_job.proofs.Members.{nothing_in_nil, Contains-here, Contains-later}
 use Rattle.mp_msg.specs.States.{IsStateAtFirst, by_key}
 use Rattle.mp_msg.proofs.Sorted.{by_key-ascends, there-by_key}
-use Rattle.mp_postdated.specs.Wakes.{Has, IsAscending, IsWake}
+use Rattle.mp_postdated.specs.Wakes.{Has, IsAscending}
 use Rattle.mp_host_states.specs.Openings.{AreKept}
 use Rattle.mp_job.specs.Openings.{AreOpeningCells, AreOpeningWakes}
 use Rattle.mp_host_states.proofs.Finding.{cell_is}
@@ -78,34 +77,6 @@ none_kept {Cell = Cell} fresh kept e = record {
   where
     none_there : (k : ℕ) (c : Cell) → ◌≡◌ {A = Option Cell} None (Some c) → ⊥
     none_there k c e = cc
-
--- the wakes that are added, with one more
-pub one_due : (due : List (ℕ × ℕ)) (i : ℕ) (t k : ℕ) (old new : List (ℕ × ℕ)) → i < length due → get_or due i (t, k) ≡ (t, k)
-    → ((u l : ℕ) → Has old u l ↔ Contains (take i due) (u, l)) → ((u l : ℕ) → Has new u l ↔ (Has old u l ⊎ IsWake t k (u, l)))
-    → (u l : ℕ) → Has new u l ↔ Contains (take (i + 1) due) (u, l)
-one_due due i t k old new inside is were exact u l = (to, from)
-  where
-    more : take (i + 1) due ≡ take i due ++ (t, k) ∷ []
-    more = take_more due i (t, k) inside ∙ ap (λ (w : ℕ × ℕ). take i due ++ w ∷ []) is
-
-    same : IsWake t k (u, l) → ◌≡◌ {A = ℕ × ℕ} (t, k) (u, l)
-    same e = cc
-
-    to : Has new u l → Contains (take (i + 1) due) (u, l)
-    to h =
-        subst (λ (ws : List (ℕ × ℕ)). Contains ws (u, l)) (sym more)
-        (⊎_elim
-        (λ (o : Has old u l). Contains-append_left (take i due) ((t, k) ∷ []) (u, l) ((were u l).0 o))
-        (λ (e : IsWake t k (u, l)). subst (λ (w : ℕ × ℕ). Contains (take i due ++ (t, k) ∷ []) w) (same e) (Contains-push (take i due) (t, k)))
-        ((exact u l).0 h))
-
-    from : Contains (take (i + 1) due) (u, l) → Has new u l
-    from h =
-        (exact u l).1
-        (⊎_elim
-        (λ (o : Contains (take i due) (u, l)). inl ((were u l).1 o))
-        (λ (e : ◌≡◌ {A = ℕ × ℕ} (t, k) (u, l)). inr (sym (ap (λ (w : ℕ × ℕ). w.0) e), sym (ap (λ (w : ℕ × ℕ). w.1) e)))
-        (Contains-push_cases (take i due) (t, k) (u, l) (subst (λ (ws : List (ℕ × ℕ)). Contains ws (u, l)) more h)))
 
 -- a key is that of one of the cells, or of none
 module _ {Cell : Type 0} (k : ℕ) where

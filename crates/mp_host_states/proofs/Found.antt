@@ -16,7 +16,7 @@ use Rattle.mp_host_laws.specs.Applying.{FirstIsChanged}
 use Rattle.mp_host_laws.specs.Hosted.{is_held_before}
 use Rattle.mp_host_laws.specs.Moving.{last_first}
 use Rattle.mp_host_laws.proofs.LastFirst.{same_items}
-use Rattle.mp_host_states.specs.Spans.{bins_of, without}
+use Rattle.mp_host_places.specs.Spans.{bins_of, without}
 use Rattle.mp_host_states.specs.States.{StateIsStepped, States, cell_for, state_for}
 use Rattle.mp_host_states.proofs.Places.{around, no_place, place_is}
 

@@ -3,8 +3,5 @@ mod Numbered
 mod Begun
 mod Finding
 mod Stepped
-mod Within
-mod Spanned
-mod FirstWakes
 mod Failures
 mod Found

@@ -1,5 +1,5 @@
 -- What contracts see of the states of bins in hand.
-use Rattle.std.specs.Prelude.{◌≡◌, ◌≢◌, ◌<◌, ◌==◌, ◌&&◌, ◌||◌, ◌⊎◌, ℕ, suc, All, Bool, Contains, List, Option, drop, find, length, not, take}
+use Rattle.std.specs.Prelude.{◌≡◌, ◌≢◌, ◌<◌, ◌==◌, ◌&&◌, ◌||◌, ◌⊎◌, ℕ, suc, All, Bool, Contains, List, Option, drop, find, length, take}
 use Rattle.std.specs.List.{list_any}
 use Rattle.std.specs.Option.{option_map_or}
 use Rattle.mp_bins.specs.Bins.{IsBinCount, bin_of_key}
@@ -9,13 +9,9 @@ use Rattle.mp_msg.specs.States.{IsInOrder, cell_in}
 use Rattle.mp_host_laws.specs.declared.held.Held.{Held}
 use Rattle.mp_host_laws.specs.Applying.{StateTakes}
 use Rattle.mp_host_laws.specs.Hosted.{has_wake_in, is_held_before}
-use Rattle.mp_host_states.specs.declared.spans.Span.{Span}
-use Rattle.mp_host_states.specs.FirstWakes.{AreFirsts}
-use Rattle.mp_host_states.specs.Spans.{AreSpans, bins_of}
-
--- a group may change wakes: its own is used up, or its records post
-abbrev pub changes_wakes : Entry → List ℕ → Bool
-changes_wakes group posts = group.woken || not (length posts == 0)
+use Rattle.mp_host_places.specs.declared.spans.Span.{Span}
+use Rattle.mp_host_places.specs.FirstWakes.{AreFirsts}
+use Rattle.mp_host_places.specs.Spans.{AreSpans, bins_of}
 
 -- of how many bins they are, the states, and for how many more there is room
 pub record States (Cell : Type 0) : Type 0 where

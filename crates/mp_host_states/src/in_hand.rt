@@ -4,17 +4,17 @@ ghost use Rattle.mp_bins.specs.Bins.{IsBinCount, bin_of_key};
 ghost use Rattle.mp_postdated.specs.Wakes.{Has};
 ghost use Rattle.mp_host_laws.specs.Applying.{FirstIsChanged};
 ghost use Rattle.mp_host_laws.specs.Hosted.{first_wake_of, is_held_before};
-ghost use Rattle.mp_host_states.specs.Spans.{without};
+ghost use Rattle.mp_host_places.specs.Spans.{without};
 ghost use Rattle.mp_host_states.specs.States.{StateIsStepped, cell_for, has_own_wake_beside, state_for};
 
-use crate::firsts::{firsts_of, renew, renew_where};
-use crate::spans::{Spans, spans_of};
-use crate::states::{has_wake, place_before};
-use crate::stepping::{changes_wakes, most_of_state, step_state};
+use crate::stepping::{most_of_state, step_state};
 use mp_bins::bin_of;
 use mp_host_laws::Held;
+use mp_host_places::{
+    Firsts, Spans, firsts_of, has_wake, place_before, renew, renew_where, spans_of,
+};
+use mp_host_steps::{changes_wakes, take_out};
 use mp_model::{Group, Query, Time, Value};
-use mp_tournament::Firsts;
 use std::alloc::{AllocError, Global};
 use std::marker::Model;
 
@@ -109,7 +109,7 @@ impl<C: Drop> InHand<C> {
     {
         let last = self.held.len() - 1;
         let moved = self.held[last].bin;
-        let one = self.held.swap_remove(at);
+        let one = take_out(&mut self.held, at);
         self.spans.fill(at, one.bin, last, moved);
         renew(&mut self.firsts, &self.held, &self.spans, one.bin);
         one

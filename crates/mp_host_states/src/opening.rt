@@ -1,15 +1,14 @@
 //! What a bin begins with.
-ghost use Rattle.std.specs.Prelude.{◌↔◌, ◌<◌, ℕ, Contains, IfOk};
+ghost use Rattle.std.specs.Prelude.{IfOk};
 ghost use Rattle.mp_model.specs.Tables.{table_of};
 ghost use Rattle.mp_msg.specs.States.{IsStateAtFirst};
-ghost use Rattle.mp_postdated.specs.Wakes.{Has, IsAscending};
 ghost use Rattle.mp_host_states.specs.Openings.{AreKept};
 
 use indexmap::IndexMap;
+use mp_host_steps::wakes_of;
 use mp_job::Job;
-use mp_model::{Query, Time};
+use mp_model::Query;
 use mp_msg::BinState;
-use mp_postdated::Wakes;
 use std::alloc::{AllocError, Global};
 
 /// The state that a bin of a stage begins with: its cells but for those that are fresh, and its wakes. Of a job that doesn't
@@ -44,17 +43,4 @@ fn kept_of<Q: Query>(
         }
     }
     Ok(kept)
-}
-
-// These wakes, which take time linear in their number where they ascend. `AllocError`: no memory.
-fn wakes_of(alloc: Global, due: &[(Time, u64)]) -> Result<Wakes, AllocError>
-    ensures same { IfOk result (λ w. (u k : ℕ) → Has w.wakes u k ↔ Contains due.now (u, k)) }
-    ensures ascending { IfOk result (λ w. IsAscending w.wakes) }
-{
-    let mut wakes = Wakes::new(alloc);
-    wakes.make_room(due.len())?;
-    for (time, key) in due {
-        wakes.add(*time, *key)?;
-    }
-    Ok(wakes)
 }

@@ -1,13 +1,13 @@
 //! What a group makes of the state of its key's bin.
-ghost use Rattle.std.specs.Prelude.{◌≡◌, ◌≢◌, ◌↔◌, ◌⊎◌, ◌==◌, ◌≤◌, ℕ, false, true, cond, Contains, IfOk, OnErr, OnOk, length};
+ghost use Rattle.std.specs.Prelude.{◌≡◌, ◌≢◌, ◌↔◌, ◌⊎◌, ◌==◌, ℕ, false, true, cond, Contains, IfOk, OnErr, OnOk};
 ghost use Rattle.mp_msg.specs.States.{IsInOrder, cell_in};
 ghost use Rattle.mp_postdated.specs.Wakes.{Has, IsWake};
-ghost use Rattle.mp_host_states.specs.States.{changes_wakes};
+ghost use Rattle.mp_host_steps.specs.Changes.{changes_wakes};
 
 use crate::cells::{most_in, step_in};
+use mp_host_steps::{make_room_for, step_wakes};
 use mp_model::{Group, Query, Time, Value};
 use mp_msg::BinState;
-use mp_postdated::Wakes;
 use std::alloc::{AllocError, Global};
 
 /// Applies a group to the state of its key's bin: the outputs, in order. Its wake is used up, the times that its records
@@ -39,38 +39,8 @@ pub fn step_state<Q: Query>(
 {
     make_room_for(&mut state.wakes, posts)?;
     let outputs = step_in(alloc, query, stage, &mut state.cells, group)?;
-    take_wake(&mut state.wakes, group);
-    state.wakes.add_all(group.key(), posts);
+    step_wakes(&mut state.wakes, group, posts);
     Ok(outputs)
-}
-
-/// Whether a group that posts these times may change the wakes of its key's bin.
-pub fn changes_wakes(group: &Group, posts: &[Time]) -> bool
-    ensures { result ≡ changes_wakes group.now posts.now }
-{
-    group.is_woken() || !posts.is_empty()
-}
-
-// Makes room for wakes at these times, if there are any. `AllocError`: no memory.
-fn make_room_for(wakes: &mut Wakes, posts: &[Time]) -> Result<(), AllocError>
-    ensures room { OnOk result (length posts.now ≤ wakes.new.room) }
-    ensures same { wakes.new.wakes ≡ wakes.old.wakes }
-{
-    if posts.is_empty() {
-        return Ok(());
-    }
-    wakes.make_room(posts.len())
-}
-
-// Takes the wake of a group out, if it has one.
-fn take_wake(wakes: &mut Wakes, group: &Group)
-    requires { Has wakes.old.wakes group.now.time group.now.key → group.now.woken ≡ true }
-    ensures exact { (t k : ℕ) → Has wakes.new.wakes t k ↔ (Has wakes.old.wakes t k × (IsWake group.now.time group.now.key (t, k) → ⊥)) }
-    ensures room { wakes.old.room ≤ wakes.new.room }
-{
-    if group.is_woken() {
-        wakes.take_due(group.time(), group.key());
-    }
 }
 
 /// No fewer than the outputs that a group of a key of the state's bin will give.

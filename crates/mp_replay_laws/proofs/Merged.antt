@@ -15,8 +15,7 @@ use Rattle.mp_audit.specs.Going.{HasLegalMerge}
 use Rattle.mp_audit.specs.Lists.{list_of}
 use Rattle.mp_journal_laws.specs.Kept.{kept_at, kept_of}
 use Rattle.mp_journal_laws.proofs.Keeping.{kept_more, merge_of_run}
-use Rattle.mp_drive.specs.Schedule.{IsKeptBySchedule}
-use Rattle.mp_drive.proofs.Unmade.{kept_one, none_of}
+use Rattle.mp_drive.specs.Below.{IsKeptBySchedule, kept_one, none_of}
 
 module _ (o : Outline) (ok : OutlineIsSound o) (depth : ℕ) where
   -- a worker that the outline hasn't makes no step

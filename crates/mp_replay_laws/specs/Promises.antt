@@ -4,7 +4,7 @@ use Rattle.mp_names.specs.Outlines.{Outline, OutlineIsSound}
 use Rattle.mp_names.specs.declared.kinds.Kept.{Kept}
 use Rattle.mp_audit.specs.Going.{HasLegalMerge}
 use Rattle.mp_audit.specs.Lists.{list_of}
-use Rattle.mp_drive.specs.Schedule.{IsKeptBySchedule}
+use Rattle.mp_drive.specs.Below.{IsKeptBySchedule}
 
 -- what is kept of a whole schedule has a legal merge
 abbrev pub KeptReplaysAreLegal : Type 0

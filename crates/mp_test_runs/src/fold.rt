@@ -4,6 +4,7 @@ ghost use Rattle.mp_job.specs.Runs.{IsRunOf};
 ghost use Rattle.mp_model.specs.Tables.{table_of};
 ghost use Rattle.mp_output.specs.Rows.{GivesRows};
 
+use crate::refused::Refused;
 use mp_board::Cause;
 use mp_control::{RuleList, read_settings};
 use mp_drive::{RunPlan, replay};
@@ -18,7 +19,6 @@ use mp_q_auction::Q4;
 use std::alloc::{AllocError, Global};
 use std::marker::Brand;
 use std::process::Abort;
-use std::test::Fail;
 
 /// Three workers, four bins and the stages of q4.
 pub const SHAPE: Shape = Shape {
@@ -80,7 +80,7 @@ pub fn joined(alloc: Global, pieces: &[Vec<u8>]) -> Result<Vec<u8>, AllocError> 
 }
 
 /// What the fold gives.
-fn folded(alloc: Global) -> Result<Vec<u8>, Fail> {
+fn folded(alloc: Global) -> Result<Vec<u8>, Refused> {
     let events = read_events(alloc, CLOSINGS)?;
     let pieces = answer_pieces(alloc, &Q4::given(), events.as_slice())?;
     let answer = joined(alloc, pieces.as_slice())?;
@@ -88,7 +88,7 @@ fn folded(alloc: Global) -> Result<Vec<u8>, Fail> {
 }
 
 /// The job whose bins move by these lines.
-fn job_by(alloc: Global, config: &[u8]) -> Result<Job<Q4>, Fail> {
+fn job_by(alloc: Global, config: &[u8]) -> Result<Job<Q4>, Refused> {
     let events = read_events(alloc, CLOSINGS)?;
     let settings = read_settings(alloc, config, &SHAPE, &RuleList::new())?;
     let job = Job::new(alloc, Q4::given(), events, settings.controls, SHAPE)?;
@@ -96,7 +96,7 @@ fn job_by(alloc: Global, config: &[u8]) -> Result<Job<Q4>, Fail> {
 }
 
 /// The job whose first owners are turned round, and whose bins move by these lines.
-fn turned_by(alloc: Global, config: &[u8]) -> Result<Job<Q4>, Fail> {
+fn turned_by(alloc: Global, config: &[u8]) -> Result<Job<Q4>, Refused> {
     let events = read_events(alloc, CLOSINGS)?;
     let settings = read_settings(alloc, config, &SHAPE, &RuleList::new())?;
     let mut firsts = Vec::new(alloc);
@@ -131,7 +131,7 @@ pub fn writes<Q: Query, J: Naming>(
 }
 
 #[test]
-fn fold_is_the_reference(rt: HostRuntime) -> Result<(), Fail> {
+fn fold_is_the_reference(rt: HostRuntime) -> Result<(), Refused> {
     let answer = folded(rt.alloc())?;
     for (config, depth, seed) in WAYS {
         let job = job_by(rt.alloc(), config)?;
@@ -141,7 +141,7 @@ fn fold_is_the_reference(rt: HostRuntime) -> Result<(), Fail> {
 }
 
 #[test]
-fn first_owners_leave_the_answer_alone(rt: HostRuntime) -> Result<(), Fail> {
+fn first_owners_leave_the_answer_alone(rt: HostRuntime) -> Result<(), Refused> {
     let answer = folded(rt.alloc())?;
     for (config, depth, seed) in WAYS {
         let job = turned_by(rt.alloc(), config)?;

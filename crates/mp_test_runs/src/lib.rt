@@ -11,6 +11,8 @@ mod fold;
 #[cfg(test)]
 mod handing;
 #[cfg(test)]
+mod refused;
+#[cfg(test)]
 mod schedule;
 #[cfg(test)]
 mod script;

@@ -2,6 +2,7 @@
 ghost use Rattle.std.specs.Prelude.{◌<◌};
 
 use crate::fold::{CLOSINGS, SHAPE, WAYS, writes};
+use crate::refused::Refused;
 use mp_control::{RuleList, read_settings};
 use mp_events::read_events;
 use mp_job::{Job, JobInputs, Time};
@@ -9,7 +10,6 @@ use mp_q_auction::Q4;
 use std::alloc::Global;
 use std::marker::Brand;
 use std::process::Abort;
-use std::test::Fail;
 
 // The lines of the answer before a stop time. Auctions close at 20, at 100 and at 700: the prices of the first category
 // are 9 and then 35 and 41, that of the other is 80.
@@ -22,7 +22,7 @@ const STOPS: [(u32, &[u8]); 5] = [
 ];
 
 // The job whose bins move by these lines, up to a time.
-fn job_until(alloc: Global, config: &[u8], stop: u32) -> Result<Job<Q4>, Fail>
+fn job_until(alloc: Global, config: &[u8], stop: u32) -> Result<Job<Q4>, Refused>
     requires { 0 < stop }
 {
     let inputs = JobInputs {
@@ -35,7 +35,12 @@ fn job_until(alloc: Global, config: &[u8], stop: u32) -> Result<Job<Q4>, Fail>
 }
 
 // Workers whose bins move in each of the ways write these lines up to a time.
-fn writes_in_each_way(rt: &impl Abort, alloc: Global, stop: u32, lines: &[u8]) -> Result<(), Fail> {
+fn writes_in_each_way(
+    rt: &impl Abort,
+    alloc: Global,
+    stop: u32,
+    lines: &[u8],
+) -> Result<(), Refused> {
     assert!(rt; stop > 0);
     for (config, depth, seed) in WAYS {
         let job = job_until(alloc, config, stop)?;
@@ -45,7 +50,7 @@ fn writes_in_each_way(rt: &impl Abort, alloc: Global, stop: u32, lines: &[u8]) -
 }
 
 #[test]
-fn workers_stop_at_a_time(rt: HostRuntime) -> Result<(), Fail> {
+fn workers_stop_at_a_time(rt: HostRuntime) -> Result<(), Refused> {
     for (stop, lines) in STOPS {
         writes_in_each_way(&rt, rt.alloc(), stop, lines)?;
     }

@@ -2,6 +2,7 @@
 ghost use Rattle.std.specs.Prelude.{◌≡◌};
 
 use crate::fold::{joined, writes};
+use crate::refused::Refused;
 use mp_control::read_settings;
 use mp_events::read_events;
 use mp_fold::answer_pieces;
@@ -11,7 +12,6 @@ use mp_names::Shape;
 use mp_q_window::Q5;
 use std::alloc::Global;
 use std::marker::Brand;
-use std::test::Fail;
 
 const SHAPE: Shape = Shape {
     workers: 3,
@@ -33,7 +33,7 @@ fn short_windows() -> Q5
 }
 
 /// What the fold gives.
-fn folded(alloc: Global, query: &Q5) -> Result<Vec<u8>, Fail> {
+fn folded(alloc: Global, query: &Q5) -> Result<Vec<u8>, Refused> {
     let events = read_events(alloc, BIDS)?;
     let pieces = answer_pieces(alloc, query, events.as_slice())?;
     let answer = joined(alloc, pieces.as_slice())?;
@@ -41,7 +41,7 @@ fn folded(alloc: Global, query: &Q5) -> Result<Vec<u8>, Fail> {
 }
 
 /// The job of q5 with the rules, the first owners and the moves of these lines.
-fn job_by(alloc: Global, config: &[u8]) -> Result<Job<Q5>, Fail> {
+fn job_by(alloc: Global, config: &[u8]) -> Result<Job<Q5>, Refused> {
     let events = read_events(alloc, BIDS)?;
     let given = Q5::given();
     let settings = read_settings(alloc, config, &SHAPE, &given.rules())?;
@@ -64,7 +64,7 @@ const SHORT: [&[u8]; 2] = [
 ];
 
 #[test]
-fn workers_keep_to_short_windows(rt: HostRuntime) -> Result<(), Fail> {
+fn workers_keep_to_short_windows(rt: HostRuntime) -> Result<(), Refused> {
     for config in SHORT {
         let job = job_by(rt.alloc(), config)?;
         writes::<Q5, Brand>(&rt, rt.alloc(), &job, 2, 7, GREATEST)?;
@@ -73,7 +73,7 @@ fn workers_keep_to_short_windows(rt: HostRuntime) -> Result<(), Fail> {
 }
 
 #[test]
-fn windows_of_two_slides(rt: HostRuntime) -> Result<(), Fail> {
+fn windows_of_two_slides(rt: HostRuntime) -> Result<(), Refused> {
     let answer = folded(rt.alloc(), &short_windows())?;
     assert!(rt; answer.as_slice() == GREATEST);
     Ok(())

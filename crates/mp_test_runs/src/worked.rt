@@ -5,7 +5,7 @@ ghost use Rattle.mp_model.specs.Legal.{EventIsLegal};
 
 use crate::script::{Line, Part, follows};
 use mp_board::Cause;
-use mp_drive::Plain;
+use mp_drive::{Plain, drive_seed};
 use mp_gate::OpenGate;
 use mp_job::{Event, Job, Shape, Time};
 use mp_model::{Naming, Value};
@@ -300,7 +300,7 @@ fn starves_and_ends<J: Naming>(
     let mut plain = Plain::<Q1, J>::open(alloc, job, 64)?;
     let turns = plain.drive_list(alloc, places, sink)?;
     no_groups(rt, turns.as_slice());
-    plain.drive_seed(0, &OpenGate, sink)?;
+    drive_seed(&mut plain, 0, &OpenGate, sink)?;
     Ok(())
 }
 

@@ -6,12 +6,13 @@ use Rattle.mp_names.specs.Logs.{empty_log}
 use Rattle.mp_names.specs.Outlines.{Outline}
 use Rattle.mp_worker_refinement.specs.State.{WorkerState}
 use Rattle.mp_threads_member.specs.Driving.{IsFinished}
-use Rattle.mp_threads_member.specs.Members.{MemberState}
-use Rattle.mp_threads.specs.Crews.{AreByNumber, AreFinished, HasDoneNothing}
-use Rattle.mp_threads.specs.Places.{mark_of}
+use Rattle.mp_threads_member.specs.Members.{HasDoneNothing, MemberState}
+use Rattle.mp_threads_crew.specs.Crews.{AreByNumber, AreFinished}
+use Rattle.mp_threads_place.specs.Places.{mark_of}
 use Rattle.mp_threads.specs.Runs.{ComeBack}
-use Rattle.mp_threads.specs.declared.back.Marked.{Marked}
-use Rattle.mp_threads.proofs.Lists.{all_at, all_head, as_many, numbers_same}
+use Rattle.mp_threads_place.specs.declared.back.Marked.{Marked}
+use Rattle.mp_threads_crew.proofs.Lists.{all_at}
+use Rattle.mp_threads.proofs.Lists.{all_head, as_many, numbers_same}
 
 pub record Begins (m : MemberState) : Type 0 where
   pub zeroth : m.worker.number ≡ 0

@@ -1,11 +1,9 @@
 -- What a worker that began with nothing leaves in a sink, and what the run then leaves.
-use Rattle.std.proofs.Common.{◌≡◌, ◌≢◌, ℕ, Bool, true, List, Some, Ok, Err, ap, refl, ◌∙◌, subst, sym}
-use Rattle.std.specs.Prelude.{OnErr, OnOk, is_some}
+use Rattle.std.proofs.Common.{◌≡◌, ◌≢◌, ℕ, Bool, true, List, Ok, Err, ap, ◌∙◌, subst, sym}
+use Rattle.std.specs.Prelude.{OnErr, OnOk}
 use Rattle.std.specs.declared.option.Option.{Option}
 use Rattle.std.specs.declared.result.Result.{Result}
-use Rattle.std.proofs.lemmas.Option.{same_Some}
 use Rattle.mp_names.specs.Logs.{Log, LogIsLegal, empty_log}
-use Rattle.mp_names.specs.Outlines.{Outline}
 use Rattle.mp_machine.specs.Promises.{LogIsFull}
 use Rattle.mp_outside.specs.Fault.{Rose}
 use Rattle.mp_outside.specs.Sink.{Beside, OnlyAppends, grown}
@@ -13,20 +11,16 @@ use Rattle.mp_outside.proofs.SinkLemmas.{grown-nothing}
 use Rattle.mp_model.specs.Answers.{one_thread_answer}
 use Rattle.mp_model.specs.Facts.{JobFacts, QueryFacts}
 use Rattle.mp_outline.specs.JobOutline.{outline_of}
-use Rattle.mp_seat.specs.Seats.{SeatState}
 use Rattle.mp_answer_laws.proofs.Written.{written_lines_begin}
 use Rattle.mp_board.specs.declared.causes.Cause.{Cause}
 use Rattle.mp_board.specs.declared.causes.Cause.TheVariants as cause
-use Rattle.mp_worker_refinement.specs.State.{WorkerState}
-use Rattle.mp_threads_member.specs.Below.{Stop}
-use Rattle.mp_threads_member.specs.Below.{Write, Memory, Other}
-use Rattle.mp_threads_hub.specs.Hubs.{SeesStop}
+use Rattle.mp_threads_member.specs.Below.{Stop, Write}
 use Rattle.mp_answer_laws.specs.Lines.{HasBegun, HasWritten}
 use Rattle.mp_threads_member.specs.Members.{MemberState}
-use Rattle.mp_threads_member.specs.Driving.{Drives, GoesOn, IsFinished, IsTold}
+use Rattle.mp_threads_member.specs.Driving.{Drives, GoesOn, IsFinished}
 use Rattle.mp_threads_member.proofs.Driven.{answer_written}
-use Rattle.mp_threads.specs.Places.{ComesToEnd, mark_of, worker_in}
-use Rattle.mp_threads.specs.declared.back.Marked.{Marked}
+use Rattle.mp_threads_place.specs.Places.{mark_of}
+use Rattle.mp_threads_place.proofs.Marks.{same_mark}
 use Rattle.mp_answer_laws.specs.Runs.{RunLeaves}
 
 on_ok : {V E A B : Type 0} (r : Result V E) → OnOk r A → (A → B) → OnOk r B
@@ -36,21 +30,6 @@ on_ok (Err e) a f = tt
 pub on_err : {V E B : Type 0} (r : Result V E) → B → OnErr r B
 on_err (Ok v) b = tt
 on_err (Err e) b = b
-
--- a worker keeps its mark with its number, where it keeps its steps as before
-pub same_mark : (a b : WorkerState) → a.number ≡ b.number → is_some a.steps ≡ is_some b.steps → mark_of a ≡ mark_of b
-same_mark a b number keeps = rw (number, keeps) refl
-
--- a stop that is told is seen at the seat
-pub told_sees : (stop : Stop) (seat : SeatState Log) → IsTold stop seat → SeesStop seat
-told_sees Write seat told = told
-told_sees Memory seat told = told
-told_sees (Other cause) seat told = (cause, told)
-
--- a worker that came to its end
-pub worker_is_back : (o : Outline) (mark : Marked) (came : Result MemberState MemberState) (w : WorkerState) → ComesToEnd o mark came → Some w ≡ worker_in came → (mark_of w ≡ mark) × IsFinished o w
-worker_is_back o mark (Ok m) w is e = subst (λ (s : WorkerState). (mark_of s ≡ mark) × IsFinished o s) (sym (same_Some w m.worker e)) is
-worker_is_back o mark (Err m) w is e = absurd (cc)
 
 module _ {Cell S : Type 0} (q : QueryFacts Cell) (job : JobFacts) (written : S → Option (List ℕ)) (faults : S → ℕ) (frame : S → Beside) where
   -- before anything is written

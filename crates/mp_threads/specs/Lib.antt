@@ -1,5 +1,3 @@
 -- What the contracts of this crate cite.
-pub mod Crews
 pub mod Journals
-pub mod Places
 pub mod Runs

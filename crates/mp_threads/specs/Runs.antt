@@ -15,10 +15,10 @@ use Rattle.mp_threads_member.specs.Below.{Stop}
 use Rattle.mp_threads_member.specs.Below.TheVariants as own
 use Rattle.mp_threads_member.specs.Driving.{Drives, IsFinished, IsTold}
 use Rattle.mp_threads_member.specs.Members.{MemberState}
-use Rattle.mp_threads.specs.Crews.{AreFinished}
-use Rattle.mp_threads.specs.Places.{OneHasTold, mark_of}
-use Rattle.mp_threads.specs.declared.back.Marked.{Marked}
-use Rattle.mp_threads.specs.declared.place.Place.{Place}
+use Rattle.mp_threads_crew.specs.Crews.{AreFinished}
+use Rattle.mp_threads_place.specs.Places.{OneHasTold, mark_of}
+use Rattle.mp_threads_place.specs.declared.back.Marked.{Marked}
+use Rattle.mp_threads_place.specs.declared.place.Place.{Place}
 
 -- Workers come back of a crew with these marks: finished, and with the same marks
 pub record ComeBack (o : Outline) (crew : List Marked) (workers : List WorkerState) : Type 0 where

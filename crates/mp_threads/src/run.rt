@@ -7,18 +7,17 @@ ghost use Rattle.mp_board.specs.declared.causes.Cause.TheVariants.{Write};
 ghost use Rattle.mp_threads_member.specs.Below.TheVariants as own;
 ghost use Rattle.mp_threads_member.specs.declared.drive.Round.TheVariants.{Over};
 ghost use Rattle.mp_threads_member.specs.Driving.{IsFinished};
-ghost use Rattle.mp_threads.specs.Crews.{HasDoneNothing};
-ghost use Rattle.mp_threads.specs.Places.{OneHasTold, mark_at, mark_of, worker_in};
+ghost use Rattle.mp_threads_member.specs.Members.{HasDoneNothing};
+ghost use Rattle.mp_threads_place.specs.Places.{OneHasTold, mark_at, mark_of};
 ghost use Rattle.mp_threads.specs.Runs.{AreDriven, ComeBack, EndsAs, HaveRun};
 
-use crate::Crew;
-use crate::place::{Placed, finish, turn_here};
-use crate::start::settle;
 use mp_board::Cause;
 use mp_gate::Gate;
 use mp_model::{Naming, Query};
 use mp_outside::Sink;
+use mp_threads_crew::Crew;
 use mp_threads_member::{Member, Pause, Round, Stop, Worker};
+use mp_threads_place::{Placed, finish, finished, settle, turn_here};
 use std::alloc::Global;
 use std::sync::Wait;
 use std::thread;
@@ -89,7 +88,7 @@ fn run_in<
     ensures run { HaveRun (table_of Q.facts J.job) J.job S.written S.faults S.frame
         crew.entry result sink.old sink.new }
 {
-    let Crew { members } = crew;
+    let members = crew.into_members();
     let Ok(places) = Vec::with_capacity(alloc, members.len()) else {
         return Err(Cause::Memory);
     };
@@ -133,21 +132,6 @@ fn finish_all<'a, Q: Query, J: Naming, R: Wait + Drop, T: Threads + Wait, G: Gat
         }
     }
     if all { Ok(done) } else { Err(cause_of(driven)) }
-}
-
-// The worker that came to its end, without its ends and its seat. `None`: it stopped.
-fn finished<'a, Q: Query, J: Naming, R: Drop>(
-    came: Result<Member<'a, Q, J, R>, Member<'a, Q, J, R>>,
-) -> Option<Worker<'a, Q, J>>
-    ensures { result ≡ worker_in came.entry }
-{
-    match came {
-        Ok(member) => Some(member.into_worker()),
-        Err(stopped) => {
-            drop(stopped);
-            None
-        }
-    }
 }
 
 // Whether those with the caller were driven to their end.

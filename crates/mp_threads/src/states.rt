@@ -1,36 +1,22 @@
 //! A whole run by threads, with what the bins have at its end.
 ghost use Rattle.std.specs.Prelude.{◌<◌, IfOk, map};
-ghost use Rattle.mp_job.specs.Runs.{IsRunOf};
 ghost use Rattle.mp_model.specs.Tables.{table_of};
 ghost use Rattle.mp_msg.specs.LastStates.{AreAllStates};
-ghost use Rattle.mp_outline.specs.JobOutline.{outline_of};
 ghost use Rattle.mp_tally.specs.Tallies.{AreTalliesOf};
-ghost use Rattle.mp_threads.specs.Crews.{AreFinished};
 ghost use Rattle.mp_answer_laws.specs.Runs.{RunLeaves};
 ghost use Rattle.mp_worker.specs.Plans.{MayRun};
 
-use crate::tallies::tallies_of;
-use crate::{Crew, run_workers};
+use crate::run_workers;
 use mp_board::Cause;
 use mp_gate::Gate;
 use mp_job::Job;
 use mp_model::{Naming, Query};
-use mp_msg::BinState;
 use mp_outside::Sink;
-use mp_tally::Tally;
-use mp_threads_member::{RunPlan, Worker, last_states};
+use mp_threads_crew::{Crew, EndedStates, states_told_by};
+use mp_threads_member::RunPlan;
 use std::alloc::{AllocError, Global};
 use std::sync::Wait;
 use std::thread::Threads;
-
-/// What a run by threads came to, by the workers' numbers, with what the bins have at its end.
-#[derive(Drop)]
-pub struct EndedStates<C: Drop> {
-    /// What each worker has done.
-    pub tallies: Vec<Tally>,
-    /// The states of the bins that each worker owns at the end, each with its stage.
-    pub states: Vec<Vec<(u32, BinState<C>)>>,
-}
 
 /// Runs a whole job by threads and by a plan, as [`run_workers`] does, and gives what each worker has done and what the
 /// bins have at the job's end, just before its stop time or after all where it has none; of a paced run too. The query's
@@ -65,20 +51,4 @@ pub fn run_with_states<
         Ok(ended) => Ok(ended),
         Err(AllocError) => Err(Cause::Memory),
     }
-}
-
-// What finished workers tell, and what their bins have at the end.
-fn states_told_by<Q: Query, J: Naming>(
-    alloc: Global,
-    job: &Job<Q>,
-    workers: Vec<Worker<Q, J>>,
-) -> Result<EndedStates<Q::Cell>, AllocError>
-    requires job { IsRunOf job.now J.job }
-    requires finished { AreFinished (outline_of (table_of Q.facts J.job) J.job) workers.items }
-    ensures tallies { IfOk result (λ run. AreTalliesOf (table_of Q.facts J.job) J.job run.tallies.items) }
-    ensures states { IfOk result (λ run. AreAllStates (table_of Q.facts J.job) J.job (map (λ own. own.items) run.states.items)) }
-{
-    let tallies = tallies_of(alloc, job, workers.as_slice())?;
-    let states = last_states(alloc, workers)?;
-    Ok(EndedStates { tallies, states })
 }

@@ -12,7 +12,7 @@ use Rattle.mp_worker.below.mp_controller.proofs.controller.Controller.TheSendSyn
 use Rattle.mp_worker.below.mp_route.proofs.router.Router.TheSendSync as router
 use Rattle.mp_worker.below.mp_host.proofs.host.Host.TheSendSync as host
 use Rattle.mp_worker.below.mp_handoff.proofs.movers.Movers.TheSendSync as movers
-use Rattle.mp_worker.below.mp_worker_steps.proofs.lists.ChangeLists.TheSendSync as lists
+use Rattle.mp_worker.below.mp_worker_parts.proofs.lists.ChangeLists.TheSendSync as lists
 use Rattle.mp_output.proofs.unsent.Unsent.TheSendSync as unsent
 use Rattle.mp_output.proofs.rows.Rows.TheSendSync as rows
 use Rattle.mp_ruled.proofs.post.RuledPost.TheSendSync as post

@@ -17,9 +17,9 @@ use Rattle.mp_answer_laws.proofs.Written.{full_logs_answer}
 use Rattle.mp_board.specs.declared.causes.Cause.{Cause}
 use Rattle.mp_answer_laws.specs.Lines.{HasWritten}
 use Rattle.mp_worker_refinement.specs.State.{CanMake}
-use Rattle.mp_worker.specs.declared.turn.Stop.{Stop}
-use Rattle.mp_worker.specs.declared.turn.Stop.TheVariants as stop
-use Rattle.mp_worker.specs.declared.turn.Turn.{Turn}
+use Rattle.mp_worker.specs.Below.{Stop}
+use Rattle.mp_worker.specs.Below.stop
+use Rattle.mp_worker.specs.Below.{Turn}
 use Rattle.mp_worker.specs.Turns.{Answers}
 use Rattle.mp_worker.specs.Writing.{WritesInTurn}
 use Rattle.mp_threads_hub.specs.Hubs.{SeesCause}

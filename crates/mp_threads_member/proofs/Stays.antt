@@ -13,11 +13,11 @@ use Rattle.mp_ruled.specs.Posts.{PostState}
 use Rattle.mp_seat.specs.Seats.{SeatState}
 use Rattle.mp_worker_refinement.specs.Ends.{popped_by, pushed_by}
 use Rattle.mp_worker_refinement.specs.State.{WorkerState}
-use Rattle.mp_worker.specs.declared.turn.Stop.{Stop}
-use Rattle.mp_worker.specs.declared.turn.Stop.TheVariants as stop
-use Rattle.mp_worker.specs.declared.turn.Turn.{Turn}
-use Rattle.mp_worker.specs.declared.turn.Turn.TheVariants as turn
-use Rattle.mp_worker.specs.Keeping.{steps_after}
+use Rattle.mp_worker.specs.Below.{Stop}
+use Rattle.mp_worker.specs.Below.stop
+use Rattle.mp_worker.specs.Below.{Turn}
+use Rattle.mp_worker.specs.Below.turn
+use Rattle.mp_worker.specs.Below.{steps_after}
 use Rattle.mp_worker.specs.Turns.{Answers}
 use Rattle.mp_threads_hub.specs.Hubs.{HasLooked, IsSeatOf, own_row}
 use Rattle.mp_threads_member.specs.Members.{IsAtEnds, IsAtSeat, IsMember, MailFollows, MemberState, ends_denote}

@@ -17,9 +17,9 @@ use Rattle.mp_ruled.specs.Posts.{ReceiverWasEmpty, SenderWasFull}
 use Rattle.mp_seat.specs.Seats.{HasOthers, SeatState}
 use Rattle.mp_worker_refinement.specs.Mail.{MailboxBlocks}
 use Rattle.mp_worker_refinement.specs.State.{CanMake, WorkerState}
-use Rattle.mp_worker.specs.declared.turn.Stop.{Stop}
-use Rattle.mp_worker.specs.declared.turn.Turn.{Turn}
-use Rattle.mp_worker.specs.declared.turn.Turn.TheVariants.{Did, Seen, NotNow, Busy}
+use Rattle.mp_worker.specs.Below.{Stop}
+use Rattle.mp_worker.specs.Below.{Turn}
+use Rattle.mp_worker.specs.Below.turn.{Did, Seen, NotNow, Busy}
 use Rattle.mp_threads_hub.specs.Hubs.{HasLooked}
 use Rattle.mp_threads_member.specs.Members.{AnswersByMail, ExchangesBySeat, IsAtEnds, IsMember, MemberState}
 use Rattle.mp_threads_member.specs.Rounds.{HasComeFurther, HasReceivedNone, HasTriedAll, IsHindered, IsUpToDate, OnMade, OnNotMade, WasHindered, progress}

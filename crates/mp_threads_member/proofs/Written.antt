@@ -17,10 +17,10 @@ use Rattle.mp_output.specs.Holding.{answer_at}
 use Rattle.mp_answer_laws.specs.Lines.{HasBegun, HasWritten, lines_of_time, written_lines}
 use Rattle.mp_answer_laws.proofs.Written.{parts_of_lines_begin, writing_adds_lines, written_lines_begin}
 use Rattle.mp_worker_refinement.specs.State.{CanMake, WorkerState, as_machine}
-use Rattle.mp_worker.specs.declared.turn.Stop.{Stop}
-use Rattle.mp_worker.specs.declared.turn.Stop.TheVariants as stop
-use Rattle.mp_worker.specs.declared.turn.Turn.{Turn}
-use Rattle.mp_worker.specs.declared.turn.Turn.TheVariants as turn
+use Rattle.mp_worker.specs.Below.{Stop}
+use Rattle.mp_worker.specs.Below.stop
+use Rattle.mp_worker.specs.Below.{Turn}
+use Rattle.mp_worker.specs.Below.turn
 use Rattle.mp_worker.specs.Turns.{Answers}
 use Rattle.mp_worker.specs.Writing.{WritesInTurn, WritesNoMore, WritesPart}
 use Rattle.mp_worker.proofs.Told.{no_lines_else, one_time}

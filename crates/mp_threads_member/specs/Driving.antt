@@ -12,8 +12,8 @@ use Rattle.mp_board.specs.declared.causes.Cause.{Cause}
 use Rattle.mp_answer_laws.specs.Lines.{HasBegun, HasWritten}
 use Rattle.mp_worker_refinement.specs.State.{WorkerState}
 use Rattle.mp_worker_refinement.specs.SystemState.{KnowsTheEnd}
-use Rattle.mp_worker.specs.declared.turn.Stop.{Stop}
-use Rattle.mp_worker.specs.declared.turn.Stop.TheVariants.{Write, Memory, Other}
+use Rattle.mp_worker.specs.Below.{Stop}
+use Rattle.mp_worker.specs.Below.stop.{Write, Memory, Other}
 use Rattle.mp_threads_hub.specs.Hubs.{SeesCause, SeesStop}
 use Rattle.mp_threads_member.specs.Members.{MemberState}
 use Rattle.mp_threads_member.specs.Rounds.{progress}

@@ -3,15 +3,15 @@ use Rattle.std.specs.Prelude.{◌≡◌, ℕ, List, length}
 use Rattle.std.specs.declared.result.Result.{Result}
 use Rattle.mp_names.specs.declared.kinds.Kind.{Kind}
 use Rattle.mp_names.specs.declared.names.Name.{Name}
-use Rattle.mp_names.specs.Logs.{Log}
+use Rattle.mp_names.specs.Logs.{Log, empty_log}
 use Rattle.mp_names.specs.Outlines.{Outline}
 use Rattle.mp_ruled.specs.Posts.{PostState, ReceiverWasEmpty, RuledStands, SenderHadRoom, SenderWasFull}
 use Rattle.mp_seat.specs.Seats.{HasOthers, SeatState}
 use Rattle.mp_worker_refinement.specs.Ends.{Standing}
 use Rattle.mp_worker_refinement.specs.Served.{IsAtHub, IsAtPost, PostFollows}
 use Rattle.mp_worker_refinement.specs.State.{WorkerState}
-use Rattle.mp_worker.specs.declared.turn.Stop.{Stop}
-use Rattle.mp_worker.specs.declared.turn.Turn.{Turn}
+use Rattle.mp_worker.specs.Below.{Stop}
+use Rattle.mp_worker.specs.Below.{Turn}
 use Rattle.mp_worker.specs.Exchanging.{Exchanges}
 use Rattle.mp_worker.specs.Turns.{Answers}
 use Rattle.mp_threads_hub.specs.Hubs.{HasLooked, HasPosted, IsSeatOf, SeesCause, SeesNoStop, ShowsBoard, own_row}
@@ -50,3 +50,7 @@ MailFollows o old new = PostFollows (λ p. length p.senders) (λ _. 0) (λ p w. 
 abbrev pub ExchangesBySeat : Outline → MemberState → MemberState → Result Turn Stop → Type 0
 ExchangesBySeat o old new result =
     Exchanges (λ h w log k. HasPosted h log k) HasLooked (ShowsBoard o) SeesNoStop (λ h cause. SeesCause cause h) HasOthers old.worker new.worker old.hub new.hub result
+
+-- the worker has an empty log, and posted that, and made no exchange
+abbrev pub HasDoneNothing : MemberState → Type 0
+HasDoneNothing m = (m.worker.log ≡ empty_log) × (m.worker.posted ≡ empty_log) × (m.worker.seen.version ≡ 0)

@@ -11,9 +11,9 @@ use Rattle.mp_ruled.specs.Posts.{PostState, ReceiverWasEmpty, SenderWasFull}
 use Rattle.mp_seat.specs.Seats.{HasOthers}
 use Rattle.mp_worker_refinement.specs.Mail.{MailboxBlocks}
 use Rattle.mp_worker_refinement.specs.State.{CanMake, WorkerState}
-use Rattle.mp_worker.specs.declared.turn.Stop.{Stop}
-use Rattle.mp_worker.specs.declared.turn.Turn.{Turn}
-use Rattle.mp_worker.specs.declared.turn.Turn.TheVariants.{Did, Seen, NotNow, Busy}
+use Rattle.mp_worker.specs.Below.{Stop}
+use Rattle.mp_worker.specs.Below.{Turn}
+use Rattle.mp_worker.specs.Below.turn.{Did, Seen, NotNow, Busy}
 use Rattle.mp_threads_member.specs.Members.{IsAtEnds, MemberState}
 
 -- how far a worker has come: the names in its log, and the version of the board that it saw

@@ -5,7 +5,7 @@ ghost use Rattle.mp_model.specs.Answers.{one_thread_answer};
 ghost use Rattle.mp_model.specs.Tables.{table_of};
 ghost use Rattle.mp_outline.specs.JobOutline.{outline_of};
 ghost use Rattle.mp_board.specs.declared.causes.Cause.{Cause};
-ghost use Rattle.mp_worker.specs.declared.turn.Stop.TheVariants.{Other};
+ghost use Rattle.mp_worker.specs.Below.stop.{Other};
 ghost use Rattle.mp_threads_hub.specs.Hubs.{SeesCause};
 ghost use Rattle.mp_threads_member.specs.declared.drive.Round.TheVariants.{Idle, Made, Over};
 ghost use Rattle.mp_answer_laws.specs.Lines.{HasWritten};

@@ -3,7 +3,7 @@ ghost use Rattle.std.specs.Prelude.{◌≡◌, ◌≢◌, Ok};
 ghost use Rattle.mp_names.specs.declared.kinds.Kind.TheVariants.{Exchange, Write};
 ghost use Rattle.mp_machine.specs.Steps.{KindFits};
 ghost use Rattle.mp_outline.specs.JobOutline.{outline_of};
-ghost use Rattle.mp_worker.specs.declared.turn.Turn.TheVariants.{NotNow};
+ghost use Rattle.mp_worker.specs.Below.turn.{NotNow};
 ghost use Rattle.mp_worker.specs.Writing.{WritesInTurn};
 ghost use Rattle.mp_threads_member.specs.Members.{AnswersByMail, ExchangesBySeat, MailFollows};
 ghost use Rattle.mp_threads_member.specs.Driving.{Drives};

@@ -17,14 +17,14 @@ use Rattle.mp_worker_refinement.specs.Served.{IsAtHub, PostFollows}
 use Rattle.mp_worker_refinement.specs.State.{WorkerState}
 use Rattle.mp_worker_refinement.specs.Steps.{StepsAlone, StepsByMail}
 use Rattle.mp_worker_refinement.proofs.Alone.{alone_by_mail, post_kept, post_same}
-use Rattle.mp_worker_sends.specs.Below.{Writes}
-use Rattle.mp_worker.specs.declared.turn.Stop.{Stop}
-use Rattle.mp_worker.specs.declared.turn.Stop.TheVariants as stop
-use Rattle.mp_worker.specs.declared.turn.Turn.{Turn}
-use Rattle.mp_worker.specs.declared.turn.Turn.TheVariants as turn
+use Rattle.mp_worker_steps.specs.Writing.{Writes}
+use Rattle.mp_turns.specs.declared.turn.Stop.{Stop}
+use Rattle.mp_turns.specs.declared.turn.Stop.TheVariants as stop
+use Rattle.mp_turns.specs.declared.turn.Turn.{Turn}
+use Rattle.mp_turns.specs.declared.turn.Turn.TheVariants as turn
 use Rattle.mp_worker.specs.Exchanging.{Exchanges}
 use Rattle.mp_worker.specs.Stepping.{StepsAtHub, StepsAtPost, StepsAtSink}
-use Rattle.mp_worker.specs.Stops.{stop_of_write}
+use Rattle.mp_turns.specs.Stops.{stop_of_write}
 use Rattle.mp_worker.specs.Turns.{Answers}
 use Rattle.mp_worker.proofs.Lifted.{same_sink}
 use Rattle.mp_worker.proofs.Turned.{answers, answers_exchange, answers_no_memory, answers_refused, refused_in_turn, same_log_after, stays_at_hub, writes_in_turn}

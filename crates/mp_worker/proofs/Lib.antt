@@ -1,5 +1,4 @@
 pub mod Arms
-pub mod Ended
 pub mod LastStates
 pub mod Lifted
 pub mod New

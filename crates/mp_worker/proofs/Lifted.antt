@@ -18,13 +18,14 @@ use Rattle.mp_worker_refinement.specs.Served.{IsAtHub}
 use Rattle.mp_worker_refinement.specs.State.{CanMake, Makes, WorkerState, kept_with}
 use Rattle.mp_worker_refinement.specs.Steps.{Sees}
 use Rattle.mp_worker_refinement.proofs.Alone.{post_same}
-use Rattle.mp_worker_sends.specs.Below.{WritesNoMore}
-use Rattle.mp_worker.specs.declared.turn.Stop.{Stop}
-use Rattle.mp_worker.specs.declared.turn.Stop.TheVariants as stop
-use Rattle.mp_worker.specs.declared.turn.Turn.{Turn}
-use Rattle.mp_worker.specs.declared.turn.Turn.TheVariants as turn
+use Rattle.mp_worker_steps.specs.Writing.{WritesNoMore}
+use Rattle.mp_turns.specs.declared.turn.Stop.{Stop}
+use Rattle.mp_turns.specs.declared.turn.Stop.TheVariants as stop
+use Rattle.mp_turns.specs.declared.turn.Turn.{Turn}
+use Rattle.mp_turns.specs.declared.turn.Turn.TheVariants as turn
 use Rattle.mp_worker.specs.Exchanging.{Exchanges}
-use Rattle.mp_worker.specs.Keeping.{steps_after, with_steps}
+use Rattle.mp_turns.specs.Keeping.{steps_after}
+use Rattle.mp_worker.specs.Keeping.{with_steps}
 use Rattle.mp_worker.specs.Stepping.{StepsAtHub, StepsAtPost, StepsAtSink}
 use Rattle.mp_worker.specs.Turns.{Answers}
 use Rattle.mp_worker.specs.Writing.{WritesInTurn}

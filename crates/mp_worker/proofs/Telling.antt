@@ -24,10 +24,10 @@ use Rattle.mp_machine.proofs.Messages.{bundle_held}
 use Rattle.mp_audit_laws.specs.Journals.{is_exchange}
 use Rattle.mp_journal_laws.specs.Telling.{KeptTellLog, VersionsAscend, number, same_kind}
 use Rattle.mp_worker_refinement.specs.State.{WorkerState, as_machine, kept_with}
-use Rattle.mp_worker.specs.declared.turn.Stop.{Stop}
-use Rattle.mp_worker.specs.declared.turn.Stop.TheVariants as stop
-use Rattle.mp_worker.specs.declared.turn.Turn.{Turn}
-use Rattle.mp_worker.specs.declared.turn.Turn.TheVariants as turn
+use Rattle.mp_turns.specs.declared.turn.Stop.{Stop}
+use Rattle.mp_turns.specs.declared.turn.Stop.TheVariants as stop
+use Rattle.mp_turns.specs.declared.turn.Turn.{Turn}
+use Rattle.mp_turns.specs.declared.turn.Turn.TheVariants as turn
 use Rattle.mp_worker.specs.Keeping.{StepsTellLog}
 use Rattle.mp_worker.specs.Turns.{Answers}
 

@@ -19,13 +19,13 @@ use Rattle.mp_output.specs.declared.refused.OutRefused.TheVariants.{WriteFault, 
 use Rattle.mp_worker_refinement.specs.Served.{IsAtHub}
 use Rattle.mp_worker_refinement.specs.State.{CanMake, WorkerState}
 use Rattle.mp_worker_refinement.specs.Steps.{StepsByMail}
-use Rattle.mp_worker_sends.specs.Below.{Writes}
-use Rattle.mp_worker.specs.declared.turn.Stop.{Stop}
-use Rattle.mp_worker.specs.declared.turn.Stop.TheVariants as stop
-use Rattle.mp_worker.specs.declared.turn.Turn.{Turn}
-use Rattle.mp_worker.specs.declared.turn.Turn.TheVariants as turn
+use Rattle.mp_worker_steps.specs.Writing.{Writes}
+use Rattle.mp_turns.specs.declared.turn.Stop.{Stop}
+use Rattle.mp_turns.specs.declared.turn.Stop.TheVariants as stop
+use Rattle.mp_turns.specs.declared.turn.Turn.{Turn}
+use Rattle.mp_turns.specs.declared.turn.Turn.TheVariants as turn
 use Rattle.mp_worker.specs.Exchanging.{Exchanges}
-use Rattle.mp_worker.specs.Stops.{stop_of_write}
+use Rattle.mp_turns.specs.Stops.{stop_of_write}
 use Rattle.mp_worker.specs.Turns.{Answers}
 use Rattle.mp_worker.specs.Writing.{WritesInTurn}
 

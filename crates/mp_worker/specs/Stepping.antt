@@ -12,8 +12,8 @@ use Rattle.mp_board.specs.declared.causes.Cause.{Cause}
 use Rattle.mp_worker_refinement.specs.Ends.{Standing, Waiting}
 use Rattle.mp_worker_refinement.specs.Served.{IsAtHub, PostFollows}
 use Rattle.mp_worker_refinement.specs.State.{WorkerState}
-use Rattle.mp_worker.specs.declared.turn.Turn.{Turn}
-use Rattle.mp_worker.specs.declared.turn.Stop.{Stop}
+use Rattle.mp_turns.specs.declared.turn.Turn.{Turn}
+use Rattle.mp_turns.specs.declared.turn.Stop.{Stop}
 use Rattle.mp_worker.specs.Exchanging.{Exchanges}
 use Rattle.mp_worker.specs.Turns.{Answers}
 use Rattle.mp_worker.specs.Writing.{WritesInTurn}

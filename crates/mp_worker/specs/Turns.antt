@@ -6,10 +6,10 @@ use Rattle.mp_names.specs.declared.kinds.Kind.TheVariants as kind
 use Rattle.mp_names.specs.Outlines.{Outline}
 use Rattle.mp_worker_refinement.specs.State.{WorkerState}
 use Rattle.mp_worker_refinement.specs.Steps.{IsHinderedByMail, MakesByMail, Sees}
-use Rattle.mp_worker.specs.declared.turn.Turn.{Turn}
-use Rattle.mp_worker.specs.declared.turn.Turn.TheVariants.{Did, Seen, NotNow, Busy}
-use Rattle.mp_worker.specs.declared.turn.Stop.{Stop}
-use Rattle.mp_worker.specs.declared.turn.Stop.TheVariants.{Write, Memory, Other}
+use Rattle.mp_turns.specs.declared.turn.Turn.{Turn}
+use Rattle.mp_turns.specs.declared.turn.Turn.TheVariants.{Did, Seen, NotNow, Busy}
+use Rattle.mp_turns.specs.declared.turn.Stop.{Stop}
+use Rattle.mp_turns.specs.declared.turn.Stop.TheVariants.{Write, Memory, Other}
 
 module _ (had_room was_full was_empty : ℕ → ℕ → Type 0) (o : Outline) (made : Kind) (old new : WorkerState) where
   -- the step was made, or an exchange saw a new version, or the step can't be made; where a hub was held, or the worker has to stop, it is as it was

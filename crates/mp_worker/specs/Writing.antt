@@ -4,11 +4,11 @@ use Rattle.std.specs.declared.result.Result.{Result}
 use Rattle.mp_outside.specs.Fault.{Rose}
 use Rattle.mp_model.specs.Facts.{JobFacts, QueryFacts}
 use Rattle.mp_worker_refinement.specs.State.{WorkerState}
-pub use Rattle.mp_worker_sends.specs.Below.{WritesNoMore, WritesPart, WritesTime}
-use Rattle.mp_worker.specs.declared.turn.Turn.{Turn}
-use Rattle.mp_worker.specs.declared.turn.Turn.TheVariants as turn
-use Rattle.mp_worker.specs.declared.turn.Stop.{Stop}
-use Rattle.mp_worker.specs.declared.turn.Stop.TheVariants as stop
+pub use Rattle.mp_worker_steps.specs.Writing.{WritesNoMore, WritesPart, WritesTime}
+use Rattle.mp_turns.specs.declared.turn.Turn.{Turn}
+use Rattle.mp_turns.specs.declared.turn.Turn.TheVariants as turn
+use Rattle.mp_turns.specs.declared.turn.Stop.{Stop}
+use Rattle.mp_turns.specs.declared.turn.Stop.TheVariants as stop
 
 module _ {Cell S : Type 0} (q : QueryFacts Cell) (job : JobFacts) (written : S → Option (List ℕ)) (faults : S → ℕ) (s : WorkerState) (old new : S) where
   -- what a write came to, by the answer of a step: all lines of a time, or nothing; or no more than a part, where a write failed or there was no memory. Only one that failed counts a fault

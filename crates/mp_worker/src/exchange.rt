@@ -1,7 +1,7 @@
 //! How a worker posts its log.
 ghost use Rattle.std.specs.Prelude.{◌≢◌, ℕ, Err};
 ghost use Rattle.mp_worker_refinement.specs.Served.{IsAtHub};
-ghost use Rattle.mp_worker.specs.declared.turn.Stop.TheVariants.{Memory};
+ghost use Rattle.mp_turns.specs.declared.turn.Stop.TheVariants.{Memory};
 ghost use Rattle.mp_worker.specs.Exchanging.{Exchanges};
 
 use crate::{Stop, Turn};

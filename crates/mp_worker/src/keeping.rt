@@ -1,19 +1,17 @@
 //! How a worker keeps its steps, and what they tell.
 ghost use Rattle.std.specs.Prelude.{◌≡◌, List, Some, [], is_some};
-ghost use Rattle.std.specs.Option.{option_map, unwrap_or};
+ghost use Rattle.std.specs.Option.{unwrap_or};
 ghost use Rattle.mp_names.specs.declared.kinds.Kept.{Kept};
 ghost use Rattle.mp_names.specs.Logs.{empty_log};
 ghost use Rattle.mp_outline.specs.JobOutline.{outline_of};
 ghost use Rattle.mp_journal_laws.specs.Telling.{KeptTellFullLog, KeptTellLog};
 ghost use Rattle.mp_worker_refinement.specs.SystemState.{KnowsTheEnd};
-ghost use Rattle.mp_worker.specs.Keeping.{no_steps};
 ghost use Rattle.mp_model.specs.Tables.{table_of};
 
 use crate::Worker;
 use mp_journal_laws::full_logs_are_told;
 use mp_model::{Naming, Query};
 use mp_names::Kept;
-use std::alloc::Global;
 
 impl<'a, Q: Query, J: Naming> Worker<'a, Q, J> {
     /// From now on the worker keeps each step that it makes. It has made none. It takes no memory; each step then takes some.
@@ -52,11 +50,4 @@ impl<'a, Q: Query, J: Naming> Worker<'a, Q, J> {
         self.parts.log_is_known();
         full_logs_are_told();
     }
-}
-
-// What a worker that has made no step keeps.
-pub(crate) fn kept_at_first(alloc: Global, keeps: bool) -> Option<Vec<Kept>>
-    ensures { option_map (λ kept. kept.items) result ≡ no_steps keeps }
-{
-    if keeps { Some(Vec::new(alloc)) } else { None }
 }

@@ -14,13 +14,12 @@ mod plan;
 mod start;
 mod step;
 mod tally;
-mod turn;
 mod worker;
 mod workers;
 
 pub use kinds::{count_of_kinds, kind_at};
 pub use last::last_states;
+pub use mp_turns::{Stop, Turn};
 pub use plan::RunPlan;
-pub use turn::{Stop, Turn};
 pub use worker::Worker;
 pub use workers::new_workers;

@@ -6,13 +6,13 @@ ghost use Rattle.mp_board.specs.Boards.{ShowsFrontiers};
 ghost use Rattle.mp_outline.specs.JobOutline.{outline_of};
 ghost use Rattle.mp_output.specs.Rows.{GivesRows};
 ghost use Rattle.mp_model.specs.Tables.{table_of};
-ghost use Rattle.mp_worker.specs.Keeping.{no_steps};
+ghost use Rattle.mp_turns.specs.Keeping.{no_steps};
 
 use crate::Worker;
-use crate::keeping::kept_at_first;
 use mp_job::Job;
 use mp_model::{Naming, Query};
 use mp_stamps::Seen;
+use mp_turns::kept_at_first;
 use mp_worker_sends::Parts;
 use std::alloc::{AllocError, Global};
 

@@ -1,6 +1,5 @@
 //! One step of a worker.
-ghost use Rattle.std.specs.Prelude.{◌≡◌, ◌≢◌, ◌↔◌, ◌<◌, ℕ, Err, IfNone, IfSome, IsSome, IsTrue, Ok, Some, option_map, vec_len};
-ghost use Rattle.std.specs.Vec.{vec_capacity};
+ghost use Rattle.std.specs.Prelude.{◌≡◌, ◌≢◌, ◌↔◌, ℕ, Err, IsSome, IsTrue, Ok, Some, option_map};
 ghost use Rattle.mp_names.specs.declared.kinds.Kind.TheVariants.{Exchange, Write};
 ghost use Rattle.mp_names.specs.Outlines.{Outline};
 ghost use Rattle.mp_machine.specs.Steps.{KindFits};
@@ -8,10 +7,11 @@ ghost use Rattle.mp_outside.specs.Sink.{OnlyAppends};
 ghost use Rattle.mp_outline.specs.JobOutline.{outline_of};
 ghost use Rattle.mp_worker_refinement.specs.Served.{IsAtHub, IsAtPost, PostFollows};
 ghost use Rattle.mp_worker_refinement.specs.Steps.{StepsByMail};
-ghost use Rattle.mp_worker.specs.declared.turn.Stop.TheVariants.{Memory};
-ghost use Rattle.mp_worker.specs.declared.turn.Turn.TheVariants as turn;
+ghost use Rattle.mp_turns.specs.declared.turn.Stop.TheVariants.{Memory};
+ghost use Rattle.mp_turns.specs.declared.turn.Turn.TheVariants as turn;
 ghost use Rattle.mp_worker.specs.Exchanging.{Exchanges};
-ghost use Rattle.mp_worker.specs.Keeping.{StepsTellLog, steps_after, with_steps};
+ghost use Rattle.mp_turns.specs.Keeping.{steps_after};
+ghost use Rattle.mp_worker.specs.Keeping.{StepsTellLog, with_steps};
 ghost use Rattle.mp_worker.specs.Stepping.{StepsAtHub, StepsAtPost, StepsAtSink};
 ghost use Rattle.mp_worker.specs.Turns.{Answers};
 ghost use Rattle.mp_worker.specs.Writing.{WritesInTurn};
@@ -25,7 +25,11 @@ use mp_model::{Naming, Query};
 use mp_msg::{Msg, Names};
 use mp_names::{Kept, Kind, Shape};
 use mp_outside::Sink;
+use mp_turns::{keep, turn_of};
+use mp_worker_apply::apply;
 use mp_worker_sends::{Parts, extract, route, send_control, send_row};
+use mp_worker_steps::{ingest, settle, write};
+use mp_worker_take::receive;
 use std::alloc::AllocError;
 
 impl<'a, Q: Query, J: Naming> Worker<'a, Q, J> {
@@ -143,18 +147,6 @@ fn step_and_keep<Q: Query, J: Naming, P: Post<Msg<Q, J>>, H: Hub<OutlineOf<Q, J>
     answer
 }
 
-// A step of this kind that was made is kept, of an exchange with the version that it saw; where it wasn't made nothing is.
-fn keep(kept: &mut Vec<Kept>, kind: Kind, answer: &Result<Turn, Stop>)
-    requires room { vec_len kept.old < vec_capacity kept.old }
-    ensures { Some kept.new.items ≡ steps_after (Some kept.old.items) kind answer.now }
-{
-    match *answer {
-        Ok(Turn::Did(_, _)) => kept.push_reserved(Kept { kind, version: 0 }),
-        Ok(Turn::Seen(version)) => kept.push_reserved(Kept { kind, version }),
-        _ => {}
-    }
-}
-
 // A step of a kind that the job has, of which nothing is kept. An exchange takes no memory.
 #[inline(always)]
 fn step_alone<Q: Query, J: Naming, P: Post<Msg<Q, J>>, H: Hub<OutlineOf<Q, J>>, S: Sink>(
@@ -176,7 +168,7 @@ fn step_alone<Q: Query, J: Naming, P: Post<Msg<Q, J>>, H: Hub<OutlineOf<Q, J>>, 
 {
     match kind {
         Kind::Exchange => exchange(parts, hub),
-        Kind::Write => Ok(turn_of(parts.write(sink)?)),
+        Kind::Write => Ok(turn_of(write(parts, sink)?)),
         _ => Ok(turn_of(step_by_mail(parts, kind, post)?)),
     }
 }
@@ -198,13 +190,13 @@ fn step_by_mail<Q: Query, J: Naming, P: Post<Msg<Q, J>>>(
         PostFollows P.workers P.depth P.serves P.denotes P.waits o parts.old.worker.number parts.old.worker.log parts.new.worker.log post.old post.new }
 {
     match kind {
-        Kind::Ingest => parts.ingest(),
+        Kind::Ingest => ingest(parts),
         Kind::SendControl => send_control(parts, post),
         Kind::Route(stage) => route(parts, stage, post),
-        Kind::Receive(from) => parts.receive(from, post),
+        Kind::Receive(from) => receive(parts, from, post),
         Kind::Extract(stage) => extract(parts, stage, post),
-        Kind::Settle(stage) => parts.settle(stage),
-        Kind::Apply(stage) => parts.apply(stage),
+        Kind::Settle(stage) => settle(parts, stage),
+        Kind::Apply(stage) => apply(parts, stage),
         Kind::SendRow => send_row(parts, post),
         Kind::Write | Kind::Exchange => unreachable!(),
     }
@@ -221,17 +213,5 @@ fn fits(kind: Kind, shape: Shape) -> bool
         }
         Kind::Receive(from) => from < shape.workers,
         _ => true,
-    }
-}
-
-// The answer of a step that put these names into the log, or none.
-#[inline(always)]
-fn turn_of(made: Option<Names>) -> Turn
-    ensures did { IfSome made (λ told. result ≡ turn.Did told.first told.count) }
-    ensures not_now { IfNone made (result ≡ turn.NotNow) }
-{
-    match made {
-        Some(Names { first, count }) => Turn::Did(first, count),
-        None => Turn::NotNow,
     }
 }

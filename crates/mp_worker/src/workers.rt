@@ -6,7 +6,7 @@ ghost use Rattle.mp_model.specs.Tables.{table_of};
 ghost use Rattle.mp_outline.specs.JobOutline.{outline_of};
 ghost use Rattle.mp_worker_refinement.specs.Laws.{IsNewWorker};
 ghost use Rattle.mp_worker_refinement.specs.State.{WorkerState};
-ghost use Rattle.mp_worker.specs.Keeping.{no_steps};
+ghost use Rattle.mp_turns.specs.Keeping.{no_steps};
 ghost use Rattle.mp_worker.specs.Plans.{MayRun};
 
 use crate::{RunPlan, Worker};

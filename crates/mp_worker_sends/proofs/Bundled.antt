@@ -23,12 +23,12 @@ use Rattle.mp_route.specs.Routed.{Routed}
 use Rattle.mp_route.specs.Sending.{IsBundleOf}
 use Rattle.mp_route.specs.Unsent.{HoldsUnsent, MayGo}
 use Rattle.mp_worker_refinement.specs.Sending.{MaySend, with_all_sent}
-use Rattle.mp_worker_steps.specs.Below.{machine_worker}
-use Rattle.mp_worker_steps.specs.Below.{IsRouterAt, Parts}
-use Rattle.mp_worker_steps.specs.Below.{route_legal}
-use Rattle.mp_worker_steps.specs.Below.{first_is, goes, owner_is}
-use Rattle.mp_worker_steps.specs.Below.{router_at}
-use Rattle.mp_worker_steps.specs.Kept.{IsKept}
+use Rattle.mp_worker_parts.specs.Below.{machine_worker}
+use Rattle.mp_worker_parts.specs.Below.{IsRouterAt, Parts}
+use Rattle.mp_worker_parts.specs.Below.{route_legal}
+use Rattle.mp_worker_parts.specs.Below.{first_is, goes, owner_is}
+use Rattle.mp_worker_parts.specs.Below.{router_at}
+use Rattle.mp_worker_parts.specs.Kept.{IsKept}
 
 -- What is known of records that the router of a stage gave up: they are of its stage, and go with the first of them, which may go
 pub record IsGivenUp {Cell : Type 0} (q : QueryFacts Cell) (job : JobFacts) (p : Parts Cell) (j : ℕ) (old : Routed) (b : Bundled) : Type 0 where

@@ -20,7 +20,7 @@ use Rattle.mp_model.specs.Facts.{JobFacts, QueryFacts}
 use Rattle.mp_outline.specs.JobOutline.{outline_of}
 use Rattle.mp_rows_laws.specs.Changes.{packet_sent_at}
 use Rattle.mp_msg.specs.States.{IsStateBefore}
-use Rattle.mp_worker_steps.specs.Below.{GivesUp, NothingLeaves}
+use Rattle.mp_worker_parts.specs.Below.{GivesUp, NothingLeaves}
 use Rattle.mp_host_laws.specs.declared.held.Held.{Held}
 use Rattle.mp_host_laws.specs.Hosted.{Hosted, StandsInOrder}
 use Rattle.mp_host_laws.specs.HostOf.{IsHostOf}
@@ -29,15 +29,15 @@ use Rattle.mp_host_laws.specs.Moving.{AreNumbersOf, IsPutIn, IsTakenOut, not_wai
 use Rattle.mp_handoff.specs.Due.{MoversMatchLogAndSeen, IsDueHere, IsLeastDue, IsMoveAway, MayLeaveHere}
 use Rattle.mp_handoff.specs.MoversState.{MoversState}
 use Rattle.mp_handoff.specs.MoversOf.{IsMoversOf}
-use Rattle.mp_worker_steps.specs.Below.{CanDo}
-use Rattle.mp_worker_steps.specs.Below.{machine_worker}
-use Rattle.mp_worker_steps.specs.Below.{AreMoversAt, ArePartsOf, IsHostAt, Parts}
-use Rattle.mp_worker_steps.specs.Below.{packet_legal}
-use Rattle.mp_worker_steps.specs.Below.{put_at}
-use Rattle.mp_worker_steps.specs.Below.{other_hosts, other_movers}
+use Rattle.mp_worker_parts.specs.Below.{CanDo}
+use Rattle.mp_worker_parts.specs.Below.{machine_worker}
+use Rattle.mp_worker_parts.specs.Below.{AreMoversAt, ArePartsOf, IsHostAt, Parts}
+use Rattle.mp_worker_parts.specs.Below.{packet_legal}
+use Rattle.mp_worker_parts.specs.Below.{put_at}
+use Rattle.mp_worker_parts.specs.Below.{other_hosts, other_movers}
 use Rattle.mp_worker_sends.specs.Leaving.{AreChangesOfLeaving, IsDueNow, IsLeaving}
 use Rattle.mp_worker_sends.proofs.LeavingPackets.{host_without, packet_changes, packet_content, taken_of_bin}
-use Rattle.mp_worker_steps.specs.Below.{asked, movers_informed, steps, told}
+use Rattle.mp_worker_parts.specs.Below.{asked, movers_informed, steps, told}
 
 module _ {Cell : Type 0} {q : QueryFacts Cell} {job : JobFacts} {p : Parts Cell} (sound : OutlineIsSound (outline_of q job)) (are : ArePartsOf q job p) (j : ℕ) (below : j < job.shape.stages)
     (m : MoversState) (at : AreMoversAt q job p.number p.log j m) where

@@ -21,7 +21,7 @@ use Rattle.mp_host_laws.specs.Laws.{MayLeaveNow}
 use Rattle.mp_host_laws.specs.Moving.{AreNumbersOf, IsTakenOut, not_waiting}
 use Rattle.mp_host_laws.proofs.MovingTold.{leaving_are_told}
 use Rattle.mp_host_laws.proofs.Wakes.{wakes_once}
-use Rattle.mp_worker_steps.specs.Below.{IsHostAt}
+use Rattle.mp_worker_parts.specs.Below.{IsHostAt}
 
 -- what was taken out is of the bin
 pub taken_of_bin : {Cell : Type 0} (b t : ℕ) (one : Held Cell) (old new : Hosted Cell) → IsTakenOut b t one old new → one.bin ≡ b

@@ -1,4 +1,5 @@
 pub mod Bundled
+mod SentControls
 mod Extracting
 pub mod Kept
 mod LeavingPackets

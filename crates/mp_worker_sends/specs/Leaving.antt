@@ -19,7 +19,7 @@ use Rattle.mp_host_laws.specs.declared.held.Held.{Held}
 use Rattle.mp_host_laws.specs.Hosted.{Hosted}
 use Rattle.mp_host_laws.specs.Moving.{IsTakenOut}
 use Rattle.mp_handoff.specs.Due.{IsDueHere}
-use Rattle.mp_worker_steps.specs.Below.{IsHostAt, Parts}
+use Rattle.mp_worker_parts.specs.Below.{IsHostAt, Parts}
 
 -- The packet of this move is the least of the stage that is due, all groups before it are applied, and it goes to its bin's new owner
 pub record IsDueNow (o : Outline) (w : ℕ) (log : Log) (seen : Seen) (j : ℕ) (mv : Move) : Type 0 where

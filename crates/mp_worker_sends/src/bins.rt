@@ -20,7 +20,7 @@ use mp_model::{Naming, Query};
 use mp_msg::{Body, BoxedState, Msg, Names};
 use mp_names::{Move, Name};
 use mp_rows::{Change, NewNames};
-use mp_worker_steps::Parts;
+use mp_worker_parts::Parts;
 use std::alloc::AllocError;
 
 /// The state of the bin that is due to leave a stage goes to its new owner as one packet, once all groups before the

@@ -11,7 +11,7 @@ use mp_model::{Naming, Query};
 use mp_msg::{Msg, Names};
 use mp_names::{Loc, Name};
 use mp_rows::NewNames;
-use mp_worker_steps::{Parts, one_less, one_more};
+use mp_worker_parts::{Parts, one_less, one_more};
 use std::alloc::AllocError;
 
 /// Worker 0 sends the next control record to its next receiver, itself among them: its name, or `None` exactly where all

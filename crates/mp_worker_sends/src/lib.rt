@@ -12,6 +12,6 @@ mod rows;
 
 pub use bins::extract;
 pub use controls::send_control;
-pub use mp_worker_steps::{Exchanged, Parts, Tally};
+pub use mp_worker_parts::{Exchanged, Parts, Tally};
 pub use records::route;
 pub use rows::send_row;

@@ -14,7 +14,7 @@ use mp_msg::{Body, Msg, Names};
 use mp_names::Loc;
 use mp_names::limits::MAX_BUNDLE;
 use mp_rows::NewNames;
-use mp_worker_steps::{Parts, many_less, many_more};
+use mp_worker_parts::{Parts, many_less, many_more};
 use std::alloc::AllocError;
 
 /// The least record that a stage's router holds goes to the owner of its bin, once the owner is known, and with it those of

@@ -11,7 +11,7 @@ use mp_model::{Naming, Output, Query, Value};
 use mp_msg::{Body, Msg, Names};
 use mp_names::{Loc, Name};
 use mp_rows::NewNames;
-use mp_worker_steps::{Parts, one_less, one_more};
+use mp_worker_parts::{Parts, one_less, one_more};
 use std::alloc::AllocError;
 
 /// The least answer row that the worker has to send goes to worker 0: its name, or `None` exactly where there is none

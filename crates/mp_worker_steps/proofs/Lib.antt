@@ -1,15 +1,3 @@
-pub mod Applied
-pub mod Begun
-pub mod Coming
-pub mod Controls
-pub mod Counted
 pub mod Ingested
-pub mod Keeping
-pub mod OneByOne
-pub mod Received
-pub mod Rooms
-pub mod Settling
-pub mod Stepping
-pub mod Tallied
+pub mod Settled
 pub mod Written
-pub mod LastStates

@@ -3,7 +3,7 @@ use Rattle.std.proofs.Common.{arith, refl}
 use Rattle.std.proofs.lemmas.Result.{err_from_is_err_and}
 use Rattle.mp_words.specs.Values.{audit_in}
 use Rattle.mp_words.specs.Words.{Asked, Audit}
-use Rattle.mp_command.specs.Outcome.{NoRun}
+use Rattle.mp_command_files.specs.Outcome.{NoRun}
 use Rattle.mp_command.specs.Writing.{NoneKept}
 use Rattle.mp_command.proofs.Came.{came_answered, came_refused, came_refuted, refused_leaves}
 use Rattle.mp_command.proofs.Leaving.{leaves_alone, leaves_whole}

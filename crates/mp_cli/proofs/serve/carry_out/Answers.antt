@@ -1,8 +1,8 @@
 -- Each command ends as its function says; those that make no run leave the same, whatever a run keeps.
-use Rattle.mp_command.specs.Refused.{outcome_in}
+use Rattle.mp_command_files.specs.Refused.{outcome_in}
 use Rattle.mp_command.proofs.Came.{came_demo, demo_leaves}
 use Rattle.mp_command.proofs.Leaving.{leaves_without_run}
-use Rattle.mp_cli.specs.Keeping.{IsKeptBy}
+use Rattle.mp_run_command.specs.Keeping.{IsKeptBy}
 use Rattle.mp_cli.proofs.serve.carry_out.Goals as goal
 
 pub returns-in-Check-clause-left : goal.returns-in-Check-clause-left

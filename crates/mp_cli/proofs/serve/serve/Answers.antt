@@ -1,11 +1,11 @@
 -- Words that are a command end as it does, and others as usage.
 use Rattle.std.proofs.Common.{arith, refl}
 use Rattle.mp_words.specs.Words.{asked_in}
-use Rattle.mp_command.specs.Outcome.{NoMemory, Usage}
-use Rattle.mp_command.specs.Refused.{outcome_in}
+use Rattle.mp_command_files.specs.Outcome.{NoMemory, Usage}
+use Rattle.mp_command_files.specs.Refused.{outcome_in}
 use Rattle.mp_command.proofs.Came.{came_short, came_usage}
 use Rattle.mp_command.proofs.Leaving.{command_is_apart, ends_alone, ends_so}
-use Rattle.mp_cli.specs.Keeping.{IsKeptBy}
+use Rattle.mp_run_command.specs.Keeping.{IsKeptBy}
 use Rattle.mp_cli.proofs.serve.serve.Goals as goal
 
 pub returns-in-Ok-clause-came : goal.returns-in-Ok-clause-came

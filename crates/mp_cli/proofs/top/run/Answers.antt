@@ -1,8 +1,8 @@
 -- Each clause by the outcome that the call came to, and by how much of its line was said.
-use Rattle.mp_command.specs.Refused.{outcome_in}
+use Rattle.mp_command_files.specs.Refused.{outcome_in}
 use Rattle.mp_command.proofs.Codes.{bad_checkpoint_at, complete_at, no_run_at, outcome_at, part_at, printed_at, said_fault_at, said_whole, status_at, told_code, untouched_at, usage_at, write_fault_at}
 use Rattle.std.proofs.Common.{arith}
-use Rattle.mp_cli.specs.Keeping.{IsKeptBy}
+use Rattle.mp_run_command.specs.Keeping.{IsKeptBy}
 use Rattle.mp_cli.proofs.top.run.Goals as goal
 
 pub returns-clause-usage : goal.returns-clause-usage

@@ -3,7 +3,7 @@ use Rattle.std.proofs.Common.{ap, inl, inr, map, refl, rules}
 use Rattle.std.proofs.lemmas.Result.{err_from_is_err_and}
 use Rattle.mp_outside.proofs.FileLemmas.{there_begun}
 use Rattle.mp_report.specs.Journal.{journal_text}
-use Rattle.mp_command.proofs.Written.{none_written, written_from_begun}
+use Rattle.mp_command_files.proofs.Written.{none_written, written_from_begun}
 use Rattle.mp_command.proofs.reporting.journal_at.Goals as goal
 
 pub new-sink-requires : goal.new-sink-requires

@@ -2,7 +2,7 @@
 use Rattle.std.proofs.Common.{ap, inl, inr, rules}
 use Rattle.std.proofs.lemmas.Result.{err_from_is_err_and}
 use Rattle.mp_outside.proofs.FileLemmas.{there_begun}
-use Rattle.mp_command.proofs.Written.{written_from_begun}
+use Rattle.mp_command_files.proofs.Written.{written_from_begun}
 use Rattle.mp_command.proofs.reporting.report_at.Goals as goal
 
 pub new-sink-requires : goal.new-sink-requires

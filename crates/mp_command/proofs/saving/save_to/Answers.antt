@@ -5,7 +5,7 @@ use Rattle.std.proofs.Math.Seq.{take-append_seam}
 use Rattle.mp_checkpoint_laws.specs.Files.{file_text, lines_of}
 use Rattle.mp_outside.proofs.FileLemmas.{there_begun}
 use Rattle.mp_command.specs.Spans.{format_by}
-use Rattle.mp_command.proofs.Written.{written_from_begun}
+use Rattle.mp_command_files.proofs.Written.{written_from_begun}
 use Rattle.mp_command.proofs.saving.save_to.Goals as goal
 
 pub new-sink-requires : goal.new-sink-requires

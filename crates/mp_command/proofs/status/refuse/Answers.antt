@@ -2,8 +2,8 @@
 use Rattle.std.proofs.Common.{length, inl, sym, ap, ◌∙◌, List, ℕ, arith}
 use Rattle.std.proofs.Math.Seq.{take-length}
 use Rattle.mp_outside.specs.Sink.{grown}
-use Rattle.mp_command.specs.Outcome.{line_said}
-use Rattle.mp_command.specs.Refused.{outcome_of}
+use Rattle.mp_command_files.specs.Outcome.{line_said}
+use Rattle.mp_command_files.specs.Refused.{outcome_of}
 use Rattle.mp_command.proofs.status.refuse.Goals as goal
 
 pub returns-in-Ok : goal.returns-in-Ok

@@ -3,8 +3,7 @@ use Rattle.std.proofs.Common.{refl}
 use Rattle.std.proofs.lemmas.Result.{err_from_is_err_and}
 use Rattle.mp_outline.specs.JobOutline.{outline_of}
 use Rattle.mp_answer_laws.proofs.Runs.{nothing_begun}
-use Rattle.mp_drive.proofs.Ended.{seed_leaves}
-use Rattle.mp_drive.proofs.Followed.{ends_after}
+use Rattle.mp_drive.proofs.Whole.{ends_after, seed_leaves}
 use Rattle.mp_drive.proofs.run.replay.Goals as goal
 use Rattle.mp_model.specs.Tables.{table_of}
 
@@ -25,4 +24,4 @@ pub returns-clause-made : goal.returns-clause-made
 returns-clause-made g c =
     let o = outline_of (table_of g.Q.Query.facts g.J.Naming.job) g.J.Naming.job in
     let opened = c.in_ok-plain.ensures.opened in
-    ends_after o c.args.plan.depth c.args.seed c.in_ok-plain.plain c.drive_seed.new.self c.drive_seed.result opened.start opened.mailboxes c.drive_seed.ensures.ends
+    ends_after o c.args.plan.depth c.args.seed c.in_ok-plain.plain c.drive_seed.new.plain c.drive_seed.result opened.start opened.mailboxes c.drive_seed.ensures.ends

@@ -5,10 +5,8 @@ use Rattle.std.proofs.lemmas.Result.{err_from_is_err_and}
 use Rattle.mp_model.specs.Tables.{table_of}
 use Rattle.mp_outline.specs.JobOutline.{outline_of}
 use Rattle.mp_answer_laws.proofs.Runs.{handed_on, nothing_begun, told, untold}
-use Rattle.mp_drive.proofs.Counted.{tallies_of_job}
-use Rattle.mp_drive.proofs.Ended.{seed_leaves}
-use Rattle.mp_drive.specs.Schedule.{IsKeptBySchedule}
-use Rattle.mp_drive.proofs.Followed.{ends_after, kept_by_plan}
+use Rattle.mp_drive.proofs.Whole.{ends_after, kept_by_plan, seed_leaves, tallies_of_job}
+use Rattle.mp_schedule.specs.Schedule.{IsKeptBySchedule}
 use Rattle.mp_drive.proofs.run.replay_with_tallies.Goals as goal
 use Rattle.mp_drive.proofs.run.replay_with_tallies.Goals.{then-plan+in_ok-kept, else-plan}
 
@@ -68,7 +66,7 @@ pub returns-clause-made : goal.returns-clause-made
 returns-clause-made g c =
     let o = outline_of (table_of g.Q.Query.facts g.J.Naming.job) g.J.Naming.job in
     let opened = c.in_ok-plain.ensures.opened in
-    ends_after o c.args.plan.depth c.args.seed c.in_ok-plain.plain c.drive_seed.new.self (Ok c.in_ok-steps.steps) opened.start opened.mailboxes c.in_ok-steps.ensures.ends
+    ends_after o c.args.plan.depth c.args.seed c.in_ok-plain.plain c.drive_seed.new.plain (Ok c.in_ok-steps.steps) opened.start opened.mailboxes c.in_ok-steps.ensures.ends
 
 pub returns-clause-kept : goal.returns-clause-kept
 returns-clause-kept g c = λ keep.
@@ -77,7 +75,7 @@ returns-clause-kept g c = λ keep.
     let ended = c.in_ok-steps.ensures.ends in
     elim c.if-plan.branch as (λ b. IsKeptBySchedule o c.args.plan.depth c.args.seed (map (λ kept. kept.items) c.if-plan.kept.items)) [
       | then-plan+in_ok-kept w ↦
-          kept_by_plan o c.args.plan.depth c.args.seed c.in_ok-steps.steps c.in_ok-plain.plain.state c.drive_seed.new.self.state c.args.plan.keeps (map (λ kept. kept.items) c.if-plan.kept.items) keep begun.keeps_so begun.start begun.mailboxes ended.follows ended.finished
+          kept_by_plan o c.args.plan.depth c.args.seed c.in_ok-steps.steps c.in_ok-plain.plain.state c.drive_seed.new.plain.state c.args.plan.keeps (map (λ kept. kept.items) c.if-plan.kept.items) keep begun.keeps_so begun.start begun.mailboxes ended.follows ended.finished
           (ap (λ lists. map (λ kept. kept.items) lists.items) w.kept-is ∙ w.in_ok-kept.ensures)
       | else-plan w ↦ absurd (false≢true (sym w.if-plan.false ∙ keep))
     ]

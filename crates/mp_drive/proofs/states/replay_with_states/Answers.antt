@@ -5,9 +5,7 @@ use Rattle.mp_model.specs.Tables.{table_of}
 use Rattle.mp_worker.proofs.LastStates.{states_of_job}
 use Rattle.mp_outline.specs.JobOutline.{outline_of}
 use Rattle.mp_answer_laws.proofs.Runs.{handed_on, nothing_begun, told, untold}
-use Rattle.mp_drive.proofs.Counted.{tallies_of_job}
-use Rattle.mp_drive.proofs.Ended.{seed_leaves}
-use Rattle.mp_drive.proofs.Followed.{ends_after}
+use Rattle.mp_drive.proofs.Whole.{ends_after, seed_leaves, tallies_of_job}
 use Rattle.mp_drive.proofs.states.replay_with_states.Goals as goal
 
 pub returns-in_err-plain-clause-leaves : goal.returns-in_err-plain-clause-leaves
@@ -66,7 +64,7 @@ pub returns-clause-made : goal.returns-clause-made
 returns-clause-made g c =
     let o = outline_of (table_of g.Q.Query.facts g.J.Naming.job) g.J.Naming.job in
     let opened = c.in_ok-plain.ensures.opened in
-    ends_after o c.args.plan.depth c.args.seed c.in_ok-plain.plain c.drive_seed.new.self (Ok c.in_ok-steps.steps) opened.start opened.mailboxes c.in_ok-steps.ensures.ends
+    ends_after o c.args.plan.depth c.args.seed c.in_ok-plain.plain c.drive_seed.new.plain (Ok c.in_ok-steps.steps) opened.start opened.mailboxes c.in_ok-steps.ensures.ends
 
 pub returns-clause-states : goal.returns-clause-states
 returns-clause-states g c = states_of_job g.Q.Query.facts c.args.job.now g.J.Naming.job c.requires.run.run (map (λ own. own.items) c.in_ok-states.states.items) c.in_ok-states.ensures

@@ -3,9 +3,9 @@ use Rattle.std.proofs.Math.Seq.{map-set_same}
 use Rattle.std.proofs.lemmas.List.Elements.{All-get_or}
 use Rattle.mp_postdated.specs.Wakes.{Has}
 use Rattle.mp_host_laws.specs.Hosted.{wakes_in}
-use Rattle.mp_host_states.specs.Spans.{AreSpans}
+use Rattle.mp_host_places.specs.Spans.{AreSpans}
 use Rattle.mp_host_states.specs.States.{States}
-use Rattle.mp_host_states.proofs.FirstWakes.{firsts_changed}
+use Rattle.mp_host_places.proofs.FirstWakes.{firsts_changed}
 use Rattle.mp_host_states.proofs.Found.{as_it_was, cell_found, first_stepped, inside_at, inside_changed}
 use Rattle.mp_host_states.proofs.Places.{place_is}
 use Rattle.mp_host_states.proofs.in_hand.step_group.Goals as goal

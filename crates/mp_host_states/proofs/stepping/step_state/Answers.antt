@@ -1,5 +1,5 @@
 use Rattle.mp_host_states.proofs.Finding.{cell_is}
-use Rattle.mp_host_states.proofs.Stepped.{step_cells, step_fits, step_keeps, wakes_applied, wakes_stay}
+use Rattle.mp_host_states.proofs.Stepped.{step_cells, step_fits, step_keeps}
 use Rattle.mp_msg.proofs.Sorted.{by_key-ascends}
 use Rattle.mp_host_states.proofs.stepping.step_state.Goals as goal
 
@@ -8,17 +8,14 @@ step_in-requires-clause-fits g c = λ κs b.
     let q = g.Q.Query.facts (g.Q.Query.values c.args.query.now) in
     step_fits q c.args.stage c.state.inside.cells c.args.group.now (rw (← c.state.view_is) at c.requires.fits)
 
-pub take_wake-requires : goal.take_wake-requires
-take_wake-requires g c = rw c.make_room_for.ensures.same (rw (← c.state.view_is) at c.requires.woken)
+pub step_wakes-requires-clause-woken : goal.step_wakes-requires-clause-woken
+step_wakes-requires-clause-woken g c = rw c.make_room_for.ensures.same (rw (← c.state.view_is) at c.requires.woken)
 
 pub invariant_of-state-2 : goal.invariant_of-state-2
-invariant_of-state-2 g c = record { cells = by_key-ascends c.step_in.new.cells.entries; wakes = c.add_all.ensures.ascending }
+invariant_of-state-2 g c = record { cells = by_key-ascends c.step_in.new.cells.entries; wakes = c.step_wakes.ensures.ascending }
 
 pub returns-clause-wakes : goal.returns-clause-wakes
-returns-clause-wakes g c =
-    let taken = rw c.make_room_for.ensures.same at c.take_wake.ensures.exact in
-    let added = rw c.key.ensures at c.add_all.ensures.exact in
-    rw (← c.state.view_is) (wakes_applied c.state.inside.wakes.wakes c.args.group.now.time c.args.group.now.key c.args.posts.now c.take_wake.new.wakes.wakes c.add_all.new.self.wakes taken added)
+returns-clause-wakes g c = rw (← c.state.view_is) (rw c.make_room_for.ensures.same at c.step_wakes.ensures.exact)
 
 pub returns-clause-cells : goal.returns-clause-cells
 returns-clause-cells g c =
@@ -36,7 +33,7 @@ returns-clause-outputs g c =
     rw (← c.state.view_is, cell_is (q.fresh c.args.stage) c.state.inside.cells c.args.group.now.key) c.in_ok-outputs.ensures.outputs
 
 pub returns-clause-in_order : goal.returns-clause-in_order
-returns-clause-in_order g c = record { cells = by_key-ascends c.step_in.new.cells.entries; wakes = c.add_all.ensures.ascending }
+returns-clause-in_order g c = record { cells = by_key-ascends c.step_in.new.cells.entries; wakes = c.step_wakes.ensures.ascending }
 
 pub returns-clause-same_wakes : goal.returns-clause-same_wakes
-returns-clause-same_wakes g c = wakes_stay c.args.state.now.wakes c.add_all.new.self.wakes c.args.group.now c.args.posts.now (rw (← c.state.view_is) c.state.invariant.wakes) c.add_all.ensures.ascending c.requires.woken (returns-clause-wakes g c)
+returns-clause-same_wakes g c = rw (← c.state.view_is) (λ idle. (rw c.make_room_for.ensures.same at c.step_wakes.ensures.same) idle c.state.invariant.wakes)

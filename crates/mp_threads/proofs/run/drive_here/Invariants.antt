@@ -1,7 +1,7 @@
 use Rattle.std.proofs.Common.{◌≡◌}
 use Rattle.std.specs.Prelude.{map}
 use Rattle.mp_threads_member.specs.Driving.{GoesOn}
-use Rattle.mp_threads.specs.Places.{mark_at}
+use Rattle.mp_threads_place.specs.Places.{mark_at}
 use Rattle.mp_threads.proofs.run.drive_here.Given as goal
 use Rattle.mp_model.specs.Tables.{table_of}
 

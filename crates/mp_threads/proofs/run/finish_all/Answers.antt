@@ -3,9 +3,10 @@ use Rattle.std.specs.Vec.Iter.{into_iter_items}
 use Rattle.std.proofs.lemmas.List.{append-nil, nil_from_length}
 use Rattle.mp_outline.specs.JobOutline.{outline_of}
 use Rattle.mp_threads_member.specs.Driving.{IsFinished}
-use Rattle.mp_threads.specs.Places.{mark_at, mark_of}
-use Rattle.mp_threads.proofs.Leaves.{worker_is_back}
-use Rattle.mp_threads.proofs.Lists.{all_more, passed_on, room_left}
+use Rattle.mp_threads_place.specs.Places.{mark_at, mark_of}
+use Rattle.mp_threads_place.proofs.Marks.{worker_is_back}
+use Rattle.mp_threads_crew.proofs.Lists.{all_more, room_left}
+use Rattle.mp_threads.proofs.Lists.{passed_on}
 use Rattle.mp_threads.proofs.run.finish_all.Goals as goal
 use Rattle.mp_model.specs.Tables.{table_of}
 

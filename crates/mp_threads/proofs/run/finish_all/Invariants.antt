@@ -5,7 +5,7 @@ use Rattle.std.specs.Vec.Iter.{into_iter_items}
 use Rattle.mp_model.specs.Tables.{table_of}
 use Rattle.mp_outline.specs.JobOutline.{outline_of}
 use Rattle.mp_threads_member.specs.Driving.{IsFinished}
-use Rattle.mp_threads.specs.Places.{mark_at, mark_of}
+use Rattle.mp_threads_place.specs.Places.{mark_at, mark_of}
 use Rattle.mp_threads.proofs.run.finish_all.Given as goal
 
 abbrev pub invariant-loop-place : goal.invariant-loop-place

@@ -1,11 +1,10 @@
-use Rattle.std.proofs.Common.{List, ◌≡◌, ◌∙◌, ◌++◌, ◌∷◌, All, ap, arith, drop, length, map, refl, subst, sym, take}
+use Rattle.std.proofs.Common.{◌∙◌, ◌++◌, ◌∷◌, All, ap, arith, drop, length, map, refl, subst, sym, take}
 use Rattle.mp_names.specs.Logs.{LogIsLegal}
 use Rattle.mp_outline.specs.JobOutline.{outline_of}
 use Rattle.mp_worker_refinement.specs.State.{WorkerState}
-use Rattle.mp_threads_member.specs.Members.{MemberState}
+use Rattle.mp_threads_member.specs.Members.{HasDoneNothing, MemberState}
 use Rattle.mp_threads_member.specs.Driving.{IsFinished}
-use Rattle.mp_threads.specs.Crews.{HasDoneNothing}
-use Rattle.mp_threads.specs.Places.{mark_at, mark_of}
+use Rattle.mp_threads_place.specs.Places.{mark_at, mark_of}
 use Rattle.mp_threads.proofs.Coming.{all_come_back_if, first_begins, marked_as}
 use Rattle.mp_answer_laws.proofs.Runs.{nothing_begun}
 use Rattle.mp_threads.proofs.Leaves.{is_driven, run_leaves}
@@ -28,7 +27,7 @@ finish_all-requires-clause-first g c κs within =
 pub settle_all-places-requires-clause-start : goal.settle_all-places-requires-clause-start
 settle_all-places-requires-clause-start g c κs within =
     let crew = sym c.into_iter-members.ensures.rest ∙ c.in-Some.ensures.items in
-    all_tail HasDoneNothing _ _ _ crew (subst (All HasDoneNothing) (sym c.crew.view_is) c.requires.start)
+    all_tail HasDoneNothing _ _ _ crew (subst (All HasDoneNothing) (sym c.into_members-members.ensures.members) c.requires.start)
 
 pub returns : goal.returns
 returns g c =
@@ -37,7 +36,7 @@ returns g c =
     let o = outline_of q job in
     let s = g.S.Sink in
     let crew = sym c.into_iter-members.ensures.rest ∙ c.in-Some.ensures.items in
-    let b = first_begins _ _ _ _ crew c.crew.invariant.1 (subst (All HasDoneNothing) (sym c.crew.view_is) c.requires.start) in
+    let b = first_begins _ _ _ _ crew c.into_members-members.ensures.numbers (subst (All HasDoneNothing) (sym c.into_members-members.ensures.members) c.requires.start) in
     let d = c.drive_here-driven in
     let driven = d.ensures.driven in
     let f = c.finish_all.ensures in
@@ -61,8 +60,8 @@ returns g c =
     ∙ sym (ap (map of_member) crew) in
     record {
       run = record {
-        finished = all_come_back_if c.finish_all.result (λ v. v.items) o _ c.crew.inside.members.items c.crew.invariant.1 marks f.back;
-        marks = marked_as c.finish_all.result (λ v. v.items) o _ _ (marks ∙ ap (map of_member) c.crew.view_is) f.back;
+        finished = all_come_back_if c.finish_all.result (λ v. v.items) o _ c.into_members-members.result.items c.into_members-members.ensures.numbers marks f.back;
+        marks = marked_as c.finish_all.result (λ v. v.items) o _ _ (marks ∙ ap (map of_member) c.into_members-members.ensures.members) f.back;
         leaves = run_leaves q job s.written s.faults s.frame _ _ _ _ b.zeroth b.empty d.result c.finish_all.result l driven.drives driven.finished f.ends.over f.ends.write.0 f.ends.write.1;
       };
     }
@@ -76,4 +75,4 @@ finish_all-requires-clause-room g c κs within =
     let back = ap length (lent_back c.settle_all-places.result.len now were lent c.settle_all-places.result.ok.0) in
     let settled = as_many mark_at (λ (m : MemberState). mark_of m.worker) _ _ c.settle_all-places.ensures in
     let crew = ap length (sym c.into_iter-members.ensures.rest ∙ c.in-Some.ensures.items) in
-    omega (arith, back, lent, settled, crew, c.in-Ok-with_capacity.ensures.capacity, c.len-2.ensures, c.crew.inside.members.ok.0)
+    omega (arith, back, lent, settled, crew, c.in-Ok-with_capacity.ensures.capacity, c.len-2.ensures, c.into_members-members.result.ok.0)

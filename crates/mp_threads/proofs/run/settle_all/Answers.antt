@@ -1,9 +1,10 @@
-use Rattle.std.proofs.Common.{◌∙◌, ◌++◌, ap, arith, length, map, rules, sym}
+use Rattle.std.proofs.Common.{◌∙◌, ◌++◌, ap, arith, map, rules, sym}
 use Rattle.std.specs.Vec.Iter.{into_iter_items}
 use Rattle.std.proofs.lemmas.List.{append-nil, nil_from_length}
-use Rattle.mp_threads.specs.Crews.{HasDoneNothing}
-use Rattle.mp_threads.specs.Places.{mark_at, mark_of}
-use Rattle.mp_threads.proofs.Lists.{all_head, all_tail, passed_on, room_left}
+use Rattle.mp_threads_member.specs.Members.{HasDoneNothing}
+use Rattle.mp_threads_place.specs.Places.{mark_at, mark_of}
+use Rattle.mp_threads.proofs.Lists.{all_head, all_tail, passed_on}
+use Rattle.mp_threads_crew.proofs.Lists.{room_left}
 use Rattle.mp_threads.proofs.run.settle_all.Goals as goal
 
 pub loop-member-preserved : goal.loop-member-preserved

@@ -1,8 +1,8 @@
 use Rattle.std.proofs.Common.{◌≡◌, ◌+◌, ◌≤◌, ◌++◌, All, length, vec_capacity}
 use Rattle.std.specs.Prelude.{map}
 use Rattle.std.specs.Vec.Iter.{into_iter_items}
-use Rattle.mp_threads.specs.Crews.{HasDoneNothing}
-use Rattle.mp_threads.specs.Places.{mark_at, mark_of}
+use Rattle.mp_threads_member.specs.Members.{HasDoneNothing}
+use Rattle.mp_threads_place.specs.Places.{mark_at, mark_of}
 use Rattle.mp_threads.proofs.run.settle_all.Given as goal
 
 abbrev pub invariant-loop-member : goal.invariant-loop-member

@@ -1,7 +1,7 @@
 use Rattle.std.proofs.Common.{◌∙◌, arith, length-set}
 use Rattle.std.proofs.Math.Seq.{map-set_same}
 use Rattle.mp_ruled.proofs.Places.{set_here}
-use Rattle.mp_threads.specs.Places.{mark_at}
+use Rattle.mp_threads_place.specs.Places.{mark_at}
 use Rattle.mp_threads.proofs.Leaves.{on_err}
 use Rattle.mp_threads.proofs.run.turn_all.Goals as goal
 

@@ -1,5 +1,5 @@
 -- What is gathered, and the workers that are left.
-use Rattle.std.proofs.Common.{◌≡◌, ◌+◌, ◌≤◌, ◌++◌, ℕ, List, All, length, map, vec_capacity}
+use Rattle.std.proofs.Common.{◌+◌, ◌≤◌, ◌++◌, ℕ, List, All, length, map, vec_capacity}
 use Rattle.std.specs.Vec.Iter.{into_iter_items}
 use Rattle.mp_model.specs.Tables.{table_of}
 use Rattle.mp_msg.specs.States.{BinContent}

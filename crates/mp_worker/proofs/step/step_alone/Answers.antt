@@ -18,12 +18,12 @@ returns-in-Exchange-clause-sink g c =
 
 pub returns-in_ok-write-in-Write-clause-post : goal.returns-in_ok-write-in-Write-clause-post
 returns-in_ok-write-in-Write-clause-post g c =
-    write_at_post g.P.Post.workers g.P.Post.depth g.P.Post.serves g.P.Post.denotes g.P.Post.waits g.P.Post.had_room g.P.Post.was_full g.P.Post.was_empty (outline_of (table_of g.Q.Query.facts g.J.Naming.job) g.J.Naming.job) c.args.kind c.args.parts.now.worker c.write.new.self.worker c.in-Write.is c.args.post.now c.in_ok-write-in-Write.field-0 c.turn_of.result (c.turn_of.ensures.did, c.turn_of.ensures.not_now) c.in_ok-write-in-Write.ensures.steps
+    write_at_post g.P.Post.workers g.P.Post.depth g.P.Post.serves g.P.Post.denotes g.P.Post.waits g.P.Post.had_room g.P.Post.was_full g.P.Post.was_empty (outline_of (table_of g.Q.Query.facts g.J.Naming.job) g.J.Naming.job) c.args.kind c.args.parts.now.worker c.write.new.parts.worker c.in-Write.is c.args.post.now c.in_ok-write-in-Write.field-0 c.turn_of.result (c.turn_of.ensures.did, c.turn_of.ensures.not_now) c.in_ok-write-in-Write.ensures.steps
 
 pub returns-in_ok-write-in-Write-clause-hub : goal.returns-in_ok-write-in-Write-clause-hub
 returns-in_ok-write-in-Write-clause-hub g c =
-    others_at_hub g.H.Hub.serves g.H.Hub.posted g.H.Hub.version g.H.Hub.after g.H.Hub.kept g.H.Hub.shows g.H.Hub.goes_on g.H.Hub.was_stopped g.H.Hub.was_busy c.args.kind c.args.parts.now.worker c.write.new.self.worker (outline_of (table_of g.Q.Query.facts g.J.Naming.job) g.J.Naming.job) (λ e. apart c.args.kind e c.in-Write.is) c.args.hub.now (Ok c.turn_of.result) (g.P.Post.had_room c.args.post.now) (g.P.Post.was_full c.args.post.now) (g.P.Post.was_empty c.args.post.now) c.requires.at_hub
-    (write_at_post g.P.Post.workers g.P.Post.depth g.P.Post.serves g.P.Post.denotes g.P.Post.waits g.P.Post.had_room g.P.Post.was_full g.P.Post.was_empty (outline_of (table_of g.Q.Query.facts g.J.Naming.job) g.J.Naming.job) c.args.kind c.args.parts.now.worker c.write.new.self.worker c.in-Write.is c.args.post.now c.in_ok-write-in-Write.field-0 c.turn_of.result (c.turn_of.ensures.did, c.turn_of.ensures.not_now) c.in_ok-write-in-Write.ensures.steps).answers
+    others_at_hub g.H.Hub.serves g.H.Hub.posted g.H.Hub.version g.H.Hub.after g.H.Hub.kept g.H.Hub.shows g.H.Hub.goes_on g.H.Hub.was_stopped g.H.Hub.was_busy c.args.kind c.args.parts.now.worker c.write.new.parts.worker (outline_of (table_of g.Q.Query.facts g.J.Naming.job) g.J.Naming.job) (λ e. apart c.args.kind e c.in-Write.is) c.args.hub.now (Ok c.turn_of.result) (g.P.Post.had_room c.args.post.now) (g.P.Post.was_full c.args.post.now) (g.P.Post.was_empty c.args.post.now) c.requires.at_hub
+    (write_at_post g.P.Post.workers g.P.Post.depth g.P.Post.serves g.P.Post.denotes g.P.Post.waits g.P.Post.had_room g.P.Post.was_full g.P.Post.was_empty (outline_of (table_of g.Q.Query.facts g.J.Naming.job) g.J.Naming.job) c.args.kind c.args.parts.now.worker c.write.new.parts.worker c.in-Write.is c.args.post.now c.in_ok-write-in-Write.field-0 c.turn_of.result (c.turn_of.ensures.did, c.turn_of.ensures.not_now) c.in_ok-write-in-Write.ensures.steps).answers
 
 pub returns-in_ok-write-in-Write-clause-sink : goal.returns-in_ok-write-in-Write-clause-sink
 returns-in_ok-write-in-Write-clause-sink g c =
@@ -31,12 +31,12 @@ returns-in_ok-write-in-Write-clause-sink g c =
 
 pub returns-in_err-write-in-Write-clause-post : goal.returns-in_err-write-in-Write-clause-post
 returns-in_err-write-in-Write-clause-post g c =
-    refused_at_post g.P.Post.workers g.P.Post.depth g.P.Post.serves g.P.Post.denotes g.P.Post.waits g.P.Post.had_room g.P.Post.was_full g.P.Post.was_empty (outline_of (table_of g.Q.Query.facts g.J.Naming.job) g.J.Naming.job) c.args.kind c.args.parts.now.worker c.write.new.self.worker c.in-Write.is c.args.post.now c.in_err-write-in-Write.field-0.0 c.from_residual.result c.from_residual.ensures.1 c.in_err-write-in-Write.ensures.steps
+    refused_at_post g.P.Post.workers g.P.Post.depth g.P.Post.serves g.P.Post.denotes g.P.Post.waits g.P.Post.had_room g.P.Post.was_full g.P.Post.was_empty (outline_of (table_of g.Q.Query.facts g.J.Naming.job) g.J.Naming.job) c.args.kind c.args.parts.now.worker c.write.new.parts.worker c.in-Write.is c.args.post.now c.in_err-write-in-Write.field-0.0 c.from_residual.result c.from_residual.ensures.1 c.in_err-write-in-Write.ensures.steps
 
 pub returns-in_err-write-in-Write-clause-hub : goal.returns-in_err-write-in-Write-clause-hub
 returns-in_err-write-in-Write-clause-hub g c =
-    others_at_hub g.H.Hub.serves g.H.Hub.posted g.H.Hub.version g.H.Hub.after g.H.Hub.kept g.H.Hub.shows g.H.Hub.goes_on g.H.Hub.was_stopped g.H.Hub.was_busy c.args.kind c.args.parts.now.worker c.write.new.self.worker (outline_of (table_of g.Q.Query.facts g.J.Naming.job) g.J.Naming.job) (λ e. apart c.args.kind e c.in-Write.is) c.args.hub.now c.from_residual.result (g.P.Post.had_room c.args.post.now) (g.P.Post.was_full c.args.post.now) (g.P.Post.was_empty c.args.post.now) c.requires.at_hub
-    (refused_at_post g.P.Post.workers g.P.Post.depth g.P.Post.serves g.P.Post.denotes g.P.Post.waits g.P.Post.had_room g.P.Post.was_full g.P.Post.was_empty (outline_of (table_of g.Q.Query.facts g.J.Naming.job) g.J.Naming.job) c.args.kind c.args.parts.now.worker c.write.new.self.worker c.in-Write.is c.args.post.now c.in_err-write-in-Write.field-0.0 c.from_residual.result c.from_residual.ensures.1 c.in_err-write-in-Write.ensures.steps).answers
+    others_at_hub g.H.Hub.serves g.H.Hub.posted g.H.Hub.version g.H.Hub.after g.H.Hub.kept g.H.Hub.shows g.H.Hub.goes_on g.H.Hub.was_stopped g.H.Hub.was_busy c.args.kind c.args.parts.now.worker c.write.new.parts.worker (outline_of (table_of g.Q.Query.facts g.J.Naming.job) g.J.Naming.job) (λ e. apart c.args.kind e c.in-Write.is) c.args.hub.now c.from_residual.result (g.P.Post.had_room c.args.post.now) (g.P.Post.was_full c.args.post.now) (g.P.Post.was_empty c.args.post.now) c.requires.at_hub
+    (refused_at_post g.P.Post.workers g.P.Post.depth g.P.Post.serves g.P.Post.denotes g.P.Post.waits g.P.Post.had_room g.P.Post.was_full g.P.Post.was_empty (outline_of (table_of g.Q.Query.facts g.J.Naming.job) g.J.Naming.job) c.args.kind c.args.parts.now.worker c.write.new.parts.worker c.in-Write.is c.args.post.now c.in_err-write-in-Write.field-0.0 c.from_residual.result c.from_residual.ensures.1 c.in_err-write-in-Write.ensures.steps).answers
 
 pub returns-in_err-write-in-Write-clause-sink : goal.returns-in_err-write-in-Write-clause-sink
 returns-in_err-write-in-Write-clause-sink g c =

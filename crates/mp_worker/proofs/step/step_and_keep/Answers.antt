@@ -1,7 +1,8 @@
 use Rattle.std.proofs.Common.{◌∙◌, Some, ap}
 use Rattle.mp_outline.specs.JobOutline.{outline_of}
 use Rattle.mp_model.specs.Tables.{table_of}
-use Rattle.mp_worker.specs.Keeping.{steps_after, with_steps}
+use Rattle.mp_turns.specs.Keeping.{steps_after}
+use Rattle.mp_worker.specs.Keeping.{with_steps}
 use Rattle.mp_worker.proofs.Lifted.{hub_with, post_with, sink_with}
 use Rattle.mp_worker.proofs.Telling.{still_tell}
 use Rattle.mp_worker.proofs.step.step_and_keep.Goals as goal

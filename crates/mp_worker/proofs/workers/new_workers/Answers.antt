@@ -2,7 +2,7 @@ use Rattle.std.proofs.Common.{◌≡◌, [], ◌∷◌, length, ap, arith, lengt
 use Rattle.std.proofs.lemmas.List.Elements.{All-push}
 use Rattle.mp_outline.specs.JobOutline.{outline_of}
 use Rattle.mp_worker_refinement.specs.State.{WorkerState}
-use Rattle.mp_worker.specs.Keeping.{no_steps}
+use Rattle.mp_turns.specs.Keeping.{no_steps}
 use Rattle.mp_worker.proofs.New.{is_new, one_more_new}
 use Rattle.mp_worker.proofs.workers.new_workers.Goals as goal
 use Rattle.mp_model.specs.Tables.{table_of}

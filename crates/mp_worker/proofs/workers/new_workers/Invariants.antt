@@ -3,7 +3,7 @@ use Rattle.std.specs.Prelude.{slice_get}
 use Rattle.mp_outline.specs.JobOutline.{outline_of}
 use Rattle.mp_worker_refinement.specs.Laws.{IsNewWorker}
 use Rattle.mp_worker_refinement.specs.State.{WorkerState}
-use Rattle.mp_worker.specs.Keeping.{no_steps}
+use Rattle.mp_turns.specs.Keeping.{no_steps}
 use Rattle.mp_worker.proofs.workers.new_workers.Given as goal
 use Rattle.mp_model.specs.Tables.{table_of}
 

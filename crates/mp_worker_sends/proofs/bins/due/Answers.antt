@@ -1,8 +1,8 @@
 use Rattle.std.proofs.Common.{Option, None, Some, IfSome}
 use Rattle.mp_names.specs.declared.kinds.Kind.TheVariants.{Extract}
-use Rattle.mp_worker_steps.specs.Below.{movers_at}
+use Rattle.mp_worker_parts.specs.Below.{movers_at}
 use Rattle.mp_worker_sends.proofs.Extracting.{due_now, none_to_extract}
-use Rattle.mp_worker_steps.proofs.Keeping.{can_do, on_none}
+use Rattle.mp_worker_parts.proofs.Keeping.{can_do, on_none}
 use Rattle.mp_worker_sends.proofs.bins.due.Goals as goal
 
 if_some : {A : Type 0} (P Q R : A → Type 0) (r : Option A) → ((a : A) → P a → Q a → R a) → IfSome r P → IfSome r Q → IfSome r R

@@ -3,14 +3,14 @@ use Rattle.std.proofs.lemmas.List.{get_or-set_same, length-set}
 use Rattle.mp_rows_laws.specs.Changes.{packet_sent_at}
 use Rattle.mp_handoff.specs.MoversState.{MoversState}
 use Rattle.mp_host_laws.specs.Hosted.{Hosted}
-use Rattle.mp_worker_steps.specs.Below.{AreMoversAt}
-use Rattle.mp_worker_steps.specs.Below.{again_there, put_at}
-use Rattle.mp_worker_steps.specs.Below.{other_movers}
-use Rattle.mp_worker_steps.specs.Below.{host_at, movers_at}
+use Rattle.mp_worker_parts.specs.Below.{AreMoversAt}
+use Rattle.mp_worker_parts.specs.Below.{again_there, put_at}
+use Rattle.mp_worker_parts.specs.Below.{other_movers}
+use Rattle.mp_worker_parts.specs.Below.{host_at, movers_at}
 use Rattle.mp_worker_sends.specs.Leaving.{AreChangesOfLeaving}
-use Rattle.mp_worker_steps.proofs.Applied.{same_host_there}
+use Rattle.mp_worker_parts.proofs.Keeping.{same_host_there}
 use Rattle.mp_worker_sends.proofs.Extracting.{changes_of_packet, with_room}
-use Rattle.mp_worker_steps.proofs.Keeping.{kept_as}
+use Rattle.mp_worker_parts.proofs.Keeping.{kept_as}
 use Rattle.mp_worker_sends.proofs.bins.make_room_to_extract.Goals as goal
 use Rattle.mp_model.specs.Tables.{table_of}
 

@@ -5,7 +5,7 @@ use Rattle.mp_names.specs.declared.kinds.Kind.TheVariants.{Extract}
 use Rattle.mp_names.specs.declared.names.Name.TheVariants.{Packet}
 use Rattle.mp_names.specs.Logs.{Log}
 use Rattle.mp_handoff.specs.MoversState.{MoversState}
-use Rattle.mp_worker_steps.specs.Below.{GivesUp}
+use Rattle.mp_worker_parts.specs.Below.{GivesUp}
 use Rattle.mp_host_laws.specs.declared.held.Held.{Held}
 use Rattle.mp_host_laws.specs.Hosted.{Hosted}
 use Rattle.mp_host_laws.specs.Moving.{IsTakenOut}
@@ -14,14 +14,14 @@ use Rattle.mp_model.specs.Tables.{table_of}
 use Rattle.mp_msg.specs.Contents.{IsPacketOf}
 use Rattle.mp_msg.specs.States.{BinContent, IsStateBefore}
 use Rattle.mp_outline.specs.JobOutline.{outline_of}
-use Rattle.mp_worker_steps.specs.Below.{Parts}
-use Rattle.mp_worker_steps.specs.Below.{host_at, movers_at}
+use Rattle.mp_worker_parts.specs.Below.{Parts}
+use Rattle.mp_worker_parts.specs.Below.{host_at, movers_at}
 use Rattle.mp_worker_sends.specs.Leaving.{IsDueNow, IsLeaving}
 use Rattle.mp_worker_sends.proofs.Extracting.{can_extract, host_back, leaving, one_packet, packet_kept, packet_stays_legal, packet_still_kept, some_leaves}
 use Rattle.mp_worker_sends.proofs.LeavingPackets.{bin_back, state_back, taken_of_bin}
 use Rattle.mp_worker_refinement.proofs.Pushed.{single_may}
-use Rattle.mp_worker_steps.specs.Kept.{IsKept}
-use Rattle.mp_worker_steps.proofs.Keeping.{can_do, kept_by, makes_all}
+use Rattle.mp_worker_parts.specs.Kept.{IsKept}
+use Rattle.mp_worker_parts.proofs.Keeping.{can_do, kept_by, makes_all}
 use Rattle.mp_worker_sends.proofs.Kept.{holds_a_packet}
 use Rattle.mp_worker_sends.proofs.bins.send_bin.Goals as goal
 

@@ -1,4 +1,4 @@
-use Rattle.mp_worker_steps.specs.Below.{again_there}
+use Rattle.mp_worker_parts.specs.Below.{again_there}
 use Rattle.mp_worker_sends.proofs.bins.sort_wakes.Goals as goal
 
 pub invariant_of-parts : goal.invariant_of-parts

@@ -1,18 +1,12 @@
-use Rattle.std.proofs.Common.{◌≡◌, ◌∙◌, ◌<◌, ◌∷◌, ℕ, [], List, length, refl, ap, subst, sym}
-use Rattle.mp_names.specs.declared.controls.Control.{Control}
+use Rattle.std.proofs.Common.{◌∙◌, ◌∷◌, [], refl, subst, sym}
 use Rattle.mp_names.specs.declared.kinds.Kind.TheVariants.{SendControl}
-use Rattle.mp_names.specs.declared.names.Name.{Name}
 use Rattle.mp_names.specs.declared.names.Name.TheVariants.{Ctrl}
-use Rattle.mp_names.specs.Controls.{control_of}
 use Rattle.mp_names.specs.Names.{is_ctrl}
-use Rattle.mp_model.specs.Facts.{JobFacts, QueryFacts}
 use Rattle.mp_controller.specs.Controlling.{GoesNow}
-use Rattle.mp_worker_steps.specs.Below.{Parts}
-use Rattle.mp_worker_steps.proofs.Controls.{can_send_control, control_counted, control_kept, control_owed, no_control_goes, one_control}
+use Rattle.mp_worker_sends.proofs.SentControls.{can_send_control, control_counted, control_kept, no_control_goes, one_control}
 use Rattle.mp_worker_refinement.proofs.Alone.{post_same}
 use Rattle.mp_worker_refinement.proofs.Pushed.{held_may}
-use Rattle.mp_worker_steps.specs.Kept.{IsKept}
-use Rattle.mp_worker_steps.proofs.Keeping.{can_do, its_controls, kept_by, makes_all}
+use Rattle.mp_worker_parts.proofs.Keeping.{can_do, its_controls, kept_by, makes_all}
 use Rattle.mp_worker_sends.proofs.controls.send_control.Goals as goal
 
 pub returns-in_err-make_room-clause-mail : goal.returns-in_err-make_room-clause-mail

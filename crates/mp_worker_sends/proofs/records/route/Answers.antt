@@ -6,12 +6,12 @@ use Rattle.mp_names.proofs.Orders.{least_unique}
 use Rattle.mp_outline.specs.JobOutline.{outline_of}
 use Rattle.mp_msg.specs.Bundles.{names_in, receiver_of}
 use Rattle.mp_msg.specs.Contents.{IsRecordOf}
-use Rattle.mp_worker_steps.specs.Below.{again_there}
-use Rattle.mp_worker_steps.specs.Below.{other_router}
-use Rattle.mp_worker_steps.specs.Below.{back, gone, none_goes, owners_known, same_bundle}
-use Rattle.mp_worker_steps.specs.Below.{router_at, steps, told}
+use Rattle.mp_worker_parts.specs.Below.{again_there}
+use Rattle.mp_worker_parts.specs.Below.{other_router}
+use Rattle.mp_worker_parts.specs.Below.{back, gone, none_goes, owners_known, same_bundle}
+use Rattle.mp_worker_parts.specs.Below.{router_at, steps, told}
 use Rattle.mp_worker_refinement.proofs.Alone.{post_same}
-use Rattle.mp_worker_steps.proofs.Keeping.{can_do, kept_by, makes_all}
+use Rattle.mp_worker_parts.proofs.Keeping.{can_do, kept_by, makes_all}
 use Rattle.mp_worker_sends.proofs.Bundled.{bundle_changes, bundle_may, given_up, receiver_is}
 use Rattle.mp_worker_sends.proofs.records.route.Goals as goal
 use Rattle.mp_model.specs.Tables.{table_of}

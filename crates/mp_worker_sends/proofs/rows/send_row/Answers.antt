@@ -3,11 +3,11 @@ use Rattle.mp_names.specs.declared.kinds.Kind.TheVariants.{SendRow}
 use Rattle.mp_names.specs.Names.{is_row}
 use Rattle.mp_rows_laws.proofs.Sent.{row_sent}
 use Rattle.mp_outline.specs.JobOutline.{name_of_row}
-use Rattle.mp_worker_steps.specs.Below.{holds_row, least_row, rows_back, rows_left}
-use Rattle.mp_worker_steps.specs.Below.{steps, told}
+use Rattle.mp_worker_parts.specs.Below.{holds_row, least_row, rows_back, rows_left}
+use Rattle.mp_worker_parts.specs.Below.{steps, told}
 use Rattle.mp_worker_refinement.proofs.Alone.{post_same}
 use Rattle.mp_worker_refinement.proofs.Pushed.{held_may}
-use Rattle.mp_worker_steps.proofs.Keeping.{kept_by, makes_all}
+use Rattle.mp_worker_parts.proofs.Keeping.{kept_by, makes_all}
 use Rattle.mp_worker_sends.proofs.Kept.{holds_a_row}
 use Rattle.mp_worker_sends.proofs.rows.send_row.Goals as goal
 use Rattle.mp_model.specs.Tables.{table_of}

@@ -1,5 +1,5 @@
 use Rattle.std.proofs.Common.{◌∙◌}
-use Rattle.mp_host_states.proofs.FirstWakes.{firsts_tell}
+use Rattle.mp_host_places.proofs.FirstWakes.{firsts_tell}
 use Rattle.mp_host_states.proofs.in_hand.InHand.first_wake.Goals as goal
 
 pub returns : goal.returns

@@ -3,7 +3,7 @@ use Rattle.std.specs.List.{list_any}
 use Rattle.std.proofs.lemmas.List.{take_rest}
 use Rattle.mp_bins.specs.Bins.{bin_of_key}
 use Rattle.mp_host_laws.specs.Hosted.{has_wake_in}
-use Rattle.mp_host_states.proofs.Spanned.{by_first, by_second, span_behind, span_in_front}
+use Rattle.mp_host_places.proofs.Spanned.{by_first, by_second, span_behind, span_in_front}
 use Rattle.mp_host_states.proofs.in_hand.InHand.has_wake_beside.Goals as goal
 
 pub has_wake-requires : goal.has_wake-requires

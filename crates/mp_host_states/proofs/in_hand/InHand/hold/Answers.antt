@@ -1,10 +1,10 @@
 use Rattle.std.proofs.Common.{◌≡◌, ◌∙◌, ap, length, arith}
 use Rattle.std.proofs.lemmas.List.{length-map}
 use Rattle.mp_host_laws.specs.Hosted.{first_wake_of}
-use Rattle.mp_host_states.specs.Spans.{bins_of}
-use Rattle.mp_host_states.proofs.FirstWakes.{others_with}
+use Rattle.mp_host_places.specs.Spans.{bins_of}
+use Rattle.mp_host_places.proofs.FirstWakes.{others_with}
 use Rattle.mp_host_states.proofs.Found.{inside_with}
-use Rattle.mp_host_states.proofs.Spanned.{bins_with}
+use Rattle.mp_host_places.proofs.Spanned.{bins_with}
 use Rattle.mp_host_states.proofs.in_hand.InHand.hold.Goals as goal
 
 pub renew-requires-clause-spans : goal.renew-requires-clause-spans

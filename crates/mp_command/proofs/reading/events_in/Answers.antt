@@ -1,7 +1,0 @@
--- The reader found no memory.
-use Rattle.std.proofs.Common.{inl}
-use Rattle.mp_command.specs.Reading.{no_memory}
-use Rattle.mp_command.proofs.reading.events_in.Goals as goal
-
-pub returns-clause-refused : goal.returns-clause-refused
-returns-clause-refused g c = λ found. inl no_memory

@@ -1,0 +1,4 @@
+-- The lemmas of this crate.
+pub mod Joined
+pub mod Parts
+pub mod Written

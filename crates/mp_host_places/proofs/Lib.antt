@@ -1,0 +1,3 @@
+pub mod FirstWakes
+pub mod Spanned
+mod Within

@@ -1,0 +1,4 @@
+pub mod Followed
+pub mod Picked
+pub mod Refusing
+pub mod Tried

@@ -1,0 +1,4 @@
+-- Lemmas.
+pub mod Keeping
+pub mod Lists
+pub mod Tallied

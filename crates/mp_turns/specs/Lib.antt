@@ -1,0 +1,4 @@
+-- What the contracts of this crate cite.
+pub mod Done
+pub mod Keeping
+pub mod Stops

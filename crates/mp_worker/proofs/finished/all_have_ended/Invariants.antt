@@ -1,6 +1,0 @@
-use Rattle.std.proofs.Common.{ℕ, ◌<◌}
-use Rattle.mp_worker.specs.Done.{StageHasEnded}
-use Rattle.mp_worker.proofs.finished.all_have_ended.Given as goal
-
-abbrev pub invariant-loop-stage : goal.invariant-loop-stage
-invariant-loop-stage l = (j : ℕ) → j < l.stage → StageHasEnded l.until j l.seen

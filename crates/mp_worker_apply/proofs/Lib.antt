@@ -1,0 +1,4 @@
+pub mod Applied
+pub mod Counted
+pub mod Fitting
+pub mod OneByOne

@@ -1,0 +1,4 @@
+pub mod Begun
+pub mod Keeping
+pub mod LastStates
+pub mod Tallied
