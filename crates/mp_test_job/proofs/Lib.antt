@@ -1,1 +1,3 @@
 pub mod Pushed
+pub mod Nothing
+pub mod Bid

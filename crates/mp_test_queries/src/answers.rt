@@ -27,6 +27,14 @@ pub fn bid_at(time: Time, auction: u64, bidder: u64, price: u64) -> Event
     Event { time, value }
 }
 
+/// The pieces are these texts.
+fn are_texts(rt: &impl Abort, pieces: &[Vec<u8>], wanted: &[&[u8]]) {
+    assert!(rt; pieces.len() == wanted.len());
+    for (piece, text) in pieces.iter().zip(wanted) {
+        assert!(rt; piece.as_slice() == *text);
+    }
+}
+
 /// The query answers these events by these lines, a text for each time.
 fn has_pieces<Q: Query>(
     rt: &impl Abort,
@@ -38,10 +46,7 @@ fn has_pieces<Q: Query>(
     requires { EventsAreLegal events.now }
 {
     let pieces = answer_pieces(alloc, query, events)?;
-    assert!(rt; pieces.len() == wanted.len());
-    for (piece, text) in pieces.iter().zip(wanted) {
-        assert!(rt; piece.as_slice() == *text);
-    }
+    are_texts(rt, pieces.as_slice(), wanted);
     Ok(())
 }
 
