@@ -1,20 +1,16 @@
 //! Layer: tests.
 //!
-//! Tests of what a user writes: the event file, the configuration file and the words of the command line. What the command
-//! answers to files and words stands in examples/cases.toml; here is what it doesn't show.
+//! Tests of what the command doesn't show of files and words: event files that are read in pieces on threads, the texts of refusals,
+//! and the draws. What it answers to files and words stands in examples/cases.toml.
 //!
 //! A module tests the crate of its name. The tests stand here and not in their crates, so that each of those is proved once.
 #![tactic(auto)]
 
 #[cfg(test)]
-mod control;
+mod draws;
 #[cfg(test)]
 mod events;
 #[cfg(test)]
-mod made;
-#[cfg(test)]
 mod pieces;
-#[cfg(test)]
-mod plans;
 #[cfg(test)]
 mod words;

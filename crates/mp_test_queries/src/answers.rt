@@ -12,7 +12,7 @@ use std::alloc::{AllocError, Global};
 use std::process::Abort;
 
 /// A bid.
-pub fn bid_at(time: Time, auction: u64, bidder: u64, price: u64) -> Event
+fn bid_at(time: Time, auction: u64, bidder: u64, price: u64) -> Event
     requires time { time ≤ greatest_time }
     requires auction { auction ≤ greatest_id }
     requires bidder { bidder ≤ greatest_id }

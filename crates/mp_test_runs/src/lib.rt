@@ -1,15 +1,17 @@
 //! Layer: tests.
 //!
-//! Tests of whole runs: workers driven on one thread, step by step, by the seeded schedule, and beside the
-//! reference answer.
+//! Tests of whole runs: workers driven on one thread, step by step and by the seeded schedule, and paced ones: when their control
+//! records go out, and how many packets are on their way at once. What they answer stands in examples/cases.toml.
 #![tactic(auto)]
 
 #[cfg(test)]
 mod bundles;
 #[cfg(test)]
-mod fold;
-#[cfg(test)]
 mod handing;
+#[cfg(test)]
+mod jobs;
+#[cfg(test)]
+mod packets;
 #[cfg(test)]
 mod refused;
 #[cfg(test)]
@@ -17,8 +19,6 @@ mod schedule;
 #[cfg(test)]
 mod script;
 #[cfg(test)]
-mod stops;
-#[cfg(test)]
-mod windows;
+mod sends;
 #[cfg(test)]
 mod worked;

@@ -1,2 +1,0 @@
--- What the tests cite.
-pub mod NoEvents

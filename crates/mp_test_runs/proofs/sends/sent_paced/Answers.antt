@@ -1,0 +1,5 @@
+use Rattle.mp_test_runs.proofs.GivingRows.{q1_gives_rows}
+use Rattle.mp_test_runs.proofs.sends.sent_paced.Goals as goal
+
+pub open_paced-requires-clause-run : goal.open_paced-requires-clause-run
+open_paced-requires-clause-run g c κs within = record { run = c.requires.job; pace = c.requires.pace; rows = q1_gives_rows g.J.Naming.job }
