@@ -10,7 +10,7 @@ use std::alloc::AllocError;
 
 /// What the first auction record of an id says. Its numbers have the limits of an auction event, of this project's
 /// profile. It is public only as a part of the `Cell` of a query on closed auctions.
-#[derive(Clone, Copy, Debug)]
+#[derive(Clone, Copy)]
 pub struct Lot {
     /// The seller's id, at most 2^48.
     pub seller: u64,
@@ -24,7 +24,7 @@ pub struct Lot {
 
 /// What is kept of an auction: its lot, and the best price of the bids that count. It is public only as a part of the
 /// `Cell` of a query on closed auctions.
-#[derive(Clone, Copy, Debug)]
+#[derive(Clone, Copy)]
 pub struct Bidding {
     lot: Option<Lot>,
     best: Option<u64>,

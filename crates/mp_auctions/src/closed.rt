@@ -10,14 +10,14 @@ use mp_saved::{Saved, ValueList, read_numbers};
 use std::alloc::{AllocError, Global};
 
 /// The query that makes `S` of the sales.
-#[derive(Drop, Debug)]
+#[derive(Drop)]
 pub struct Closed<S> {
     sales: S,
 }
 
 /// The cell of such a query: in stage 0 the bidding of an auction, in stage 1 what is kept of the sales to a category or
 /// to a seller. The other part stays as it was at first. It is public only as the query's `Cell`.
-#[derive(Drop, Debug)]
+#[derive(Drop)]
 pub struct AuctionCell<K> {
     bidding: Bidding,
     sales: K,

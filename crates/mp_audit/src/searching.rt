@@ -13,7 +13,7 @@ use mp_names::Kept;
 use std::alloc::{AllocError, Global};
 
 /// Why a search gives no number of steps.
-#[derive(Clone, Copy, PartialEq, Eq, Debug)]
+#[derive(Clone, Copy, Debug)]
 pub enum AuditStop {
     /// The journal has no legal merge.
     NoRun,

@@ -9,7 +9,7 @@ use mp_names::{Control, Move, TimedBin};
 use mp_ordered::{Cut, Order};
 
 /// A bin of a stage, and the worker that owns it before any record of it.
-#[derive(Clone, Copy, Debug, Drop)]
+#[derive(Clone, Copy, Drop)]
 pub struct StageBin {
     /// From 0.
     pub stage: u32,

@@ -15,7 +15,7 @@ use std::cell::Cell;
 use std::marker::Model;
 
 /// A control record and its place in the list of all control records.
-#[derive(Clone, Copy, Debug, Drop)]
+#[derive(Clone, Copy, Drop)]
 pub struct Note {
     /// In the list of control records, from 0.
     pub index: u32,

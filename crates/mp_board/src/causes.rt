@@ -23,7 +23,7 @@ impl From<AllocError> for Cause {
 }
 
 /// What an exchange answers that posts the log, or that may be asked again.
-#[derive(Clone, Copy, PartialEq, Eq, Debug)]
+#[derive(Clone, Copy)]
 pub enum Answer {
     /// The log is posted, and this was seen.
     Got(Seen),

@@ -3,7 +3,7 @@
 use mp_names::{Name, Time};
 
 /// A name, with its time and, where it is sent, its receiver, else 0.
-#[derive(Clone, Copy, PartialEq, Eq, Debug)]
+#[derive(Clone, Copy)]
 pub struct Entry {
     /// The name.
     pub name: Name,

@@ -5,7 +5,7 @@ ghost use Rattle.mp_checkpoint.specs.declared.refused.CheckpointRefused.TheVaria
 use std::alloc::AllocError;
 
 /// Why a text gives no checkpoint.
-#[derive(Clone, Copy, PartialEq, Eq, Debug)]
+#[derive(Clone, Copy, Debug)]
 pub enum CheckpointRefused {
     /// The text is the file of no checkpoint of the query, with the values of its rules.
     BadCheckpoint,

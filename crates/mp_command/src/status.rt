@@ -9,7 +9,7 @@ use mp_command_files::Refusal;
 use mp_outside::{Fault, Sink, write_piece};
 
 /// How a call ended: the status of the process.
-#[derive(Clone, Copy, Debug, PartialEq, Eq)]
+#[derive(Clone, Copy)]
 pub struct Status {
     /// 0 where all is done, else the number of the refusal.
     pub code: u8,

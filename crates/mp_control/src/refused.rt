@@ -8,7 +8,7 @@ use std::fmt;
 
 /// The check that a line fails. A line is checked in the order of these variants; `Number`, `Range` and `Name` are
 /// checks of its fields, which go from left to right. All of them are this project's profile.
-#[derive(Clone, Copy, PartialEq, Eq, Debug)]
+#[derive(Clone, Copy, Debug)]
 pub enum ControlReason {
     /// The first field isn't `M`, `all`, `fluid` or `batch`, nor `first`, `rule` or `drain` where the file's version is 2, nor `V`
     /// where the line is the first that isn't blank.

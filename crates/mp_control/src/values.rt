@@ -11,7 +11,7 @@ use std::marker::Model;
 pub const MOST_RULES: usize = 2;
 
 /// The values of a query's rules: at most two. Contracts see a list of numbers.
-#[derive(Drop, Debug)]
+#[derive(Drop)]
 pub struct ValueList {
     values: ArrayVec<u64, MOST_RULES>,
 }

@@ -6,7 +6,7 @@ use std::marker::Model;
 
 /// Draws from a seed: each is the one before times 48,271, modulo 2^31 - 1 (a generator of Lehmer's, this
 /// project's profile). Contracts see the last draw.
-#[derive(Drop, Debug)]
+#[derive(Drop)]
 pub struct Draws {
     state: u64,
 }

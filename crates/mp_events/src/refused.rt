@@ -8,7 +8,7 @@ use std::fmt;
 
 /// The check that a line fails. A line is checked in the order of these variants; `Number`, `Range` and `Name` are
 /// checks of its fields, which go from left to right. All of them are this project's profile.
-#[derive(Clone, Copy, PartialEq, Eq, Debug)]
+#[derive(Clone, Copy, Debug)]
 pub enum EventsReason {
     /// As many events as a file may have stand before the line.
     Count,

@@ -14,7 +14,7 @@ pub trait Gate {
 }
 
 /// The gate that holds nobody back: it returns at once.
-#[derive(Clone, Copy, Debug, Drop)]
+#[derive(Clone, Copy, Drop)]
 pub struct OpenGate;
 
 impl Gate for OpenGate {

@@ -5,7 +5,7 @@ use mp_model::Time;
 use mp_msg::BinState;
 
 /// A packet of a stage that was sent: its bin, the time of its move, and how many keys of the bin then had a cell.
-#[derive(Clone, Copy, PartialEq, Eq, Debug)]
+#[derive(Clone, Copy)]
 pub struct Sent {
     /// From 0.
     pub bin: u32,

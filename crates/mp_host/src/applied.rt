@@ -2,7 +2,7 @@
 use mp_model::{Time, Value};
 
 /// A group that was applied, and what came of it.
-#[derive(Drop, Debug)]
+#[derive(Drop)]
 pub struct Applied {
     /// In units of the event file.
     pub time: Time,

@@ -2,7 +2,7 @@
 use mp_model::Time;
 
 /// A group that may be applied, and how much it may give.
-#[derive(Clone, Copy, Debug)]
+#[derive(Clone, Copy)]
 pub struct ReadyGroup {
     /// In units of the event file.
     pub time: Time,

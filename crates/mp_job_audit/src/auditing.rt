@@ -18,7 +18,7 @@ use mp_outline_lists::OutlineLists;
 use std::alloc::Global;
 
 /// How the run went that is audited.
-#[derive(Clone, Copy, Debug)]
+#[derive(Clone, Copy)]
 pub struct AuditPlan {
     /// How many messages a mailbox held, 1 to `MAX_DEPTH`.
     pub depth: u32,

@@ -8,7 +8,7 @@ use std::fmt;
 
 /// The check that a line fails. A line is checked in the order of these variants; `Number` and `Range` are checks of its fields,
 /// which go from left to right. All of them are this project's profile.
-#[derive(Clone, Copy, PartialEq, Eq, Debug)]
+#[derive(Clone, Copy, Debug)]
 pub enum JournalReason {
     /// The first field isn't `s`, or the third is no step's letter.
     Kind,

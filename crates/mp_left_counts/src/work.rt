@@ -5,7 +5,7 @@ ghost use Rattle.mp_stamps.specs.Counts.{same_loc};
 use mp_names::{Loc, Time};
 
 /// So much work at a location and time: names to send, to take, to ingest, to settle or to apply.
-#[derive(Clone, Copy, PartialEq, Eq, Debug)]
+#[derive(Clone, Copy)]
 pub struct Work {
     /// The location.
     pub loc: Loc,

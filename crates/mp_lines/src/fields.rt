@@ -4,7 +4,7 @@ use crate::{FieldCheck, NumberLimit};
 use mp_text::BadNumber;
 
 /// What a field may say. The limits of a file's fields are this project's profile.
-#[derive(Clone, Copy, PartialEq, Eq, Debug)]
+#[derive(Clone, Copy)]
 pub enum FieldLimit {
     /// A number within this limit.
     NumberWithin(NumberLimit),
@@ -13,7 +13,7 @@ pub enum FieldLimit {
 }
 
 /// Why a field isn't within its limit.
-#[derive(Clone, Copy, PartialEq, Eq, Debug)]
+#[derive(Clone, Copy)]
 pub enum BadField {
     /// It should say a number, and is none, or one outside the limit.
     Number(BadNumber),

@@ -6,7 +6,7 @@ use crate::FieldCheck;
 use mp_text::{BadNumber, number};
 
 /// How great the number of a field may be.
-#[derive(Clone, Copy, PartialEq, Eq, Debug)]
+#[derive(Clone, Copy)]
 pub enum NumberLimit {
     /// This or less.
     UpTo(u64),

@@ -19,7 +19,7 @@ pub trait Named {
 }
 
 /// The answer of a push into a full queue.
-#[derive(Debug, Drop)]
+#[derive(Drop)]
 pub struct Full<M> {
     /// The message, which was not pushed.
     pub message: M,

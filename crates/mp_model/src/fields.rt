@@ -8,7 +8,7 @@ use std::alloc::{AllocError, Global};
 use std::marker::Model;
 
 /// One field of a row, printed as decimal digits or as its bytes.
-#[derive(Drop, Debug)]
+#[derive(Drop)]
 pub enum Field {
     /// A number.
     Number(u64),
@@ -28,13 +28,12 @@ impl Clone for Field {
 }
 
 /// At most four fields, in order. Contracts see the list of them.
-#[derive(Debug)]
 pub struct Fields {
     fields: Stored,
 }
 
 // A value is moved often, so this is small: two numbers, as most rows have, stand in it, and other fields on the heap.
-#[derive(Drop, Debug)]
+#[derive(Drop)]
 enum Stored {
     Two([u64; 2]),
     Three(Box<[u64; 3]>),
@@ -42,7 +41,7 @@ enum Stored {
 }
 
 /// The fields of a row, lent.
-#[derive(Clone, Copy, Debug)]
+#[derive(Clone, Copy)]
 pub enum FieldList<'a> {
     /// Numbers alone.
     Numbers(&'a [u64]),

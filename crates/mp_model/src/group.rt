@@ -7,7 +7,7 @@ use std::marker::Model;
 
 /// A key at a time: whether the key is woken then, and its records of that time in order of their tags. The records are
 /// borrowed. Contracts see an `Entry`.
-#[derive(Drop, Debug)]
+#[derive(Drop)]
 pub struct Group<'a> {
     time: Time,
     key: u64,

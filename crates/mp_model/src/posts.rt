@@ -6,7 +6,6 @@ use arrayvec::ArrayVec;
 use std::marker::Model;
 
 /// At most six times, in order. Contracts see the list of them.
-#[derive(Debug)]
 pub struct PostList {
     times: ArrayVec<Time, 6>,
 }

@@ -5,7 +5,7 @@ use crate::{Tag, Time, Value};
 use std::alloc::AllocError;
 
 /// One event of the event file.
-#[derive(Drop, Debug)]
+#[derive(Drop)]
 pub struct Event {
     /// In units of the event file.
     pub time: Time,
@@ -14,7 +14,7 @@ pub struct Event {
 }
 
 /// A record of a key, as a stage takes it.
-#[derive(Drop, Debug)]
+#[derive(Drop)]
 pub struct Rec {
     /// In units of the event file.
     pub time: Time,
@@ -27,7 +27,7 @@ pub struct Rec {
 }
 
 /// One output of a group, with the group's time.
-#[derive(Drop, Debug)]
+#[derive(Drop)]
 pub struct Output {
     /// In units of the event file.
     pub time: Time,
@@ -38,7 +38,7 @@ pub struct Output {
 }
 
 /// Where a row stands in the answer: rows ascend by time, and then by tag.
-#[derive(Clone, Copy, PartialEq, Eq, PartialOrd, Ord, Debug)]
+#[derive(Clone, Copy, PartialEq, Eq, PartialOrd, Ord)]
 pub struct Place {
     /// In units of the event file.
     pub time: Time,

@@ -6,7 +6,7 @@ use arrayvec::ArrayVec;
 use std::marker::Model;
 
 /// A constant of a query that a configuration may set.
-#[derive(Clone, Copy, Default, Debug)]
+#[derive(Clone, Copy, Default)]
 pub struct Rule {
     /// Its name in a configuration.
     pub name: &'static str,
@@ -19,7 +19,6 @@ pub struct Rule {
 }
 
 /// At most two rules, in order. Contracts see a `RuleFacts` for each.
-#[derive(Debug)]
 pub struct RuleList {
     rules: ArrayVec<Rule, 2>,
 }

@@ -7,7 +7,6 @@ use std::sync::ArcSlice;
 
 /// Bytes of any value, such as the name of a person. Contracts see the list of the bytes.
 // A value holds up to three of these and is moved often, so a text is one pointer, and its clones share the bytes.
-#[derive(Debug)]
 pub struct Text {
     bytes: ArcSlice<u8>,
 }

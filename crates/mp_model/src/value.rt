@@ -7,7 +7,7 @@ use std::alloc::AllocError;
 /// What an event, a record or an output of a stage holds. Persons, auctions and bids are those of NEXMark; the limits of
 /// their numbers are this project's profile: ids, sellers, categories, auctions and bidders at most 2^48, reserves and
 /// prices at most 10^12, `expires` at most 2^47.
-#[derive(Drop, Debug)]
+#[derive(Drop)]
 pub enum Value {
     /// A person who may sell or bid.
     Person {

@@ -2,7 +2,7 @@
 use mp_names::Name;
 
 /// The names of a message, as a step tells them: the first one, and how many there are.
-#[derive(Clone, Copy, PartialEq, Eq, Debug, Drop)]
+#[derive(Clone, Copy, PartialEq, Eq, Drop)]
 pub struct Names {
     /// The first one.
     pub first: Name,

@@ -2,7 +2,7 @@
 use crate::Time;
 
 /// How many workers, bins and stages a job has, each at least 1.
-#[derive(Clone, Copy, PartialEq, Eq, Hash, Debug)]
+#[derive(Clone, Copy)]
 pub struct Shape {
     /// From 1 to 64.
     pub workers: u32,
@@ -14,7 +14,7 @@ pub struct Shape {
 
 /// A control record, as in Megaphone's control stream: from this time on the worker owns the bin of
 /// the stage, until a later record says otherwise.
-#[derive(Clone, Copy, PartialEq, Eq, Hash, Debug)]
+#[derive(Clone, Copy, PartialEq, Eq)]
 pub struct Control {
     /// In units of the event file, at most 2^47.
     pub time: Time,
@@ -27,7 +27,7 @@ pub struct Control {
 }
 
 /// The first owner of a bin, as a configuration says it.
-#[derive(Clone, Copy, PartialEq, Eq, Hash, Debug)]
+#[derive(Clone, Copy, PartialEq, Eq)]
 pub struct First {
     /// From 0.
     pub stage: u32,
@@ -39,7 +39,7 @@ pub struct First {
 
 /// A change of a bin's owner at a time. Moves are ordered by time, stage and bin, as a report lists
 /// them.
-#[derive(Clone, Copy, PartialEq, Eq, PartialOrd, Ord, Hash, Debug)]
+#[derive(Clone, Copy, PartialEq, Eq, PartialOrd, Ord)]
 pub struct Move {
     /// In units of the event file.
     pub time: Time,

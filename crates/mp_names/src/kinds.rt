@@ -2,7 +2,7 @@
 
 /// One of the ten kinds of step, in the order in which a worker's round tries them. A number is a
 /// stage, but for `Receive`, where it is the sending worker.
-#[derive(Clone, Copy, PartialEq, Eq, PartialOrd, Ord, Hash, Debug)]
+#[derive(Clone, Copy, PartialEq, Eq)]
 pub enum Kind {
     /// The next record of the share goes to the router of stage 0.
     Ingest,
@@ -27,7 +27,7 @@ pub enum Kind {
 }
 
 /// A step that a worker kept: its kind, and of an exchange the version of the board after it, else 0.
-#[derive(Clone, Copy, PartialEq, Eq, Debug)]
+#[derive(Clone, Copy, PartialEq, Eq)]
 pub struct Kept {
     /// The kind of step.
     pub kind: Kind,

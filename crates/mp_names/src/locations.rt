@@ -2,7 +2,7 @@
 use crate::Time;
 
 /// A location of the dataflow, as in Naiad's pointstamps. Those with a number are of that stage.
-#[derive(Clone, Copy, PartialEq, Eq, PartialOrd, Ord, Hash, Debug)]
+#[derive(Clone, Copy, PartialEq, Eq)]
 pub enum Loc {
     /// Control records not yet sent.
     Ctl,
@@ -27,7 +27,7 @@ pub enum Loc {
 }
 
 /// The least time at which something can still come to a location, or that nothing can.
-#[derive(Clone, Copy, PartialEq, Eq, Hash, Debug)]
+#[derive(Clone, Copy, PartialEq, Eq)]
 pub enum Frontier {
     /// Something may still come at this time; nothing before it.
     At(Time),

@@ -4,12 +4,12 @@ use crate::Time;
 /// What tells the records of one stage and time apart, and orders them. In stage 0 it is (0, the
 /// event's index); later it is (the key of the group that gave the record, its place among that
 /// group's outputs). This project's profile.
-#[derive(Clone, Copy, PartialEq, Eq, PartialOrd, Ord, Hash, Debug)]
+#[derive(Clone, Copy, PartialEq, Eq, PartialOrd, Ord)]
 pub struct Tag(pub u64, pub u64);
 
 /// What a thing of a job is called in the logs of its workers. Times are whole numbers of the
 /// event file's own unit; stages, bins, workers and indices count from 0.
-#[derive(Clone, Copy, PartialEq, Eq, Hash, Debug)]
+#[derive(Clone, Copy, PartialEq, Eq)]
 pub enum Name {
     /// The control record at this index of the list, on its way to worker `to`.
     Ctrl {

@@ -2,7 +2,7 @@
 use crate::{Loc, Time};
 
 /// A time at a location of the dataflow, as in Naiad: outstanding work is counted by its pointstamp.
-#[derive(Clone, Copy, PartialEq, Eq, PartialOrd, Ord, Hash, Debug)]
+#[derive(Clone, Copy, PartialEq, Eq)]
 pub struct Pointstamp {
     /// Where the work is.
     pub loc: Loc,
@@ -11,7 +11,7 @@ pub struct Pointstamp {
 }
 
 /// What is added to the count of a pointstamp, as in Naiad's progress updates.
-#[derive(Clone, Copy, PartialEq, Eq, Hash, Debug)]
+#[derive(Clone, Copy, PartialEq, Eq)]
 pub struct Change {
     /// Of which pointstamp.
     pub at: Pointstamp,
@@ -21,7 +21,7 @@ pub struct Change {
 
 /// How much work is outstanding at a pointstamp, as in Naiad's occurrence counts. It may be negative: what is taken may be
 /// known before it is known to be sent.
-#[derive(Clone, Copy, PartialEq, Eq, Hash, Debug)]
+#[derive(Clone, Copy)]
 pub struct Count {
     /// Of which pointstamp.
     pub at: Pointstamp,
@@ -30,7 +30,7 @@ pub struct Count {
 }
 
 /// A bin at the time of its move, as the packets of a stage are ordered: by time, then by bin.
-#[derive(Clone, Copy, PartialEq, Eq, PartialOrd, Ord, Hash, Debug)]
+#[derive(Clone, Copy)]
 pub struct TimedBin {
     /// In units of the event file.
     pub time: Time,
@@ -39,7 +39,7 @@ pub struct TimedBin {
 }
 
 /// The next control record that worker 0 sends: each goes to every worker in turn.
-#[derive(Clone, Copy, PartialEq, Eq, Hash, Debug)]
+#[derive(Clone, Copy)]
 pub struct ControlCursor {
     /// The place of the record in the list of control records, from 0.
     pub index: u32,

@@ -3,7 +3,7 @@ use mp_model::{Query, Time};
 use std::marker::Model;
 
 /// What a stage keeps of a key.
-#[derive(Drop, Debug)]
+#[derive(Drop)]
 pub struct KeyCell<C> {
     /// From 0.
     pub stage: u32,
@@ -14,7 +14,7 @@ pub struct KeyCell<C> {
 }
 
 /// A time at which a key is to be woken in a stage. Contracts see a saved wake.
-#[derive(Clone, Copy, Debug)]
+#[derive(Clone, Copy)]
 pub struct KeyWake {
     /// From 0.
     pub stage: u32,

@@ -1,5 +1,5 @@
 //! A checkpoint with the places of its cells and its wakes by bin.
-ghost use Rattle.std.specs.Prelude.{◌≡◌, ◌↔◌, ℕ, All, AllPairs, Contains, IfOk, length, map};
+ghost use Rattle.std.specs.Prelude.{◌≡◌, ◌↔◌, ℕ, All, AllPairs, Contains, IfOk, map};
 ghost use Rattle.mp_layout.specs.Bins.{IsBinCount};
 ghost use Rattle.mp_model.specs.QueryLaws.{WakeIsBefore};
 ghost use Rattle.mp_opening.specs.Checkpoints.{KeyIsBefore};
@@ -75,13 +75,6 @@ impl<Q: Query> Opening<Q> {
         ensures { result ≡ self.now.from.time }
     {
         self.checkpoint.time
-    }
-
-    /// How many wakes it has.
-    pub fn count_of_wakes(&self) -> usize
-        ensures { result ≡ length self.now.from.wakes }
-    {
-        self.checkpoint.wakes.len()
     }
 
     /// Copies of the cells of a bin of a stage, with their keys. `AllocError`: no memory.

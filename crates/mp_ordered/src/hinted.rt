@@ -12,7 +12,7 @@ use std::cell::Cell;
 use std::collections::VecDeque;
 
 /// Where a look ended. As items come and go it points to others, or to none.
-#[derive(Clone, Copy, Debug, Drop)]
+#[derive(Clone, Copy, Drop)]
 pub struct Spot {
     /// The block, from 0.
     pub block: usize,

@@ -7,7 +7,7 @@ ghost use Rattle.mp_outside.specs.declared.fault.ReadRefused.TheVariants.{NoMemo
 use std::alloc::AllocError;
 
 /// Why a depot or a sink refused a call.
-#[derive(Clone, Copy, Debug, PartialEq, Eq)]
+#[derive(Clone, Copy, Debug)]
 pub enum Fault {
     /// The outside failed: the count of faults of the object that was called rose, or stands at its
     /// last value, 2^64 - 1.

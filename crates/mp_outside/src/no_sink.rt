@@ -6,7 +6,7 @@ use crate::{Fault, Sink};
 
 /// A sink for those who write nothing, as every worker but the first. It takes no call: each is
 /// answered `Failed`, nothing is ever written, and its count stands at its last value.
-#[derive(Clone, Copy, Debug, Default)]
+#[derive(Clone, Copy, Default)]
 pub struct NoSink;
 
 impl Sink for NoSink {

@@ -10,7 +10,7 @@ use mp_outline_lists::OutlineLists;
 use std::alloc::{AllocError, Global};
 
 /// By whom names are parted.
-#[derive(Clone, Copy, PartialEq, Eq, Debug)]
+#[derive(Clone, Copy)]
 pub enum By {
     /// By the worker that sends them.
     Sender,

@@ -5,7 +5,7 @@ use crate::kinds::test_of;
 use mp_lines::{FieldCheck, NumberLimit};
 
 /// What a field of a stage's line has to be.
-#[derive(Clone, Copy, PartialEq, Eq, Debug)]
+#[derive(Clone, Copy)]
 pub enum StageField {
     /// A number within this limit.
     Number(NumberLimit),

@@ -8,7 +8,7 @@ use std::fmt;
 
 /// The check that a line fails. The first field of a line is checked first, then how many fields it has, then each of them from left to
 /// right, and then what stands before it. All of them are this project's profile.
-#[derive(Clone, Copy, PartialEq, Eq, Debug)]
+#[derive(Clone, Copy, Debug)]
 pub enum PipeReason {
     /// The first field isn't `on`, `pass`, `count`, `sum` or `window`, a kind of events isn't `P`, `A` or `B`, or a test isn't
     /// `any`, `lt`, `eq` or `ge`.

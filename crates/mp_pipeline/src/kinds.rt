@@ -5,7 +5,7 @@ ghost use Rattle.mp_pipeline.specs.Records.{is_of_kind};
 use mp_model::Value;
 
 /// The kind of the events that go into a pipeline.
-#[derive(Clone, Copy, PartialEq, Eq, Debug)]
+#[derive(Clone, Copy)]
 pub enum EventKind {
     /// Persons, with 2 fields: time, id.
     Person,

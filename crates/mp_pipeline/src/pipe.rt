@@ -9,7 +9,7 @@ use std::alloc::{AllocError, Global};
 use std::marker::Model;
 
 /// A pipeline: the kind of the events that go in, and the line of each of its stages. Contracts see both.
-#[derive(Drop, Debug)]
+#[derive(Drop)]
 pub struct Pipe {
     kind: EventKind,
     lines: Vec<StageLine>,

@@ -7,7 +7,7 @@ use crate::numbers::number_in;
 use mp_model::{PostList, Rec, Time, Value};
 
 /// What a stage makes of the records of a key.
-#[derive(Clone, Copy, PartialEq, Eq, Debug)]
+#[derive(Clone, Copy)]
 pub enum Form {
     /// The value of each.
     Pass,
@@ -20,7 +20,7 @@ pub enum Form {
 }
 
 /// How a field is compared with a number.
-#[derive(Clone, Copy, PartialEq, Eq, Debug)]
+#[derive(Clone, Copy)]
 pub enum Test {
     /// Not at all.
     Any,
@@ -33,7 +33,7 @@ pub enum Test {
 }
 
 /// A stage, as its line says it. Fields are numbered from 0, the time; those of a later stage are time, key and value.
-#[derive(Clone, Copy, PartialEq, Eq, Debug)]
+#[derive(Clone, Copy)]
 pub struct StageLine {
     /// What it makes of the records of a key.
     pub form: Form,

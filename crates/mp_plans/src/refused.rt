@@ -5,7 +5,7 @@ ghost use Rattle.mp_plans.specs.declared.refused.PlanRefused.TheVariants.{NoMemo
 use std::alloc::AllocError;
 
 /// Why a plan appends no records.
-#[derive(Clone, Copy, PartialEq, Eq, Debug)]
+#[derive(Clone, Copy, Debug)]
 pub enum PlanRefused {
     /// The list would have this many records, more than 65,536.
     TooMany {

@@ -3,7 +3,7 @@
 use mp_chart::Entry;
 
 /// A message on its way. All its names are of one location and time.
-#[derive(Clone, Copy, PartialEq, Eq, Debug, Drop)]
+#[derive(Clone, Copy, Drop)]
 pub struct Message {
     /// Its first name.
     pub first: Entry,

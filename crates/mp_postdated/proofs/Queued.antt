@@ -1,20 +1,18 @@
 -- The queue of a set of wakes: what a removal of its first leaves, and that its first is the least.
-use Rattle.std.proofs.Common.{◌≡◌, ◌⊎◌, ℕ, zero, suc, ◌<◌, ◌≤◌, ◌+◌, ◌/◌, Bool, true, false, not, List, [], ◌∷◌, Option, None, Some, IfSome, IsSome, OnSome, IsPermutation, Contains, cond, drop, length, get_or, slice_get, slice_index_or, refl, sym, ap, ◌∙◌, subst, inl, inr, ⊎_elim, arith}
+use Rattle.std.proofs.Common.{◌≡◌, ◌⊎◌, ℕ, zero, suc, ◌<◌, ◌≤◌, ◌+◌, ◌/◌, Bool, true, false, not, List, [], ◌∷◌, Option, None, Some, IfSome, IsSome, OnSome, IsPermutation, Contains, length, get_or, slice_get, slice_index_or, refl, sym, ap, ◌∙◌, subst, inl, inr, ⊎_elim, arith}
 use Rattle.std.proofs.lemmas.Bool.{false≢true}
-use Rattle.std.proofs.lemmas.Cmp.{tied_itself}
 use Rattle.std.proofs.lemmas.List.Sorted.{Contains-permutation, IsPermutation-remove, IsPermutation-sym, length_permutation}
 use Rattle.std.proofs.lemmas.Map.Keys.{IsDistinct-head, IsDistinct-tail, sorted_head}
 use Rattle.std.specs.BinaryHeap.{IsHeap, IsUpperBound, PopsGreatest, lt_by_cmp}
 use Rattle.std.specs.Bool.{OnFalse}
 use Rattle.std.specs.List.{AllByRecursion, IsDistinct, list_any, remove}
 use Rattle.std.specs.List.Sorted.{IsStrictlySortedBy}
-use Rattle.std.specs.Ordering.{eq_by_cmp, is_eq, is_lt}
-use Rattle.std.specs.Set.{remove_key}
+use Rattle.std.specs.Ordering.{eq_by_cmp, is_lt}
 use Rattle.std.specs.declared.cmp.Ordering.TheVariants.{Less}
 use Rattle.std.specs.declared.cmp.Reverse.{Reverse}
-use Rattle.mp_postdated.proofs.Membership.{has-by_search, remove_key-is_without_wake, wake_cmp-total}
+use Rattle.mp_postdated.proofs.Membership.{has-by_search}
 use Rattle.mp_postdated.proofs.Ordered.{Finds, has-ordered, has_found, has_in, has_out, is_ordered, none_equal, same_pair, same_pair-exact, same_parts}
-use Rattle.mp_postdated.specs.Wakes.{AreQueued, BeginsLive, ComesNoLater, Has, IsAscending, IsQueueOf, IsWake, ordered, queue_cmp, reversed, wake_cmp, without_wake}
+use Rattle.mp_postdated.specs.Wakes.{AreQueued, BeginsLive, ComesNoLater, Has, IsAscending, IsQueueOf, IsWake, ordered, queue_cmp, reversed, wake_cmp}
 
 -- two neither of which comes later are the same
 pub neither_later : (v w : ℕ × ℕ) → ComesNoLater v w → ComesNoLater w v → v ≡ w
@@ -217,12 +215,3 @@ first_is_least (x ∷ xs) w a h n =
     (λ (e : x ≡ w). ap Some e)
     (λ (i : Contains xs w). absurd (not_both x w (after_head x xs w (sorted_head wake_cmp x xs a) i) (n x.0 x.1 (0, omega arith, refl))))
     (cases_in x w xs h)
-
--- without the first of ascending wakes there are the others
-pub without_first : (ws : List (ℕ × ℕ)) (t k : ℕ) → IsAscending ws → Some (t, k) ≡ slice_get ws 0 → without_wake ws t k ≡ drop 1 ws
-without_first [] t k a e = refl
-without_first (x ∷ xs) t k a e =
-    let here : Some (t, k) ≡ Some x = e in
-    let first : (t, k) ≡ x = cc in
-    let same : eq_by_cmp wake_cmp (t, k) x ≡ true = subst (λ (w : ℕ × ℕ). eq_by_cmp wake_cmp (t, k) w ≡ true) first (ap is_eq (tied_itself wake_cmp-total (t, k))) in
-    sym (remove_key-is_without_wake (x ∷ xs) t k a) ∙ ap (λ b. cond b xs (x ∷ remove_key (eq_by_cmp wake_cmp (t, k)) xs)) same

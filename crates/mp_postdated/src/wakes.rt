@@ -1,5 +1,5 @@
 //! A set of wakes, and which of them comes first.
-ghost use Rattle.std.specs.Prelude.{◌≡◌, ◌↔◌, ◌⊎◌, ◌<◌, ◌≤◌, ◌+◌, ◌^◌, ℕ, [], IsPermutation, drop, length, slice_get, IfSome, IfNone, IsTrue, OnErr, OnOk};
+ghost use Rattle.std.specs.Prelude.{◌≡◌, ◌↔◌, ◌⊎◌, ◌<◌, ◌≤◌, ◌+◌, ◌^◌, ℕ, [], IsPermutation, length, slice_get, IfSome, IfNone, IsTrue, OnErr, OnOk};
 ghost use Rattle.std.specs.Bool.{OnFalse};
 ghost use Rattle.mp_postdated.specs.Wakes.{ComesNoLater, Has, IsAmongWakes, IsAscending, IsWake, with_wake, without_wake};
 
@@ -153,18 +153,6 @@ impl Wakes {
         let was_there = self.live.swap_remove(&(time, key));
         drop_wake(&mut self.queue, &self.live, time, key);
         was_there
-    }
-
-    /// Takes out the first wake by time and then by key; `None` exactly where there is none. Takes no memory.
-    pub fn pop_least(&mut self) -> Option<(Time, u64)>
-        ensures first { result ≡ slice_get self.old.wakes 0 }
-        ensures rest { self.new.wakes ≡ drop 1 self.old.wakes }
-        ensures ascending { IsAscending self.new.wakes }
-    {
-        let _ = &self.live;
-        let (time, key) = self.least()?;
-        self.take_due(time, key);
-        Some((time, key))
     }
 
     /// Whether a key is to be woken at a time.

@@ -10,7 +10,7 @@ use mp_saved::Words;
 use std::alloc::{AllocError, Global};
 
 /// A person's name, city and state. It is public only as a part of q3's `Cell`.
-#[derive(Drop, Debug)]
+#[derive(Drop)]
 pub struct Home {
     name: Text,
     city: Text,

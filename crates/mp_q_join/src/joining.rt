@@ -12,7 +12,7 @@ use std::marker::Model;
 
 /// The person, if it came, and the ids of the auctions that wait for it, in order. It is public only as the `Cell` of
 /// q3.
-#[derive(Drop, Debug)]
+#[derive(Drop)]
 pub struct Joining {
     home: Option<Home>,
     waiting: Vec<u64>,

@@ -11,7 +11,7 @@ use std::alloc::{AllocError, Global};
 
 /// The query q3: the auctions of a category of the sellers of three states. The subject is NEXMark's, the table this
 /// project's profile.
-#[derive(Drop, Debug)]
+#[derive(Drop)]
 pub struct Q3 {
     category: u64,
     ghost within: { category ≤ greatest_id },

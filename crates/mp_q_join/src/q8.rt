@@ -10,7 +10,7 @@ use std::alloc::{AllocError, Global};
 
 /// The query q8: the persons who sell on the day on which they came. The subject is NEXMark's, the table and the length of a
 /// day this project's profile.
-#[derive(Drop, Debug)]
+#[derive(Drop)]
 pub struct Q8 {
     width: u64,
     ghost some_width: { 1 ≤ width },

@@ -10,7 +10,7 @@ use mp_saved::Words;
 use std::alloc::{AllocError, Global};
 
 /// The name of a person, if it came, and whether it sells. It is public only as the `Cell` of q8.
-#[derive(Drop, Debug)]
+#[derive(Drop)]
 pub struct Selling {
     name: Option<Text>,
     sells: bool,

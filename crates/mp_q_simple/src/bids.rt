@@ -51,14 +51,14 @@ pub trait RowOf: Drop {
 }
 
 /// The query that gives the rows of bids, by this rule. It is public only as the type of `Q1` and `Q2`.
-#[derive(Drop, Debug)]
+#[derive(Drop)]
 pub struct Bids<R> {
     pub(crate) rule: R,
 }
 
 /// The cell of a query that keeps nothing of a key, which is always fresh. It is public only as the `Cell` of these
 /// queries.
-#[derive(Drop, Debug)]
+#[derive(Drop)]
 pub struct Nothing {}
 
 impl<R: RowOf + Sync> Query for Bids<R> {

@@ -13,7 +13,7 @@ use std::alloc::{AllocError, Global};
 pub type Q1 = Bids<InEuros>;
 
 /// The rows of q1: so many euros are so many dollars. It is public only as a part of `Q1`.
-#[derive(Drop, Debug)]
+#[derive(Drop)]
 pub struct InEuros {
     num: u64,
     den: u64,

@@ -13,7 +13,7 @@ use std::alloc::{AllocError, Global};
 pub type Q2 = Bids<OnMultiples>;
 
 /// The rows of q2. It is public only as a part of `Q2`.
-#[derive(Drop, Debug)]
+#[derive(Drop)]
 pub struct OnMultiples {
     modulus: u64,
     ghost positive: { 1 ≤ modulus },

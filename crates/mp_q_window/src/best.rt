@@ -11,7 +11,7 @@ use std::marker::Model;
 
 /// What a bid offers. Its numbers have the limits of a bid, of this project's profile. It is public only as a part of
 /// q7's `Cell`.
-#[derive(Clone, Copy, Debug)]
+#[derive(Clone, Copy)]
 pub struct Offer {
     /// Its id, at most 2^48.
     pub auction: u64,
@@ -23,7 +23,7 @@ pub struct Offer {
 
 /// The offer of the greatest price of a window so far, the first where prices are equal. Contracts see it, or none. It
 /// is public only as the `Cell` of q7.
-#[derive(Drop, Debug)]
+#[derive(Drop)]
 pub struct Best {
     best: Option<Offer>,
 }

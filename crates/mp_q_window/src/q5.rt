@@ -12,7 +12,7 @@ use std::alloc::{AllocError, Global};
 /// The query q5: the auctions with the most bids in each window, which is some slides long and ends at a multiple of a slide.
 /// Stage 0 counts the bids on each auction, stage 1 keeps the greatest counts. The subject is NEXMark's, the table and
 /// the lengths this project's profile.
-#[derive(Drop, Debug)]
+#[derive(Drop)]
 pub struct Q5 {
     slide: u64,
     slides: u64,

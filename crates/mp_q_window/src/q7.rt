@@ -11,7 +11,7 @@ use std::alloc::{AllocError, Global};
 
 /// The query q7: the best bid of each window, which ends at a multiple of its length. The subject is NEXMark's, the table and
 /// the length this project's profile.
-#[derive(Drop, Debug)]
+#[derive(Drop)]
 pub struct Q7 {
     width: u64,
     ghost some_width: { 1 ≤ width },

@@ -12,7 +12,7 @@ use std::marker::Model;
 
 /// The times of the bids on an auction, in the order in which they came. Contracts see the list of them. It is public
 /// only as the `Cell` of q5.
-#[derive(Drop, Debug)]
+#[derive(Drop)]
 pub struct Recent {
     times: Vec<Time>,
 }

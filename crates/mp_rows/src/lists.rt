@@ -1,7 +1,7 @@
 //! The five lists of names of a log.
 
 /// One of a log's lists.
-#[derive(Clone, Copy, PartialEq, Eq, Debug)]
+#[derive(Clone, Copy)]
 pub enum LogList {
     /// The records of its share that a worker has ingested.
     Ingested,

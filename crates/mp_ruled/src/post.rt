@@ -88,19 +88,3 @@ impl<M: Named, R> RuledPost<M, R> {
         }
     }
 }
-
-impl<M: Named, R: Drop> RuledPost<M, R> {
-    /// The ends.
-    pub fn into_ends(self) -> (Vec<SenderEnd<M>>, Vec<ReceiverEnd<M>>)
-        ensures senders { result.0.items ≡ self.senders }
-        ensures receivers { result.1.items ≡ self.receivers }
-    {
-        let RuledPost {
-            rt: _,
-            worker: _,
-            senders,
-            receivers,
-        } = self;
-        (senders, receivers)
-    }
-}

@@ -9,7 +9,7 @@ use std::marker::Model;
 const SEPARATOR: u8 = b'|';
 
 /// The words of a text, cut at each `|`, given one by one. Contracts see the words that are left.
-#[derive(Drop, Debug)]
+#[derive(Drop)]
 pub struct Words<'a> {
     rest: &'a [u8],
     is_over: bool,

@@ -17,7 +17,7 @@ use mp_names::{Frontier, Loc};
 
 /// The frontier of each location as it was seen at an exchange, and how many changes of the posted logs
 /// came before. It has a fixed size, and takes no memory.
-#[derive(Clone, Copy, PartialEq, Eq, Debug)]
+#[derive(Clone, Copy)]
 pub struct Seen {
     version: u64,
     stages: u32,

@@ -10,7 +10,7 @@ use mp_names::limits::MAX_STAGES;
 const STAGES: usize = MAX_STAGES as usize;
 
 /// How many steps of each kind that goes along a list a worker has made; where there are stages, of each of them.
-#[derive(Clone, Copy, PartialEq, Eq, Debug)]
+#[derive(Clone, Copy)]
 pub struct Done {
     /// Records of its share that are ingested.
     pub ingested: usize,

@@ -9,7 +9,7 @@ use mp_model::{Naming, Query, Time};
 use std::alloc::{AllocError, Global};
 
 /// A packet that a worker sent: its stage, its bin, the time of its move, and how many keys of the bin then had a cell.
-#[derive(Clone, Copy, PartialEq, Eq, Debug)]
+#[derive(Clone, Copy)]
 pub struct Moved {
     /// From 0.
     pub stage: u32,

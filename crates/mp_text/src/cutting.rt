@@ -12,7 +12,7 @@ const LINE_FEED: u8 = b'\n';
 const CARRIAGE_RETURN: u8 = b'\r';
 
 /// A line of a text, without its line feed and without the one carriage return that may end it.
-#[derive(Clone, Copy, Debug)]
+#[derive(Clone, Copy)]
 pub struct Line<'a> {
     /// The line's number in its text, from 1.
     pub number: u64,
@@ -22,7 +22,7 @@ pub struct Line<'a> {
 
 /// The lines of a text, given one by one. Contracts see the lines that are left and the number of
 /// the next.
-#[derive(Debug, Drop)]
+#[derive(Drop)]
 pub struct Lines<'a> {
     rest: &'a [u8],
     given: u64,

@@ -14,7 +14,7 @@ use std::error::Error;
 use std::fmt;
 
 /// What is wrong with a text that should say a number.
-#[derive(Clone, Copy, PartialEq, Eq, Debug)]
+#[derive(Clone, Copy, Debug)]
 pub enum BadNumber {
     /// It is empty, or has a byte that is no digit.
     Digits,

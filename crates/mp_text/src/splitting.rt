@@ -12,7 +12,7 @@ const SEPARATOR: u8 = b'|';
 
 /// The fields of a line: how many there are, and the bytes of the first eight. Contracts see it as
 /// the list of all of them.
-#[derive(Debug, Drop)]
+#[derive(Drop)]
 pub struct FieldList<'a> {
     line: &'a [u8],
     count: usize,

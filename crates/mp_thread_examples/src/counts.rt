@@ -10,7 +10,7 @@ use std::thread::{Threads, join};
 
 /// Two numbers, neither above 1,000, and how often one of them was raised. Contracts see the numbers and
 /// that count.
-#[derive(Debug, Drop)]
+#[derive(Drop)]
 pub struct Counts {
     left: u64,
     right: u64,

@@ -8,7 +8,7 @@ use std::sync::Wait;
 use std::thread;
 
 /// A number, which goes from worker 0 to worker 1 and is its own name.
-#[derive(Debug, Drop)]
+#[derive(Drop)]
 pub struct Number {
     /// The number that is sent.
     pub value: u64,

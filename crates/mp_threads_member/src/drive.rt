@@ -27,7 +27,7 @@ use std::sync::Wait;
 const STEPS_OF_A_KIND: u32 = 64;
 
 /// What a round of a worker came to, in which it tried each kind of step.
-#[derive(Clone, Copy, PartialEq, Eq, Debug)]
+#[derive(Clone, Copy)]
 pub enum Round {
     /// The worker knows that all is over.
     Over,

@@ -11,7 +11,7 @@ use mp_output::OutRefused;
 use std::alloc::AllocError;
 
 /// What came of a step.
-#[derive(Clone, Copy, PartialEq, Eq, Debug)]
+#[derive(Clone, Copy, PartialEq, Eq)]
 pub enum Turn {
     /// The step was made: names were put into the worker's log, of which this is the first, and which are so many; several
     /// only where records travel together.
@@ -25,7 +25,7 @@ pub enum Turn {
 }
 
 /// Why a worker stops.
-#[derive(Clone, Copy, PartialEq, Eq, Debug)]
+#[derive(Clone, Copy, Debug)]
 pub enum Stop {
     /// A write failed.
     Write,

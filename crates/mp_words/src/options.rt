@@ -1,7 +1,7 @@
 //! What commands ask for.
 
 /// A query that can be run, by its name in NEXMark.
-#[derive(Clone, Copy, PartialEq, Eq)]
+#[derive(Clone, Copy)]
 pub enum QueryName {
     /// `q1`
     Q1,
@@ -22,7 +22,7 @@ pub enum QueryName {
 }
 
 /// The query of a dataflow that runs on files.
-#[derive(Clone, Copy, PartialEq, Eq)]
+#[derive(Clone, Copy)]
 pub enum QueryOption<'a> {
     /// The query of a name.
     Named(QueryName),
@@ -31,7 +31,7 @@ pub enum QueryOption<'a> {
 }
 
 /// What the words ask for.
-#[derive(Clone, Copy, PartialEq, Eq)]
+#[derive(Clone, Copy)]
 pub enum Command<'a> {
     /// `run` or `replay`: to run a dataflow and write its answer.
     Run(RunOptions<'a>),
@@ -46,7 +46,7 @@ pub enum Command<'a> {
 }
 
 /// How the workers of a run take turns.
-#[derive(Clone, Copy, PartialEq, Eq)]
+#[derive(Clone, Copy)]
 pub enum Schedule {
     /// On threads, as these go: what `run` asks for.
     Threads,
@@ -55,7 +55,7 @@ pub enum Schedule {
 }
 
 /// Which part of the events a run takes.
-#[derive(Clone, Copy, PartialEq, Eq)]
+#[derive(Clone, Copy)]
 pub enum Span<'a> {
     /// All events.
     Whole,
@@ -71,7 +71,7 @@ pub enum Span<'a> {
 }
 
 /// What `run` and `replay` are to do. Names are as the words say them, the empty name among them.
-#[derive(Clone, Copy, PartialEq, Eq)]
+#[derive(Clone, Copy)]
 pub struct RunOptions<'a> {
     /// The query of the dataflow.
     pub query: QueryOption<'a>,
@@ -100,7 +100,7 @@ pub struct RunOptions<'a> {
 }
 
 /// What `check` is to read.
-#[derive(Clone, Copy, PartialEq, Eq)]
+#[derive(Clone, Copy)]
 pub struct CheckOptions<'a> {
     /// The query that the configuration is read for.
     pub query: QueryOption<'a>,
@@ -115,7 +115,7 @@ pub struct CheckOptions<'a> {
 }
 
 /// What `make` is to write.
-#[derive(Clone, Copy, PartialEq, Eq)]
+#[derive(Clone, Copy)]
 pub struct MakeOptions<'a> {
     /// How many events, from 0 to [`MAX_EVENTS`](mp_names::limits::MAX_EVENTS).
     pub count: u32,
@@ -126,7 +126,7 @@ pub struct MakeOptions<'a> {
 }
 
 /// What `demo` is to run.
-#[derive(Clone, Copy, PartialEq, Eq)]
+#[derive(Clone, Copy)]
 pub struct DemoOptions {
     /// The query of the dataflow.
     pub query: QueryName,
@@ -143,7 +143,7 @@ pub struct DemoOptions {
 }
 
 /// What `audit` is to read, and the machine that it asks for.
-#[derive(Clone, Copy, PartialEq, Eq)]
+#[derive(Clone, Copy)]
 pub struct AuditOptions<'a> {
     /// The query of the dataflow.
     pub query: QueryOption<'a>,

@@ -6,7 +6,7 @@ use std::error::Error;
 use std::fmt;
 
 /// Why words give no command.
-#[derive(Clone, Copy, PartialEq, Eq, Debug)]
+#[derive(Clone, Copy, Debug)]
 pub enum WordsRefused {
     /// The words aren't in the command set. It comes exactly there, but for an allocation failure.
     Usage,

@@ -1,7 +1,7 @@
 //! How the workers of a job are run.
 
 /// How the workers of a job are run: the answer doesn't depend on it.
-#[derive(Clone, Copy, PartialEq, Eq, Debug)]
+#[derive(Clone, Copy)]
 pub struct RunPlan {
     /// How many messages a mailbox takes, from 1.
     pub depth: u32,

@@ -9,7 +9,7 @@ use mp_model::{Naming, Query};
 use std::snapshot::Snapshot;
 
 /// What came of an exchange.
-#[derive(Clone, Copy, PartialEq, Eq, Debug)]
+#[derive(Clone, Copy)]
 pub enum Exchanged {
     /// The log was posted, or the board had changed: this version of the board was seen.
     Seen(u64),
