@@ -3,8 +3,8 @@ ghost use Rattle.std.specs.Prelude.{◌≡◌, ◌≤◌, length};
 ghost use Rattle.mp_control.specs.Values.{values_by};
 ghost use Rattle.mp_model.specs.Rules.{given_values};
 
-use arrayvec::ArrayVec;
 use mp_model::RuleList;
+use mp_short::ShortList;
 use std::marker::Model;
 
 /// How many rules a query has at most.
@@ -13,7 +13,7 @@ pub const MOST_RULES: usize = 2;
 /// The values of a query's rules: at most two. Contracts see a list of numbers.
 #[derive(Drop)]
 pub struct ValueList {
-    values: ArrayVec<u64, MOST_RULES>,
+    values: ShortList<u64, MOST_RULES>,
 }
 
 impl Model for ValueList {
@@ -21,7 +21,7 @@ impl Model for ValueList {
 
     ghost Value = { List ℕ };
 
-    ghost view = { λ v. v.values.items };
+    ghost view = { λ v. v.values };
 }
 
 impl ValueList {
@@ -38,7 +38,7 @@ impl ValueList {
         requires { length rules.now ≤ MOST_RULES }
         ensures { result ≡ values_by rules.now said }
     {
-        let mut values = ArrayVec::new();
+        let mut values = ShortList::new(0);
         for (place, rule) in rules.as_slice().iter().enumerate() {
             values.push(said[place].unwrap_or(rule.given));
         }

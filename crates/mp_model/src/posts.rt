@@ -2,12 +2,12 @@
 ghost use Rattle.std.specs.Prelude.{◌≡◌, ◌<◌, ◌++◌, ◌∷◌, [], length};
 
 use crate::Time;
-use arrayvec::ArrayVec;
+use mp_short::ShortList;
 use std::marker::Model;
 
 /// At most six times, in order. Contracts see the list of them.
 pub struct PostList {
-    times: ArrayVec<Time, 6>,
+    times: ShortList<Time, 6>,
 }
 
 // By hand, so that crates above call it and don't write out the drop of each field.
@@ -22,7 +22,7 @@ impl Model for PostList {
 
     ghost Value = { List ℕ };
 
-    ghost view = { λ p. p.times.items };
+    ghost view = { λ p. p.times };
 }
 
 impl PostList {
@@ -31,7 +31,7 @@ impl PostList {
         ensures { result ≡ [] }
     {
         PostList {
-            times: ArrayVec::new(),
+            times: ShortList::new(0),
         }
     }
 

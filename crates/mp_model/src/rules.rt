@@ -2,11 +2,11 @@
 ghost use Rattle.std.specs.Prelude.{◌≡◌, ◌<◌, ◌++◌, ◌∷◌, [], length, map};
 ghost use Rattle.mp_model.specs.Rules.{RuleFacts};
 
-use arrayvec::ArrayVec;
+use mp_short::ShortList;
 use std::marker::Model;
 
 /// A constant of a query that a configuration may set.
-#[derive(Clone, Copy, Default)]
+#[derive(Clone, Copy)]
 pub struct Rule {
     /// Its name in a configuration.
     pub name: &'static str,
@@ -18,9 +18,17 @@ pub struct Rule {
     pub given: u64,
 }
 
+/// What stands in a place of a list that no rule has taken.
+const NO_RULE: Rule = Rule {
+    name: "",
+    least: 0,
+    greatest: 0,
+    given: 0,
+};
+
 /// At most two rules, in order. Contracts see a `RuleFacts` for each.
 pub struct RuleList {
-    rules: ArrayVec<Rule, 2>,
+    rules: ShortList<Rule, 2>,
 }
 
 // By hand, so that crates above call it and don't write out the drop of each field.
@@ -36,7 +44,7 @@ impl Model for RuleList {
 
     ghost Value = { List RuleFacts };
 
-    ghost view = { λ l. map (λ r. record { name = r.name.now; least = r.least; greatest = r.greatest; given = r.given }) l.rules.items };
+    ghost view = { λ l. map (λ r. record { name = r.name.now; least = r.least; greatest = r.greatest; given = r.given }) l.rules };
 }
 
 impl RuleList {
@@ -45,7 +53,7 @@ impl RuleList {
         ensures { result ≡ [] }
     {
         RuleList {
-            rules: ArrayVec::new(),
+            rules: ShortList::new(NO_RULE),
         }
     }
 
@@ -53,7 +61,7 @@ impl RuleList {
     pub fn one(rule: Rule) -> RuleList
         ensures { result ≡ record { name = rule.name.now; least = rule.least; greatest = rule.greatest; given = rule.given } ∷ [] }
     {
-        let mut rules = ArrayVec::new();
+        let mut rules = ShortList::new(NO_RULE);
         rules.push(rule);
         RuleList { rules }
     }
@@ -63,7 +71,7 @@ impl RuleList {
         ensures { result ≡ record { name = first.name.now; least = first.least; greatest = first.greatest; given = first.given }
             ∷ record { name = second.name.now; least = second.least; greatest = second.greatest; given = second.given } ∷ [] }
     {
-        let mut rules = ArrayVec::new();
+        let mut rules = ShortList::new(NO_RULE);
         rules.push(first);
         rules.push(second);
         RuleList { rules }

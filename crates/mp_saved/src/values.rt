@@ -1,13 +1,13 @@
 //! The values of the rules of a query.
 ghost use Rattle.std.specs.Prelude.{◌≡◌, ◌∷◌, []};
 
-use arrayvec::ArrayVec;
+use mp_short::ShortList;
 use std::marker::Model;
 
 /// At most two values, in the order of the rules. Contracts see the list of them.
 #[derive(Drop)]
 pub struct ValueList {
-    values: ArrayVec<u64, 2>,
+    values: ShortList<u64, 2>,
 }
 
 impl Model for ValueList {
@@ -15,7 +15,7 @@ impl Model for ValueList {
 
     ghost Value = { List ℕ };
 
-    ghost view = { λ l. l.values.items };
+    ghost view = { λ l. l.values };
 }
 
 impl ValueList {
@@ -24,7 +24,7 @@ impl ValueList {
         ensures { result ≡ [] }
     {
         ValueList {
-            values: ArrayVec::new(),
+            values: ShortList::new(0),
         }
     }
 
@@ -32,7 +32,7 @@ impl ValueList {
     pub fn one(value: u64) -> ValueList
         ensures { result ≡ value ∷ [] }
     {
-        let mut values = ArrayVec::new();
+        let mut values = ShortList::new(0);
         values.push(value);
         ValueList { values }
     }
@@ -41,7 +41,7 @@ impl ValueList {
     pub fn two(first: u64, second: u64) -> ValueList
         ensures { result ≡ first ∷ second ∷ [] }
     {
-        let mut values = ArrayVec::new();
+        let mut values = ShortList::new(0);
         values.push(first);
         values.push(second);
         ValueList { values }

@@ -2,7 +2,7 @@
 ghost use Rattle.std.specs.Prelude.{◌≡◌, ◌↔◌, ◌<◌, [], ◌∷◌, ◌++◌, length, take, slice_get, IsSome, IfSome};
 ghost use Rattle.mp_text.specs.Fields.{fields_of, ends_from};
 
-use arrayvec::ArrayVec;
+use mp_short::ShortList;
 use std::marker::Model;
 
 /// How many fields of a line a [`FieldList`] holds: those from the first on.
@@ -16,7 +16,7 @@ const SEPARATOR: u8 = b'|';
 pub struct FieldList<'a> {
     line: &'a [u8],
     count: usize,
-    ends: ArrayVec<usize, FIELDS_HELD>,
+    ends: ShortList<usize, FIELDS_HELD>,
 }
 
 impl<'a> Model for FieldList<'a> {
@@ -29,7 +29,7 @@ impl<'a> Model for FieldList<'a> {
     ghost view = { λ f. fields_of f.line.now };
 
     ghost invariant = { λ f. (f.count ≡ length (fields_of f.line.now))
-        × (f.ends.items ≡ take FIELDS_HELD (ends_from 0 (fields_of f.line.now))) };
+        × (f.ends ≡ take FIELDS_HELD (ends_from 0 (fields_of f.line.now))) };
 }
 
 /// The fields of `line`, cut at each `|`: one at least, since the empty line is one empty field.
@@ -38,7 +38,7 @@ pub fn fields<'a>(line: &'a [u8]) -> FieldList<'a>
     ensures some { 0 < length result }
 {
     let mut separators = 0usize;
-    let mut ends = ArrayVec::new();
+    let mut ends = ShortList::new(0);
     for (place, byte) in line.iter().enumerate() {
         if *byte == SEPARATOR {
             hold_end(&mut ends, place);
@@ -54,8 +54,8 @@ pub fn fields<'a>(line: &'a [u8]) -> FieldList<'a>
 }
 
 /// Adds where a field ends, if there is room for it.
-fn hold_end(ends: &mut ArrayVec<usize, FIELDS_HELD>, end: usize)
-    ensures { ends.new.items ≡ take FIELDS_HELD (ends.old.items ++ end ∷ []) }
+fn hold_end(ends: &mut ShortList<usize, FIELDS_HELD>, end: usize)
+    ensures { ends.new ≡ take FIELDS_HELD (ends.old ++ end ∷ []) }
 {
     if !ends.is_full() {
         ends.push(end);

@@ -26,7 +26,7 @@ returns g c = λ t rest low e.
     let more = decimal t ++ byte_behind vs ∷ behind_end vs rest in
     let here : c.in-Some.rest.now ≡ more =
     append_cancel_left front c.in-Some.rest.now more (ap (λ (l : List ℕ). l ++ c.in-Some.rest.now) (sym told) ∙ sym c.in-Some.ensures ∙ e ∙ first_in_parts f t rest) in
-    let end : c.byte_behind-end.result ≡ byte_behind vs = c.byte_behind-end.ensures ∙ ap byte_behind (c.as_slice-2.ensures ∙ c.values.ensures) in
+    let end : c.byte_behind-end.result ≡ byte_behind vs = c.byte_behind-end.ensures ∙ ap byte_behind (c.as_slice-3.ensures ∙ c.values.ensures) in
     c.number_before.ensures t (behind_end vs rest) low
     (subst (λ (b : ℕ). All (λ (a : ℕ). a ≢ b) (decimal t)) (sym end) (no_end t vs low))
     (here ∙ ap (λ (b : ℕ). decimal t ++ b ∷ behind_end vs rest) (sym end))

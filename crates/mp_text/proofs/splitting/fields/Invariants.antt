@@ -6,5 +6,5 @@ use Rattle.mp_text.proofs.splitting.fields.Given as goal
 abbrev pub invariant-loop-place : goal.invariant-loop-place
 invariant-loop-place l = record {
   count : l.separators ≡ length (separators_before l.line l.place);
-  held : l.ends.items ≡ take FIELDS_HELD (separators_before l.line l.place);
+  held : l.ends ≡ take FIELDS_HELD (separators_before l.line l.place);
 }

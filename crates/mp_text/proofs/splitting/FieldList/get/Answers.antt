@@ -10,7 +10,7 @@ pub returns-else-index-len-clause-there : goal.returns-else-index-len-clause-the
 returns-else-index-len-clause-there c = (
   λ there. absurd (false≢true there),
   λ (held, within).
-      let past = held-past FIELDS_HELD c.self.inside.line.now c.self.inside.ends.items c.args.index c.self.invariant.1 (omega (arith, c.len.ensures.value)) held in
+      let past = held-past FIELDS_HELD c.self.inside.line.now c.self.inside.ends c.args.index c.self.invariant.1 (omega (arith, c.len.ensures)) held in
       let same : length (fields_of c.self.inside.line.now) ≡ length c.args.self.now = ap length c.self.view_is in
       absurd (omega (arith, past, same, within)),
 )
