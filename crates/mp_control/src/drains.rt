@@ -20,7 +20,7 @@ use mp_plans::{drain, owned_bins};
 use mp_text::FieldList;
 
 /// A line that drains a worker, by its numbers.
-#[derive(Clone, Copy, Drop)]
+#[derive(Clone, Copy)]
 pub struct DrainLine {
     /// When the first bin goes.
     pub time: Time,

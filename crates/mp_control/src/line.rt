@@ -17,7 +17,7 @@ use mp_plans::{PlanRefused, all_at_once, batched, fluid};
 use mp_text::FieldList;
 
 /// What a line says, by its numbers. A plan's bins go to workers by a shift.
-#[derive(Clone, Copy, Drop)]
+#[derive(Clone, Copy)]
 pub enum ControlLine {
     /// One control record.
     Record(Control),

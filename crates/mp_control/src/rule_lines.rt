@@ -11,7 +11,7 @@ use mp_model::{Rule, RuleList};
 use mp_text::FieldList;
 
 /// The value of the rule at a place.
-#[derive(Clone, Copy, Drop)]
+#[derive(Clone, Copy)]
 pub struct RuleValue {
     pub place: usize,
     pub value: u64,

@@ -14,7 +14,7 @@ pub struct Shape {
 
 /// A control record, as in Megaphone's control stream: from this time on the worker owns the bin of
 /// the stage, until a later record says otherwise.
-#[derive(Clone, Copy, PartialEq, Eq)]
+#[derive(Clone, Copy)]
 pub struct Control {
     /// In units of the event file, at most 2^47.
     pub time: Time,
@@ -27,7 +27,7 @@ pub struct Control {
 }
 
 /// The first owner of a bin, as a configuration says it.
-#[derive(Clone, Copy, PartialEq, Eq)]
+#[derive(Clone, Copy)]
 pub struct First {
     /// From 0.
     pub stage: u32,

@@ -27,7 +27,7 @@ pub enum Kind {
 }
 
 /// A step that a worker kept: its kind, and of an exchange the version of the board after it, else 0.
-#[derive(Clone, Copy, PartialEq, Eq)]
+#[derive(Clone, Copy)]
 pub struct Kept {
     /// The kind of step.
     pub kind: Kind,

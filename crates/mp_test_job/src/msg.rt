@@ -71,7 +71,9 @@ fn control_is_sent<J: Naming>(rt: &impl Abort, alloc: Global) -> Result<bool, Al
 
 fn is_control(body: Option<Body<u64>>) -> bool {
     match body {
-        Some(Body::Ctrl { control, .. }) => control == to_worker_two(),
+        Some(Body::Ctrl { control, .. }) => {
+            (control.time, control.stage, control.bin, control.worker) == (10, 0, 1, 2)
+        }
         _ => false,
     }
 }
