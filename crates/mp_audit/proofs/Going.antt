@@ -10,10 +10,10 @@ use Rattle.mp_machine.specs.Steps.{rest_of}
 use Rattle.mp_machine.specs.Runs.{step_of_machine, IsFinished}
 use Rattle.mp_machine.proofs.Puts.{put_here, put_other}
 use Rattle.mp_names.specs.declared.kinds.Kept.{Kept}
-use Rattle.mp_audit_laws.specs.Journals.{Journal}
-use Rattle.mp_audit_laws.specs.Merges.{end_of}
-use Rattle.mp_audit_laws.specs.Searches.{MayBeTaken, left_behind, MayBeTakenInTurn, left_after, IsStuck, AllAreTaken}
-use Rattle.mp_audit_laws.proofs.Searches.{found_merge, no_run}
+use Rattle.mp_journal_laws.specs.Journals.{Journal}
+use Rattle.mp_journal_laws.specs.Merges.{end_of}
+use Rattle.mp_journal_laws.specs.Searches.{MayBeTaken, left_behind, MayBeTakenInTurn, left_after, IsStuck, AllAreTaken}
+use Rattle.mp_journal_laws.proofs.Searches.{found_merge, no_run}
 use Rattle.mp_audit.specs.Lists.{list_of, one_taken}
 use Rattle.mp_audit.specs.Going.{HasLegalMerge, HasNone, Leads}
 

@@ -5,8 +5,8 @@ use Rattle.std.proofs.Math.Seq.{drop-cons, map-set_same, take-length}
 use Rattle.std.proofs.lemmas.Option.{none-some}
 use Rattle.std.proofs.lemmas.List.{get_or-map as get_or-map-below, get_or_past, map-set}
 use Rattle.mp_names.specs.declared.kinds.Kept.{Kept}
-use Rattle.mp_audit_laws.specs.Journals.{is_exchange, next_version}
-use Rattle.mp_audit_laws.proofs.Versions.{next_is_later, not_empty}
+use Rattle.mp_journal_laws.specs.Journals.{is_exchange, next_version}
+use Rattle.mp_journal_laws.proofs.Versions.{next_is_later, not_empty}
 use Rattle.mp_machine.specs.Steps.{rest_of}
 use Rattle.mp_audit.specs.Lists.{IsLater, list_of, one_taken}
 use Rattle.std.proofs.lemmas.Bool.{cond-true}

@@ -3,9 +3,9 @@ use Rattle.std.specs.Prelude.{◌≡◌, ℕ, List, length}
 use Rattle.mp_names.specs.Outlines.{Outline}
 use Rattle.mp_machine.specs.Worlds.{World}
 use Rattle.mp_names.specs.declared.kinds.Kept.{Kept}
-use Rattle.mp_audit_laws.specs.Journals.{Journal}
-use Rattle.mp_audit_laws.specs.Merges.{IsLegalMerge, end_of}
-use Rattle.mp_audit_laws.specs.Searches.{MayBeTaken, MayBeTakenInTurn, left_after, IsStuck}
+use Rattle.mp_journal_laws.specs.Journals.{Journal}
+use Rattle.mp_journal_laws.specs.Merges.{IsLegalMerge, end_of}
+use Rattle.mp_journal_laws.specs.Searches.{MayBeTaken, MayBeTakenInTurn, left_after, IsStuck}
 
 -- Steps that may be taken in turn lead from a world with these steps left to another, with those left; they are so many
 pub record Leads (o : Outline) (depth : ℕ) (world : World) (left : Journal) (after : World) (still : Journal) (n : ℕ) : Type 0 where

@@ -2,7 +2,7 @@
 use Rattle.std.specs.Prelude.{◌≡◌, ℕ, ◌<◌, List, [], Option, Some, slice_index_or, slice_set}
 use Rattle.mp_names.specs.declared.kinds.Kept.{Kept}
 use Rattle.mp_machine.specs.Steps.{rest_of}
-use Rattle.mp_audit_laws.specs.Journals.{Journal, next_version}
+use Rattle.mp_journal_laws.specs.Journals.{Journal, next_version}
 
 -- the steps of a worker; none, where there is no list for it
 abbrev pub list_of : List (List Kept) → Journal

@@ -1,7 +1,7 @@
 //! What is left of a journal.
 ghost use Rattle.std.specs.Prelude.{◌≡◌, ◌<◌, ◌↔◌, IfOk, IsTrue, length, map, slice_get};
-ghost use Rattle.mp_audit_laws.specs.Journals.{is_exchange as exchanges, next_version as version_of_next};
-ghost use Rattle.mp_audit_laws.specs.Searches.{AllAreTaken};
+ghost use Rattle.mp_journal_laws.specs.Journals.{is_exchange as exchanges, next_version as version_of_next};
+ghost use Rattle.mp_journal_laws.specs.Searches.{AllAreTaken};
 ghost use Rattle.mp_audit.specs.Lists.{IsAlone, IsLater, list_of, one_taken};
 
 use mp_names::{Kept, Kind};
@@ -19,7 +19,7 @@ pub struct Left<'a> {
 impl<'a> Model for Left<'a> {
     ghost use Rattle.std.specs.Prelude.{◌≡◌, List, map};
     ghost use Rattle.mp_names.specs.declared.kinds.Kept.{Kept};
-    ghost use Rattle.mp_audit_laws.specs.Journals.{next_version};
+    ghost use Rattle.mp_journal_laws.specs.Journals.{next_version};
 
     ghost Value = { List (List Kept) };
 

@@ -3,7 +3,7 @@ ghost use Rattle.std.specs.Prelude.{◌≡◌, ℕ, Ok, true, false, ◌↔◌, 
 ghost use Rattle.mp_names.specs.Outlines.{Outline};
 ghost use Rattle.mp_machine.specs.Worlds.{World};
 ghost use Rattle.mp_machine.specs.Runs.{IsFinished, step_of_machine};
-ghost use Rattle.mp_audit_laws.specs.Merges.{IsMade};
+ghost use Rattle.mp_journal_laws.specs.Merges.{IsMade};
 
 use mp_names::Kept;
 use std::alloc::AllocError;

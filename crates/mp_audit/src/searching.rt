@@ -2,7 +2,7 @@
 ghost use Rattle.std.specs.Prelude.{◌≡◌, ◌<◌, ◌^◌, ℕ, Err, IfOk, IsTrue, Ok, OnOk, length, map, true, false, ◌↔◌};
 ghost use Rattle.mp_machine.specs.Worlds.{World, start_of_machine};
 ghost use Rattle.mp_machine.specs.Runs.{IsFinished};
-ghost use Rattle.mp_audit_laws.specs.Searches.{AllAreTaken};
+ghost use Rattle.mp_journal_laws.specs.Searches.{AllAreTaken};
 ghost use Rattle.mp_audit.specs.Going.{Goes, HasLegalMerge, HasNone, Passes, Tries, Waits};
 ghost use Rattle.mp_audit.specs.declared.searching.AuditStop.TheVariants.{NoRun};
 ghost use Rattle.mp_audit.specs.Lists.{IsAlone, list_of, one_taken};

@@ -7,8 +7,8 @@ use Rattle.std.proofs.lemmas.List.Sums.{sum_by-cons, sum_by-set}
 use Rattle.mp_audit.specs.Going.{HasLegalMerge}
 use Rattle.mp_audit.specs.Lists.{list_of}
 use Rattle.mp_audit.proofs.Lists.{none_past}
-use Rattle.mp_audit_laws.specs.Journals.{steps_of}
-use Rattle.mp_audit_laws.proofs.Versions.{not_empty, other_steps, own_steps}
+use Rattle.mp_journal_laws.specs.Journals.{steps_of}
+use Rattle.mp_journal_laws.proofs.Versions.{not_empty, other_steps, own_steps}
 use Rattle.mp_command.specs.Audits.{HasRightAnswer, IsLegal, outline_audited}
 use Rattle.mp_command.specs.Inputs.{Found}
 use Rattle.mp_command.specs.Lines.{step_count}

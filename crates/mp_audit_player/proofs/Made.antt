@@ -8,7 +8,7 @@ use Rattle.mp_names.specs.Outlines.{Outline}
 use Rattle.mp_machine.specs.Worlds.{World}
 use Rattle.mp_machine.specs.Steps.{CanStep, CanExchange, version_after, exchanged}
 use Rattle.mp_machine.specs.Runs.{step_of_machine}
-use Rattle.mp_audit_laws.specs.Merges.{IsMade}
+use Rattle.mp_journal_laws.specs.Merges.{IsMade}
 use Rattle.mp_player_laws.proofs.Made.{condition_of, made_from, leads_to_step, leads_to_exchange}
 use Rattle.mp_player.specs.declared.state.State.{State}
 use Rattle.mp_player.specs.Shows.{Shows, Makes}

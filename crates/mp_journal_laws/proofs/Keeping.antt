@@ -7,10 +7,10 @@ use Rattle.mp_names.specs.declared.kinds.Kind.{Kind}
 use Rattle.mp_names.specs.Outlines.{Outline}
 use Rattle.mp_machine.specs.Runs.{Turn, Did, Saw, NotNow, IsFinished, after_turn, is_made, made_count, run_of_machine, step_of_machine, turn_of_machine, turns_of, world_after}
 use Rattle.mp_machine.specs.Worlds.{World, start_of_machine}
-use Rattle.mp_audit_laws.specs.Journals.{steps_of}
-use Rattle.mp_audit_laws.specs.Merges.{AreMade, IsTurnOf, end_of}
+use Rattle.mp_journal_laws.specs.Journals.{steps_of}
+use Rattle.mp_journal_laws.specs.Merges.{AreMade, IsTurnOf, end_of}
 use Rattle.mp_journal_laws.specs.Kept.{all_kept, kept_at, kept_of}
-use Rattle.mp_journal_laws.specs.Promises.{MergeOfRun}
+use Rattle.mp_journal_laws.specs.KeptPromises.{MergeOfRun}
 
 pushed : {X : Type 0} (b : Bool) (x : X) (xs ys zs : List X) → zs ≡ xs ++ ys → cond b (x ∷ zs) zs ≡ cond b (x ∷ xs) xs ++ ys
 pushed true x xs ys zs e = ap (λ (l : List _). x ∷ l) e

@@ -5,7 +5,7 @@ use Rattle.mp_names.specs.declared.kinds.Kept.{Kept}
 use Rattle.mp_names.specs.declared.kinds.Kind.{Kind}
 use Rattle.mp_machine.specs.Runs.{Turn, Did, Saw, NotNow, turn_of_machine, step_of_machine}
 use Rattle.mp_machine.specs.Worlds.{World}
-use Rattle.mp_audit_laws.specs.Journals.{steps_of}
+use Rattle.mp_journal_laws.specs.Journals.{steps_of}
 
 -- what is kept of a step of this turn
 abbrev pub kept_at : Kind → Turn → List Kept

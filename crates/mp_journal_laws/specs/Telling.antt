@@ -6,7 +6,7 @@ use Rattle.mp_names.specs.declared.kinds.Kind.TheVariants.{Ingest, SendControl, 
 use Rattle.mp_names.specs.Names.{is_ctrl, is_packet, is_row, is_group, is_settled, is_written}
 use Rattle.mp_names.specs.Outlines.{Outline, share, owed_by, control_times, answer_times}
 use Rattle.mp_names.specs.Logs.{Log, owned_groups}
-use Rattle.mp_audit_laws.specs.Journals.{is_exchange}
+use Rattle.mp_journal_laws.specs.Journals.{is_exchange}
 
 -- whether two kinds are one
 abbrev pub same_kind : Kind → Kind → Bool

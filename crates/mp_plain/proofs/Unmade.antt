@@ -6,7 +6,7 @@ use Rattle.mp_names.specs.declared.kinds.Kind.{Kind}
 use Rattle.mp_names.specs.Outlines.{Outline}
 use Rattle.mp_machine.specs.Runs.{Turn, Did, Saw, NotNow, after_turn, is_made, made_count, step_of_machine, turn_of_machine, turns_of, world_after}
 use Rattle.mp_machine.specs.Worlds.{World}
-use Rattle.mp_audit_laws.specs.Journals.{steps_of}
+use Rattle.mp_journal_laws.specs.Journals.{steps_of}
 use Rattle.mp_journal_laws.specs.Kept.{kept_at, kept_of}
 use Rattle.mp_journal_laws.proofs.Keeping.{kept_more}
 

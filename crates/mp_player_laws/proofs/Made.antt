@@ -8,7 +8,7 @@ use Rattle.mp_machine.specs.Worlds.{World}
 use Rattle.mp_machine.specs.Steps.{CanStep, CanExchange, stepped, version_after, exchanged}
 use Rattle.mp_machine.specs.Runs.{Turn, Did, Saw, NotNow, after_turn, turn_of, turn_of_machine, step_of_machine}
 use Rattle.mp_machine.proofs.Turns.{did_from, did_to, saw_from, saw_to}
-use Rattle.mp_audit_laws.specs.Merges.{IsTurnOf, IsMade}
+use Rattle.mp_journal_laws.specs.Merges.{IsTurnOf, IsMade}
 
 module _ (o : Outline) (ok : OutlineIsSound o) (depth : ℕ) (world : World) (w : ℕ) where
   abbrev HasCondition : Kept → Type 0

@@ -7,7 +7,7 @@ use Rattle.mp_names.specs.Outlines.{Outline, OutlineIsSound}
 use Rattle.mp_machine.specs.Worlds.{World}
 use Rattle.mp_machine.specs.Steps.{CanStep, CanExchange, stepped, version_after, exchanged}
 use Rattle.mp_machine.specs.Runs.{step_of_machine}
-use Rattle.mp_audit_laws.specs.Merges.{IsMade}
+use Rattle.mp_journal_laws.specs.Merges.{IsMade}
 
 -- a kept step is made exactly where its condition is true with some name, or it is an exchange whose condition is true and that gives the version
 abbrev pub ConditionsMakeSteps : Type 0

@@ -21,7 +21,7 @@ use Rattle.mp_names.proofs.Lists.{In_here, In_right}
 use Rattle.mp_machine.specs.Steps.{AreNamesOf, IsDue, IsNext, logged}
 use Rattle.mp_machine.specs.Worlds.{Worker}
 use Rattle.mp_machine.proofs.Messages.{bundle_held}
-use Rattle.mp_audit_laws.specs.Journals.{is_exchange}
+use Rattle.mp_journal_laws.specs.Journals.{is_exchange}
 use Rattle.mp_journal_laws.specs.Telling.{KeptTellLog, VersionsAscend, number, same_kind}
 use Rattle.mp_worker_refinement.specs.State.{WorkerState, as_machine, kept_with}
 use Rattle.mp_turns.specs.declared.turn.Stop.{Stop}

@@ -2,7 +2,7 @@ use Rattle.std.proofs.Common.{◌≡◌, ◌+◌, ℕ, refl, sym, ◌∙◌, sub
 use Rattle.mp_names.specs.Outlines.{Outline}
 use Rattle.mp_machine.specs.Worlds.{World, start_of_machine}
 use Rattle.mp_machine.specs.Runs.{IsFinished}
-use Rattle.mp_audit_laws.specs.Searches.{AllAreTaken}
+use Rattle.mp_journal_laws.specs.Searches.{AllAreTaken}
 use Rattle.mp_audit.specs.Going.{HasLegalMerge, Leads, Passes}
 use Rattle.mp_audit.specs.Lists.{list_of}
 use Rattle.mp_audit.proofs.Going.{leads_nowhere, leads_further, has_merge, has_none, if_found}

@@ -2,9 +2,9 @@ use Rattle.std.proofs.Common.{◌≡◌, ◌<◌, ◌≤◌, ◌+◌, ℕ, Ok, a
 use Rattle.std.proofs.lemmas.Bool.{cases_lt}
 use Rattle.mp_names.specs.Outlines.{Outline}
 use Rattle.mp_machine.specs.Worlds.{World}
-use Rattle.mp_audit_laws.specs.Journals.{Journal}
-use Rattle.mp_audit_laws.specs.Searches.{MayBeTaken}
-use Rattle.mp_audit_laws.proofs.Versions.{not_empty}
+use Rattle.mp_journal_laws.specs.Journals.{Journal}
+use Rattle.mp_journal_laws.specs.Searches.{MayBeTaken}
+use Rattle.mp_journal_laws.proofs.Versions.{not_empty}
 use Rattle.mp_audit.specs.Going.{Leads, Tries}
 use Rattle.mp_audit.specs.Lists.{list_of}
 use Rattle.mp_audit.proofs.Lists.{none_past}

@@ -1,7 +1,7 @@
 use Rattle.std.proofs.Common.{◌≡◌, ◌<◌, ℕ, length}
 use Rattle.mp_machine.specs.Worlds.{World}
 use Rattle.mp_names.specs.declared.kinds.Kept.{Kept}
-use Rattle.mp_audit_laws.specs.Searches.{MayBeTaken}
+use Rattle.mp_journal_laws.specs.Searches.{MayBeTaken}
 use Rattle.mp_audit.specs.Going.{Leads}
 use Rattle.mp_audit.specs.Lists.{list_of}
 use Rattle.mp_audit.proofs.searching.pass.Given as goal

@@ -2,7 +2,7 @@ use Rattle.std.proofs.Common.{◌≡◌, ◌<◌, ℕ, Ok, Some, refl, ap, sym, 
 use Rattle.std.proofs.lemmas.Bool.{both_ways}
 use Rattle.mp_names.specs.declared.kinds.Kind.TheVariants.{Exchange}
 use Rattle.mp_machine.specs.Runs.{step_of_machine}
-use Rattle.mp_audit_laws.specs.Journals.{is_exchange, next_version}
+use Rattle.mp_journal_laws.specs.Journals.{is_exchange, next_version}
 use Rattle.mp_audit.specs.Lists.{list_of}
 use Rattle.mp_audit.proofs.Going.{leads_by_one, next_is, one_further, some_there}
 use Rattle.mp_audit.proofs.searching.take_next.Goals as goal

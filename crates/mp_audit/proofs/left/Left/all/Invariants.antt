@@ -1,6 +1,6 @@
 -- What is made so far, with the lists that are left, is all.
 use Rattle.std.proofs.Common.{◌≡◌, ◌++◌, drop, map}
-use Rattle.mp_audit_laws.specs.Journals.{next_version}
+use Rattle.mp_journal_laws.specs.Journals.{next_version}
 use Rattle.mp_audit.proofs.left.Left.all.Given as goal
 
 abbrev pub invariant-loop-list : goal.invariant-loop-list

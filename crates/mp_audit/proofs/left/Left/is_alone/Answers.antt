@@ -2,7 +2,7 @@ use Rattle.std.proofs.Common.{◌≡◌, ◌<◌, ◌≤◌, ℕ, List, None, le
 use Rattle.std.proofs.lemmas.Bool.{cases_lt, false≢true}
 use Rattle.std.proofs.lemmas.List.{get_or_default, length-map}
 use Rattle.mp_names.specs.declared.kinds.Kept.{Kept}
-use Rattle.mp_audit_laws.specs.Journals.{next_version}
+use Rattle.mp_journal_laws.specs.Journals.{next_version}
 use Rattle.mp_audit.specs.Lists.{list_of}
 use Rattle.mp_audit.proofs.Lists.{next_at, none_past, nothing_later}
 use Rattle.mp_audit.proofs.left.Left.is_alone.Goals as goal

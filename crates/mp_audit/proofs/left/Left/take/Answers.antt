@@ -2,7 +2,7 @@ use Rattle.std.proofs.Common.{◌≡◌, ◌<◌, List, length, map, take, ◌-�
 use Rattle.std.proofs.lemmas.List.{length-map, map-set}
 use Rattle.mp_names.specs.declared.kinds.Kept.{Kept}
 use Rattle.mp_machine.specs.Steps.{rest_of}
-use Rattle.mp_audit_laws.specs.Journals.{next_version}
+use Rattle.mp_journal_laws.specs.Journals.{next_version}
 use Rattle.mp_audit.specs.Lists.{list_of, one_taken}
 use Rattle.mp_audit.proofs.Lists.{another_next, same_next, list_at, next_stays, rest_is}
 use Rattle.mp_audit.proofs.left.Left.take.Goals as goal
