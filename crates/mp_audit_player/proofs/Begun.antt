@@ -21,8 +21,8 @@ use Rattle.mp_names.specs.Logs.{empty_log}
 use Rattle.mp_names.proofs.Lists.{In_here, In_later}
 use Rattle.mp_names.proofs.Orders.{In_ascending}
 use Rattle.mp_machine.specs.Worlds.{posted_logs, start_of_machine}
-use Rattle.mp_work_left.specs.WorkLeft.{work_left}
-use Rattle.mp_work_left.proofs.Remaining.{shows_frontier}
+use Rattle.mp_player_laws.specs.WorkLeft.{work_left}
+use Rattle.mp_player_laws.proofs.Remaining.{shows_frontier}
 use Rattle.mp_player_laws.specs.Numbers.{numbers_of}
 use Rattle.mp_player_laws.proofs.Exchanging.{start_legal}
 use Rattle.mp_stamps.specs.Counts.{CountTable}

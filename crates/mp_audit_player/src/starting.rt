@@ -4,7 +4,7 @@ ghost use Rattle.mp_names.specs.Logs.{empty_log};
 ghost use Rattle.mp_names.specs.Outlines.{OutlineIsSound};
 ghost use Rattle.mp_names.specs.declared.locations.Loc.{Loc};
 ghost use Rattle.mp_machine.specs.Worlds.{start_of_machine};
-ghost use Rattle.mp_work_left.specs.WorkLeft.{work_left};
+ghost use Rattle.mp_player_laws.specs.WorkLeft.{work_left};
 ghost use Rattle.mp_left_counts.specs.Left.{left_in};
 ghost use Rattle.mp_player.specs.Shows.{Shows};
 ghost use Rattle.mp_audit_player.specs.Starting.{IsAtStart};

@@ -10,7 +10,7 @@ use Rattle.mp_names.specs.Frontiers.{HasPassed, HasReached}
 use Rattle.mp_machine.specs.Worlds.{Worker}
 use Rattle.mp_machine.specs.Steps.{KindFits, MaySendControl, MailAllows, CanStep}
 use Rattle.mp_machine.specs.Promises.{InEveryRun}
-use Rattle.mp_step_order.specs.Decisions.{controls_to_send, packets_to_send, rows_to_send}
+use Rattle.mp_player_laws.specs.Decisions.{controls_to_send, packets_to_send, rows_to_send}
 use Rattle.mp_player_laws.specs.Numbers.{Numbers, numbers_of, StandsAt}
 use Rattle.mp_player_laws.specs.Counted.{IsGivenWithin}
 

@@ -10,7 +10,7 @@ ghost use Rattle.mp_names.specs.declared.names.Name.{Name};
 ghost use Rattle.mp_names.specs.declared.kinds.Kind.TheVariants.{Apply, SendControl, SendRow};
 ghost use Rattle.mp_player_laws.specs.Numbers.{StandsAt};
 ghost use Rattle.mp_player_laws.specs.Counted.{IsGivenWithin};
-ghost use Rattle.mp_work_left.specs.WorkLeft.{work_left};
+ghost use Rattle.mp_player_laws.specs.WorkLeft.{work_left};
 ghost use Rattle.mp_left_counts.specs.Left.{work_at};
 ghost use Rattle.mp_chart.specs.Entries.{entries_of, records_given};
 ghost use Rattle.mp_chart.specs.Lists.{IsPaceOf, to_do};

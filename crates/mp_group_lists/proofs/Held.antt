@@ -15,7 +15,7 @@ use Rattle.mp_names.specs.Logs.{owned_groups}
 use Rattle.mp_names.proofs.Listed.{groups_are}
 use Rattle.mp_names.proofs.Lists.{In_filter, In_here}
 use Rattle.mp_names.proofs.Orders.{In_ascending}
-use Rattle.mp_step_order.specs.Decisions.{rows_to_send}
+use Rattle.mp_player_laws.specs.Decisions.{rows_to_send}
 use Rattle.mp_player_laws.specs.Counted.{IsGivenWithin}
 use Rattle.mp_player_laws.specs.Numbers.{StandsAt}
 use Rattle.mp_chart.specs.declared.entry.Entry.{Entry}

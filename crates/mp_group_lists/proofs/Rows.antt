@@ -12,7 +12,7 @@ use Rattle.mp_names.specs.Logs.{is_owned, owned_groups}
 use Rattle.mp_names.proofs.Listed.{group_due}
 use Rattle.mp_names.proofs.Lists.{In_filter, filter_In}
 use Rattle.mp_names.proofs.Orders.{In_ascending}
-use Rattle.mp_step_order.specs.Decisions.{rows_to_send}
+use Rattle.mp_player_laws.specs.Decisions.{rows_to_send}
 use Rattle.mp_player_laws.specs.Counted.{IsGivenWithin}
 use Rattle.mp_chart.specs.declared.entry.Entry.{Entry}
 use Rattle.mp_chart.specs.Entries.{entries_of, entry_of}

@@ -3,7 +3,7 @@ ghost use Rattle.std.specs.Prelude.{◌≡◌, ◌↔◌, ◌<◌, ◌≤◌, �
 ghost use Rattle.mp_names.specs.Logs.{owned_groups};
 ghost use Rattle.mp_names.specs.Outlines.{Outline, OutlineIsSound};
 ghost use Rattle.mp_names.specs.declared.names.Name.{Name};
-ghost use Rattle.mp_step_order.specs.Decisions.{rows_to_send};
+ghost use Rattle.mp_player_laws.specs.Decisions.{rows_to_send};
 ghost use Rattle.mp_player_laws.specs.Numbers.{StandsAt};
 ghost use Rattle.mp_player_laws.specs.Counted.{IsGivenWithin};
 ghost use Rattle.mp_chart.specs.Entries.{entries_of, records_given};

@@ -19,7 +19,7 @@ use Rattle.mp_machine.proofs.Puts.{put_here, put_other}
 use Rattle.mp_machine.proofs.Turns.{same_log_is, own_log}
 use Rattle.mp_machine.proofs.Worlds.{after_more}
 use Rattle.mp_stamps.specs.Seen.{seen_at}
-use Rattle.mp_work_left.specs.WorkLeft.{work_left}
+use Rattle.mp_player_laws.specs.WorkLeft.{work_left}
 use Rattle.mp_player_laws.proofs.Made.{leads_to_exchange}
 use Rattle.mp_player_laws.proofs.Exchanging.{work_moves, exchange_sees}
 use Rattle.mp_left_counts.specs.Left.{HasWork, left_in, work_at}

@@ -13,7 +13,7 @@ use Rattle.mp_machine.specs.Steps.{CanStep, logged, names_of, stepped}
 use Rattle.mp_machine.specs.Runs.{step_of_machine}
 use Rattle.mp_machine.proofs.Puts.{put_here, put_other}
 use Rattle.mp_machine.proofs.Worlds.{after_more}
-use Rattle.mp_work_left.specs.WorkLeft.{work_left}
+use Rattle.mp_player_laws.specs.WorkLeft.{work_left}
 use Rattle.mp_player_laws.proofs.Made.{leads_to_step}
 use Rattle.mp_left_counts.specs.Left.{Left, left_in}
 use Rattle.mp_standing.specs.declared.standing.Standing.{Standing}

@@ -11,9 +11,9 @@ use Rattle.mp_names.proofs.Lists.{In_filter, filter_In}
 use Rattle.mp_machine.specs.Worlds.{Worker}
 use Rattle.mp_machine.specs.Runs.{run_of_machine}
 use Rattle.mp_machine.proofs.Worlds.{run_right}
-use Rattle.mp_step_order.specs.Decisions.{controls_to_send, packets_to_send, rows_to_send, SendsInOrder}
-use Rattle.mp_step_order.proofs.Sending.{always_in_order}
-use Rattle.mp_step_order.proofs.Deciding.{steps_decided}
+use Rattle.mp_player_laws.specs.Decisions.{controls_to_send, packets_to_send, rows_to_send, SendsInOrder}
+use Rattle.mp_player_laws.proofs.Sending.{always_in_order}
+use Rattle.mp_player_laws.proofs.Deciding.{steps_decided}
 use Rattle.mp_player_laws.specs.Numbers.{ListsAreTold}
 use Rattle.mp_player_laws.specs.Counted.{IsGivenWithin, StepsAreCounted}
 use Rattle.mp_player_laws.proofs.Places.{beginning_is, next_stands, stands_next}

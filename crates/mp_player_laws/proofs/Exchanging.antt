@@ -12,8 +12,8 @@ use Rattle.mp_machine.specs.Steps.{posted_with, having_seen}
 use Rattle.mp_machine.specs.Runs.{run_of_machine}
 use Rattle.mp_machine.proofs.Puts.{put_all, put_here, put_other}
 use Rattle.mp_machine.proofs.Worlds.{run_right}
-use Rattle.mp_work_left.specs.WorkLeft.{added_below, left_at, work_left}
-use Rattle.mp_work_left.proofs.Remaining.{shows_frontier}
+use Rattle.mp_player_laws.specs.WorkLeft.{added_below, left_at, work_left}
+use Rattle.mp_player_laws.proofs.Remaining.{shows_frontier}
 
 -- a sum of which no addend changes, and one of which one does
 same_sum : (n : ℕ) (f g : ℕ → ℕ) → ((v : ℕ) → v < n → f v ≡ g v) → added_below n f ≡ added_below n g

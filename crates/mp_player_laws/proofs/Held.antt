@@ -13,7 +13,7 @@ use Rattle.mp_names.proofs.Lists.{In_here, In_cases, In_left, In_right, In_appen
 use Rattle.mp_names.proofs.Hosts.{pending_new}
 use Rattle.mp_machine.specs.Worlds.{Worker, World}
 use Rattle.mp_machine.specs.Steps.{IsDue, CanStep, logged, names_of}
-use Rattle.mp_step_order.proofs.Sending.{record_alone}
+use Rattle.mp_player_laws.proofs.Sending.{record_alone}
 use Rattle.mp_player_laws.specs.Held.{Gives, Routes}
 
 -- held, by its two parts

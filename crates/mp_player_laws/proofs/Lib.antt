@@ -1,3 +1,11 @@
+pub mod Next
+pub mod Controls
+pub mod Decided
+pub mod Sending
+pub mod Deciding
+pub mod Remaining
+pub mod Falling
+pub mod Doing
 pub mod Places
 pub mod Settling
 pub mod Counted

@@ -4,7 +4,7 @@ use Rattle.std.proofs.Math.Seq.{take-append_seam}
 use Rattle.std.specs.List.{slice_get}
 use Rattle.mp_names.specs.declared.names.Name.{Name}
 use Rattle.mp_names.specs.Names.{IsPrefix}
-use Rattle.mp_step_order.specs.Decisions.{ComesNext}
+use Rattle.mp_player_laws.specs.Decisions.{ComesNext}
 use Rattle.mp_player_laws.specs.Numbers.{StandsAt}
 
 at_seam : (xs rest : List Name) → slice_get (xs ++ rest) (length xs) ≡ slice_get rest 0

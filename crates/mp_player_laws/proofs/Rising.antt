@@ -17,8 +17,8 @@ use Rattle.mp_machine.specs.Messages.{bundle_of}
 use Rattle.mp_machine.specs.Steps.{IsDue, CanStep, logged, names_of}
 use Rattle.mp_machine.proofs.Puts.{put_here, put_other}
 use Rattle.mp_machine.proofs.Messages.{bundle_held}
-use Rattle.mp_step_order.proofs.Decided.{filter_push}
-use Rattle.mp_step_order.proofs.Sending.{filter_none, record_alone, ctrl_packet, ctrl_row, packet_row}
+use Rattle.mp_player_laws.proofs.Decided.{filter_push}
+use Rattle.mp_player_laws.proofs.Sending.{filter_none, record_alone, ctrl_packet, ctrl_row, packet_row}
 use Rattle.mp_player_laws.specs.Numbers.{numbers_of}
 use Rattle.mp_player_laws.specs.Rising.{with_one}
 

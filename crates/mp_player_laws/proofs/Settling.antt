@@ -14,9 +14,9 @@ use Rattle.mp_names.proofs.Owners.{move_has_control}
 use Rattle.mp_names.proofs.Listed.{packets_ascend, packet_In, packet_is, control_time_In, control_time_is, control_times_ascend}
 use Rattle.mp_machine.specs.Worlds.{Worker}
 use Rattle.mp_machine.specs.Steps.{MaySettle}
-use Rattle.mp_step_order.specs.Decisions.{ComesNext, packets_to_send, SendsInOrder}
-use Rattle.mp_step_order.proofs.Next.{next_in, next_is_new, less_is_done}
-use Rattle.mp_step_order.proofs.Decided.{not_in_filter}
+use Rattle.mp_player_laws.specs.Decisions.{ComesNext, packets_to_send, SendsInOrder}
+use Rattle.mp_player_laws.proofs.Next.{next_in, next_is_new, less_is_done}
+use Rattle.mp_player_laws.proofs.Decided.{not_in_filter}
 use Rattle.mp_player_laws.specs.Numbers.{StandsAt}
 use Rattle.mp_player_laws.proofs.Places.{next_stands, stands_next}
 

@@ -11,7 +11,7 @@ use Rattle.mp_names.specs.Frontiers.{HasPassed, HasReached}
 use Rattle.mp_machine.specs.Worlds.{World}
 use Rattle.mp_machine.specs.Steps.{MaySendControl, HasRoom, CanStep}
 use Rattle.mp_machine.specs.Promises.{InEveryRun}
-use Rattle.mp_step_order.specs.Decisions.{controls_to_send, packets_to_send, rows_to_send}
+use Rattle.mp_player_laws.specs.Decisions.{controls_to_send, packets_to_send, rows_to_send}
 use Rattle.mp_player_laws.specs.Numbers.{Numbers, StandsAt, numbers_of}
 
 -- the group that gives the answer row is one of the first so many that the worker owns

@@ -7,7 +7,7 @@ use Rattle.mp_names.specs.Frontiers.{IsFrontierOf}
 use Rattle.mp_machine.specs.Worlds.{posted_logs, start_of_machine}
 use Rattle.mp_machine.specs.Steps.{posted_with, having_seen}
 use Rattle.mp_machine.specs.Promises.{InEveryRun}
-use Rattle.mp_work_left.specs.WorkLeft.{left_at, work_left}
+use Rattle.mp_player_laws.specs.WorkLeft.{left_at, work_left}
 
 -- from the posted logs to those with the worker's own the work left changes by what the worker has left
 abbrev pub ExchangesMoveWork : Type 0

@@ -1,4 +1,6 @@
 -- What the contracts of this crate cite.
+pub mod Decisions
+pub mod WorkLeft
 pub mod Numbers
 pub mod Counted
 pub mod Rising

@@ -6,7 +6,7 @@ use Rattle.mp_names.specs.Names.{is_ctrl, is_packet, is_row, is_group, is_settle
 use Rattle.mp_names.specs.Outlines.{Outline, share, control_times, answer_times}
 use Rattle.mp_names.specs.Logs.{Log, owned_groups}
 use Rattle.mp_machine.specs.Promises.{InEveryRun}
-use Rattle.mp_step_order.specs.Decisions.{controls_to_send, packets_to_send, rows_to_send}
+use Rattle.mp_player_laws.specs.Decisions.{controls_to_send, packets_to_send, rows_to_send}
 
 -- How many records of its share the worker has ingested; how many control records, packets of a stage and answer rows it has sent; how many groups of a stage it has applied; and how many times of a stage it has settled, and of answer rows written
 pub record Numbers : Type 0 where

@@ -15,8 +15,8 @@ use Rattle.mp_machine.proofs.Puts.{put_here}
 use Rattle.mp_machine.proofs.Worlds.{run_right, WorldIsRight}
 use Rattle.mp_stamps.specs.declared.seen.Seen.{Seen}
 use Rattle.mp_stamps.specs.Seen.{seen_at}
-use Rattle.mp_work_left.specs.WorkLeft.{left_at, WorkFalls}
-use Rattle.mp_work_left.proofs.Doing.{does}
+use Rattle.mp_player_laws.specs.WorkLeft.{left_at, WorkFalls}
+use Rattle.mp_player_laws.proofs.Doing.{does}
 use Rattle.mp_player_laws.specs.Numbers.{numbers_of, StandsAt}
 use Rattle.mp_player_laws.proofs.Rising.{numbers_rise}
 use Rattle.mp_player_laws.proofs.Changing.{log_changes}

@@ -13,7 +13,7 @@ use Rattle.mp_names.specs.Frontiers.{HasPassed}
 use Rattle.mp_machine.specs.Worlds.{Worker}
 use Rattle.mp_machine.specs.Steps.{KindFits, MaySendControl}
 use Rattle.mp_stamps.specs.Seen.{seen_at}
-use Rattle.mp_step_order.specs.Decisions.{packets_to_send}
+use Rattle.mp_player_laws.specs.Decisions.{packets_to_send}
 use Rattle.mp_player_laws.specs.Numbers.{numbers_of, StandsAt}
 use Rattle.mp_player_laws.specs.Counted.{IsGivenWithin}
 use Rattle.mp_chart.specs.declared.entry.Entry.{Entry}

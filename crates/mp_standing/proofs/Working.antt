@@ -7,7 +7,7 @@ use Rattle.mp_names.specs.declared.kinds.Kind.{Kind}
 use Rattle.mp_names.specs.declared.locations.Loc.{Loc}
 use Rattle.mp_names.specs.Outlines.{Outline, time_of}
 use Rattle.mp_names.specs.Logs.{Log}
-use Rattle.mp_work_left.specs.WorkLeft.{left_at, work_of, WorkFalls}
+use Rattle.mp_player_laws.specs.WorkLeft.{left_at, work_of, WorkFalls}
 use Rattle.mp_left_counts.specs.declared.work.Work.{Work}
 use Rattle.mp_left_counts.specs.Left.{part_at, work_at}
 use Rattle.mp_left_counts.proofs.Parts.{is_there, there_is, is_here}

@@ -13,7 +13,7 @@ use Rattle.mp_names.specs.Locations.{IsLocation}
 use Rattle.mp_machine.specs.Worlds.{Worker}
 use Rattle.mp_stamps.specs.Seen.{seen_at}
 use Rattle.mp_player_laws.specs.Numbers.{numbers_of, StandsAt}
-use Rattle.mp_work_left.specs.WorkLeft.{left_at, work_of}
+use Rattle.mp_player_laws.specs.WorkLeft.{left_at, work_of}
 use Rattle.mp_left_counts.specs.declared.work.Work.{Work}
 use Rattle.mp_left_counts.specs.Left.{work_at}
 use Rattle.mp_chart.specs.Entries.{entries_of, records_given}

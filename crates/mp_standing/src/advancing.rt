@@ -4,7 +4,7 @@ ghost use Rattle.std.specs.List.{slice_get};
 ghost use Rattle.mp_names.specs.declared.kinds.Kind.{Kind};
 ghost use Rattle.mp_names.specs.declared.locations.Loc.{Loc};
 ghost use Rattle.mp_names.specs.declared.names.Name.{Name};
-ghost use Rattle.mp_work_left.specs.WorkLeft.{mail_of, work_of};
+ghost use Rattle.mp_player_laws.specs.WorkLeft.{mail_of, work_of};
 ghost use Rattle.mp_player_laws.specs.Numbers.{StandsAt};
 ghost use Rattle.mp_chart.specs.Entries.{entry_of};
 ghost use Rattle.mp_chart.specs.Lists.{goes_along, to_do};

@@ -9,7 +9,7 @@ use Rattle.mp_names.specs.declared.names.Name.{Name}
 use Rattle.mp_names.specs.declared.names.Name.TheVariants.{Ctrl, Settled, Written}
 use Rattle.mp_names.specs.Names.{ascending, is_packet, is_settled, joined_below}
 use Rattle.mp_names.specs.Outlines.{Outline, answer_times, control_at, control_times, packets_of, sender, time_of}
-use Rattle.mp_step_order.specs.Decisions.{packets_to_send}
+use Rattle.mp_player_laws.specs.Decisions.{packets_to_send}
 use Rattle.mp_chart.specs.declared.entry.Entry.{Entry}
 use Rattle.mp_chart.specs.Entries.{entries_of, entry_of}
 use Rattle.mp_parted.specs.declared.parting.By.TheVariants.{Sender}

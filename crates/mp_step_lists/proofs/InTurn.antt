@@ -9,7 +9,7 @@ use Rattle.mp_names.specs.declared.names.Name.TheVariants.{Ctrl}
 use Rattle.mp_names.specs.Names.{In}
 use Rattle.mp_names.specs.Outlines.{Outline, ctrl_names, sender, time_of}
 use Rattle.mp_names.proofs.Listed.{ctrl_is}
-use Rattle.mp_step_order.specs.Decisions.{by_time, controls_to_send, placed_by_time, turn_time}
+use Rattle.mp_player_laws.specs.Decisions.{by_time, controls_to_send, placed_by_time, turn_time}
 use Rattle.mp_chart.specs.declared.entry.Entry.{Entry}
 use Rattle.mp_chart.specs.Entries.{entries_of, entry_of}
 use Rattle.mp_step_lists.proofs.Filters.{filter_agree, filter_all, filter_map, filter_none}

@@ -14,8 +14,8 @@ use Rattle.mp_names.specs.Frontiers.{HasPassed}
 use Rattle.mp_names.proofs.Exact.{passed_earlier}
 use Rattle.mp_names.proofs.Lists.{In_filter, filter_In}
 use Rattle.mp_names.proofs.Listed.{ctrl_In, ctrl_is}
-use Rattle.mp_step_order.specs.Decisions.{controls_to_send}
-use Rattle.mp_step_order.proofs.Controls.{In_by_time, by_time_In}
+use Rattle.mp_player_laws.specs.Decisions.{controls_to_send}
+use Rattle.mp_player_laws.proofs.Controls.{In_by_time, by_time_In}
 use Rattle.mp_player_laws.specs.Numbers.{StandsAt}
 use Rattle.mp_chart.specs.declared.entry.Entry.{Entry}
 use Rattle.mp_chart.specs.Entries.{entries_of, entry_of}

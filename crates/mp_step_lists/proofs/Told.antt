@@ -10,7 +10,7 @@ use Rattle.mp_names.specs.declared.kinds.Kind.TheVariants.{Ingest, SendControl, 
 use Rattle.mp_names.specs.Names.{is_packet}
 use Rattle.mp_names.specs.Outlines.{Outline, OutlineIsSound, packets_of, sender, share, control_times}
 use Rattle.mp_names.proofs.Listed.{control_time_is}
-use Rattle.mp_step_order.specs.Decisions.{controls_to_send, packets_to_send}
+use Rattle.mp_player_laws.specs.Decisions.{controls_to_send, packets_to_send}
 use Rattle.mp_chart.specs.declared.entry.Entry.{Entry}
 use Rattle.mp_chart.specs.Entries.{entries_of}
 use Rattle.mp_chart.specs.Lists.{to_do}

@@ -4,7 +4,7 @@ use Rattle.std.specs.List.{range_with_len}
 use Rattle.mp_names.specs.declared.kinds.Kind.{Kind}
 use Rattle.mp_names.specs.declared.kinds.Kind.TheVariants.{Ingest, SendControl, Extract, Settle, Apply, SendRow, Write}
 use Rattle.mp_names.specs.Outlines.{Outline, share, control_times, answer_times}
-use Rattle.mp_step_order.specs.Decisions.{controls_to_send, packets_to_send}
+use Rattle.mp_player_laws.specs.Decisions.{controls_to_send, packets_to_send}
 use Rattle.mp_chart.specs.declared.entry.Entry.{Entry}
 use Rattle.mp_chart.specs.Entries.{entries_of}
 

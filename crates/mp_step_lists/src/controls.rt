@@ -2,7 +2,7 @@
 ghost use Rattle.std.specs.Prelude.{◌≡◌, ◌==◌, ◌++◌, ℕ, Some, true, nat_lt, IfOk, OnOk, filter, slice_get};
 ghost use Rattle.std.specs.List.Sorted.{IsNonDecreasingBy};
 ghost use Rattle.mp_names.specs.Outlines.{ctrl_names};
-ghost use Rattle.mp_step_order.specs.Decisions.{controls_to_send};
+ghost use Rattle.mp_player_laws.specs.Decisions.{controls_to_send};
 ghost use Rattle.mp_chart.specs.declared.entry.Entry.{Entry};
 ghost use Rattle.mp_chart.specs.Entries.{entries_of};
 ghost use Rattle.mp_step_lists.specs.Controls.{IsLatestBelow, sent_to_each};

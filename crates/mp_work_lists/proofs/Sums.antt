@@ -7,7 +7,7 @@ use Rattle.mp_names.specs.declared.names.Name.{Name}
 use Rattle.mp_names.specs.Controls.{control_of}
 use Rattle.mp_names.specs.Names.{In, Distinct, joined_below}
 use Rattle.mp_names.proofs.Lists.{In_here, In_later, counted, count_agree, same_count}
-use Rattle.mp_work_left.specs.WorkLeft.{added_below}
+use Rattle.mp_player_laws.specs.WorkLeft.{added_below}
 
 abbrev one : Bool → ℕ
 one b = cond b 1 0

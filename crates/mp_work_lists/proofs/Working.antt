@@ -13,7 +13,7 @@ use Rattle.mp_names.proofs.Lists.{In_cases, In_filter, filter_In, In_joined, cou
 use Rattle.mp_names.proofs.Listed.{ctrl_owed, ctrl_In, record_owed, row_owed, packet_In, packet_is, packets_ascend, owed_once, owed_is, owed_In, edges, groups_are, group_owner_is_worker, control_time_is}
 use Rattle.mp_names.proofs.Orders.{ascending_once}
 use Rattle.mp_names.proofs.Owners.{move_in_shape}
-use Rattle.mp_work_left.specs.WorkLeft.{added_below, work_left}
+use Rattle.mp_player_laws.specs.WorkLeft.{added_below, work_left}
 use Rattle.mp_work_lists.specs.Parts.{time_in, names_at, controls_at, job_work, stage_work}
 use Rattle.mp_work_lists.proofs.Sums.{same_sum, sum_of_both, sum_of_same, sum_of_none, sum_of_times, sum_of_controls, one_within, one_beyond, by_owner, kind_by_owner, count_kind, count_joined}
 

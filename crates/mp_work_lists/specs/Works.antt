@@ -5,7 +5,7 @@ use Rattle.mp_names.specs.declared.locations.Loc.{Loc}
 use Rattle.mp_names.specs.Locations.{IsLocation}
 use Rattle.mp_names.specs.Logs.{empty_log}
 use Rattle.mp_names.specs.Outlines.{Outline}
-use Rattle.mp_work_left.specs.WorkLeft.{work_left}
+use Rattle.mp_player_laws.specs.WorkLeft.{work_left}
 use Rattle.mp_left_counts.specs.declared.work.Work.{Work}
 use Rattle.mp_left_counts.specs.Left.{work_at}
 

@@ -1,7 +1,7 @@
 //! The parts of the work of a job.
 ghost use Rattle.std.specs.Prelude.{◌≡◌, ◌+◌, ◌<◌, ◌==◌, OnOk, cond, map};
 ghost use Rattle.mp_names.specs.declared.locations.Loc.TheVariants.{Source};
-ghost use Rattle.mp_work_left.specs.WorkLeft.{added_below};
+ghost use Rattle.mp_player_laws.specs.WorkLeft.{added_below};
 ghost use Rattle.mp_rank_order.specs.Moments.{AreMomentsOf};
 ghost use Rattle.mp_work_lists.specs.Parts.{HasMore, control_work, group_work, job_work, move_work, record_work, row_work, stage_work, times_at, work_at_one};
 

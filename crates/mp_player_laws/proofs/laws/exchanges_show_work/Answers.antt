@@ -1,6 +1,6 @@
 use Rattle.mp_machine.specs.Runs.{run_of_machine}
 use Rattle.mp_machine.specs.Worlds.{posted_logs, start_of_machine}
-use Rattle.mp_work_left.proofs.Remaining.{shows_frontier}
+use Rattle.mp_player_laws.proofs.Remaining.{shows_frontier}
 use Rattle.mp_player_laws.proofs.Exchanging.{exchange_sees, start_legal, work_moves}
 use Rattle.mp_player_laws.proofs.laws.exchanges_show_work.Goals as goal
 

@@ -1,6 +1,6 @@
 use Rattle.mp_machine.specs.Runs.{run_of_machine}
 use Rattle.mp_machine.proofs.Worlds.{run_right}
-use Rattle.mp_step_order.proofs.Sending.{always_in_order}
+use Rattle.mp_player_laws.proofs.Sending.{always_in_order}
 use Rattle.mp_player_laws.proofs.Counted.{lists_told, steps_counted}
 use Rattle.mp_player_laws.proofs.Rising.{numbers_rise}
 use Rattle.mp_player_laws.proofs.laws.numbers_decide.Goals as goal

@@ -1,5 +1,5 @@
 use Rattle.std.proofs.Common.{◌+◌}
-use Rattle.mp_work_left.specs.WorkLeft.{added_below}
+use Rattle.mp_player_laws.specs.WorkLeft.{added_below}
 use Rattle.mp_work_lists.specs.Parts.{control_work, row_work, stage_work}
 use Rattle.mp_work_lists.proofs.Growing.{more_and_more}
 use Rattle.mp_work_lists.proofs.parts.add_job.Goals as goal

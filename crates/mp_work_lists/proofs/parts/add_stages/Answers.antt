@@ -1,5 +1,5 @@
 use Rattle.std.proofs.Common.{◌≡◌, ℕ, ◌+◌, add-one, ap, arith, subst, sym}
-use Rattle.mp_work_left.specs.WorkLeft.{added_below}
+use Rattle.mp_player_laws.specs.WorkLeft.{added_below}
 use Rattle.mp_work_lists.specs.Parts.{HasMore, stage_work}
 use Rattle.mp_work_lists.proofs.Growing.{as_much, more_and_more, no_more}
 use Rattle.mp_work_lists.proofs.parts.add_stages.Goals as goal

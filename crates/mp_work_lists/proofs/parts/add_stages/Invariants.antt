@@ -1,5 +1,5 @@
 -- The work of the stages so far is added.
-use Rattle.mp_work_left.specs.WorkLeft.{added_below}
+use Rattle.mp_player_laws.specs.WorkLeft.{added_below}
 use Rattle.mp_work_lists.specs.Parts.{HasMore, stage_work}
 use Rattle.mp_work_lists.proofs.parts.add_stages.Given as goal
 

@@ -1,7 +1,7 @@
 -- The groups up to the row's moment.
 use Rattle.std.proofs.Common.{length, sym}
 use Rattle.std.proofs.lemmas.Bool.{ltb-false, ltb-true}
-use Rattle.mp_step_order.specs.Decisions.{rows_to_send}
+use Rattle.mp_player_laws.specs.Decisions.{rows_to_send}
 use Rattle.mp_group_lists.proofs.Held.{found_before, not_past}
 use Rattle.mp_group_lists.proofs.lists.GroupLists.groups_before.Goals as goal
 

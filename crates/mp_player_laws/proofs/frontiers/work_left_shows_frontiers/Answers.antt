@@ -1,8 +1,8 @@
 use Rattle.mp_machine.specs.Runs.{run_of_machine}
 use Rattle.mp_machine.proofs.Worlds.{run_right}
-use Rattle.mp_work_left.proofs.Doing.{does}
-use Rattle.mp_work_left.proofs.Remaining.{nothing_left, shows_frontier, no_work_at_end, end_from_no_work}
-use Rattle.mp_work_left.proofs.frontiers.work_left_shows_frontiers.Goals as goal
+use Rattle.mp_player_laws.proofs.Doing.{does}
+use Rattle.mp_player_laws.proofs.Remaining.{nothing_left, shows_frontier, no_work_at_end, end_from_no_work}
+use Rattle.mp_player_laws.proofs.frontiers.work_left_shows_frontiers.Goals as goal
 
 pub returns-clause-done : goal.returns-clause-done
 returns-clause-done c = λ o w log a t ok. nothing_left o ok w log t a

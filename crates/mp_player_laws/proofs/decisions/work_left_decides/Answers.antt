@@ -1,6 +1,6 @@
-use Rattle.mp_step_order.proofs.Deciding.{steps_decided}
-use Rattle.mp_step_order.proofs.Sending.{always_in_order}
-use Rattle.mp_step_order.proofs.decisions.work_left_decides.Goals as goal
+use Rattle.mp_player_laws.proofs.Deciding.{steps_decided}
+use Rattle.mp_player_laws.proofs.Sending.{always_in_order}
+use Rattle.mp_player_laws.proofs.decisions.work_left_decides.Goals as goal
 
 pub returns-clause-sent : goal.returns-clause-sent
 returns-clause-sent c = λ o depth steps ok. always_in_order o ok depth steps

@@ -18,7 +18,7 @@ use Rattle.mp_names.proofs.Exists.{frontier_is}
 use Rattle.mp_machine.specs.Worlds.{World, posted_logs}
 use Rattle.mp_machine.specs.Runs.{IsFinished}
 use Rattle.mp_machine.proofs.Feeders.{to_the_end}
-use Rattle.mp_work_left.specs.WorkLeft.{undone, hosted_groups, left_at, added_below, work_left}
+use Rattle.mp_player_laws.specs.WorkLeft.{undone, hosted_groups, left_at, added_below, work_left}
 
 module _ (o : Outline) (t : ℕ) (all done : List Name) where
   none_undone : undone o t all done ≡ 0 → (x : Name) → In x all → time_of o x ≡ t → In x done

@@ -10,8 +10,8 @@ use Rattle.mp_names.specs.Keeping.{IsHeld}
 use Rattle.mp_names.proofs.Lists.{In_here, In_later, In_cases, In_append, In_joined}
 use Rattle.mp_names.proofs.Orders.{less_irreflexive, less_trans, filter_ascends}
 use Rattle.mp_machine.specs.Steps.{IsControlDue}
-use Rattle.mp_step_order.specs.Decisions.{turn_time, placed_by_time, by_time, controls_to_send}
-use Rattle.mp_step_order.proofs.Next.{AreInOrder, IsFirst, IsOrder}
+use Rattle.mp_player_laws.specs.Decisions.{turn_time, placed_by_time, by_time, controls_to_send}
+use Rattle.mp_player_laws.proofs.Next.{AreInOrder, IsFirst, IsOrder}
 
 -- by rank
 

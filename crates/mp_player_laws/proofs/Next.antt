@@ -5,7 +5,7 @@ use Rattle.mp_names.specs.declared.names.Name.{Name}
 use Rattle.mp_names.specs.Names.{has, In, IsPrefix, Less, IsAscending}
 use Rattle.mp_names.proofs.Lists.{In_here, In_right, In_cases, In_append, In_push, In_prefix}
 use Rattle.mp_names.proofs.Orders.{less_irreflexive, less_trans}
-use Rattle.mp_step_order.specs.Decisions.{ComesNext}
+use Rattle.mp_player_laws.specs.Decisions.{ComesNext}
 
 -- each name of the list comes before those behind it
 abbrev pub AreInOrder : (Name → Name → Type 0) → List Name → Type 0

@@ -25,10 +25,10 @@ use Rattle.mp_machine.proofs.Puts.{put_all}
 use Rattle.mp_machine.proofs.Candidates.{ctrl_into}
 use Rattle.mp_machine.proofs.Messages.{bundle_held}
 use Rattle.mp_machine.proofs.Worlds.{known, run_keeps, logs_are}
-use Rattle.mp_step_order.specs.Decisions.{ComesNext, controls_to_send, packets_to_send, rows_to_send, SendsInOrder}
-use Rattle.mp_step_order.proofs.Next.{AreInOrder, by_rank, ascending_in_order, next_from_first, first_from_next}
-use Rattle.mp_step_order.proofs.Controls.{GoesBefore, by_turn, by_time_In, In_by_time, controls_in_order, first_held, least_due}
-use Rattle.mp_step_order.proofs.Decided.{not_in_filter, IsUnsentRow, extract_to, send_to}
+use Rattle.mp_player_laws.specs.Decisions.{ComesNext, controls_to_send, packets_to_send, rows_to_send, SendsInOrder}
+use Rattle.mp_player_laws.proofs.Next.{AreInOrder, by_rank, ascending_in_order, next_from_first, first_from_next}
+use Rattle.mp_player_laws.proofs.Controls.{GoesBefore, by_turn, by_time_In, In_by_time, controls_in_order, first_held, least_due}
+use Rattle.mp_player_laws.proofs.Decided.{not_in_filter, IsUnsentRow, extract_to, send_to}
 
 -- the lists are in order
 

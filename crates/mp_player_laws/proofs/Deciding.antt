@@ -5,9 +5,9 @@ use Rattle.mp_names.specs.Outlines.{Outline, OutlineIsSound}
 use Rattle.mp_machine.specs.Worlds.{Worker}
 use Rattle.mp_machine.specs.Runs.{run_of_machine}
 use Rattle.mp_machine.proofs.Worlds.{known, run_right}
-use Rattle.mp_step_order.proofs.Decided.{apply_to, apply_from, extract_to, extract_from, settle_to, settle_from, send_to, send_from, write_to, write_from}
-use Rattle.mp_step_order.proofs.Sending.{control_next, control_least, packet_next, packet_least, row_next, row_least, always_in_order}
-use Rattle.mp_step_order.specs.Decisions.{StepsAreDecided}
+use Rattle.mp_player_laws.proofs.Decided.{apply_to, apply_from, extract_to, extract_from, settle_to, settle_from, send_to, send_from, write_to, write_from}
+use Rattle.mp_player_laws.proofs.Sending.{control_next, control_least, packet_next, packet_least, row_next, row_least, always_in_order}
+use Rattle.mp_player_laws.specs.Decisions.{StepsAreDecided}
 
 pub steps_decided : (o : Outline) (ok : OutlineIsSound o) (depth : ℕ) (steps : List (ℕ × Kind)) (w : ℕ) (l : w < o.workers) → StepsAreDecided o depth (run_of_machine o depth steps) w l
 steps_decided o ok depth steps w l =

@@ -24,11 +24,11 @@ use Rattle.mp_machine.proofs.Mailboxes.{once_apart, waiting_is_right, waiting_on
 use Rattle.mp_machine.proofs.Messages.{bundle_held, bundle_time, bundle_ascends}
 use Rattle.mp_machine.proofs.Searches.{some_same}
 use Rattle.mp_machine.proofs.Worlds.{WorldIsRight, known}
-use Rattle.mp_work_left.specs.WorkLeft.{undone, hosted_groups, left_at, mail_of, WorkFalls}
-use Rattle.mp_step_order.proofs.Next.{next_in, next_is_new}
-use Rattle.mp_step_order.proofs.Decided.{not_in_filter, owned_ascend, apply_to, settle_to}
-use Rattle.mp_work_left.proofs.Falling.{undone_falls, sent_falls, took_falls, sent_stays, took_stays, applied_stays, settled_stays, ingested_stays}
-use Rattle.mp_step_order.proofs.Sending.{ctrl_packet, ctrl_row, packet_row, record_alone}
+use Rattle.mp_player_laws.specs.WorkLeft.{undone, hosted_groups, left_at, mail_of, WorkFalls}
+use Rattle.mp_player_laws.proofs.Next.{next_in, next_is_new}
+use Rattle.mp_player_laws.proofs.Decided.{not_in_filter, owned_ascend, apply_to, settle_to}
+use Rattle.mp_player_laws.proofs.Falling.{undone_falls, sent_falls, took_falls, sent_stays, took_stays, applied_stays, settled_stays, ingested_stays}
+use Rattle.mp_player_laws.proofs.Sending.{ctrl_packet, ctrl_row, packet_row, record_alone}
 
 -- one name
 

@@ -24,8 +24,8 @@ use Rattle.mp_names.proofs.Whole.{in_hand_before}
 use Rattle.mp_names.proofs.Keeps.{group_keeps, time_keeps, written_keeps}
 use Rattle.mp_machine.specs.Worlds.{Worker}
 use Rattle.mp_machine.specs.Steps.{IsDue, MayLeave, MaySettle, MayApply}
-use Rattle.mp_step_order.specs.Decisions.{ComesNext}
-use Rattle.mp_step_order.proofs.Next.{next_in, next_is_new, less_is_done}
+use Rattle.mp_player_laws.specs.Decisions.{ComesNext}
+use Rattle.mp_player_laws.proofs.Next.{next_in, next_is_new, less_is_done}
 
 -- an answer row that the worker owes and hasn't sent
 abbrev pub IsUnsentRow : Outline → ℕ → Log → Name → Type 0

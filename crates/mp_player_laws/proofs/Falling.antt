@@ -9,7 +9,7 @@ use Rattle.mp_names.specs.Outlines.{Outline, OutlineIsSound, time_of, sender, re
 use Rattle.mp_names.specs.Logs.{Log}
 use Rattle.mp_names.proofs.Listed.{owed_once, owed_by_In, owed_to_In}
 use Rattle.mp_names.proofs.Lists.{In_filter, filter_In, Distinct_filter, count_split, count_agree, same_count, all_counted}
-use Rattle.mp_work_left.specs.WorkLeft.{undone, hosted_groups, left_at}
+use Rattle.mp_player_laws.specs.WorkLeft.{undone, hosted_groups, left_at}
 
 -- as the lemmas on counts have it
 abbrev one : Bool → ℕ
