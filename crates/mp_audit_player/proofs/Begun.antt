@@ -28,9 +28,9 @@ use Rattle.mp_player_laws.proofs.Exchanging.{start_legal}
 use Rattle.mp_stamps.specs.Counts.{CountTable}
 use Rattle.mp_stamps.specs.Seen.{seen_at}
 use Rattle.mp_stamps.specs.declared.seen.Seen.{Seen}
-use Rattle.mp_left_counts.specs.declared.work.Work.{Work}
-use Rattle.mp_left_counts.specs.Left.{IsWorkOf, left_in, part_at, work_at}
-use Rattle.mp_left_counts.proofs.Parts.{is_here}
+use Rattle.mp_chart.specs.declared.work.Work.{Work}
+use Rattle.mp_chart.specs.Left.{IsWorkOf, left_in, part_at, work_at}
+use Rattle.mp_chart.proofs.Parts.{is_here}
 use Rattle.mp_chart.specs.declared.entry.Entry.{Entry}
 use Rattle.mp_chart.specs.Entries.{entries_of}
 use Rattle.mp_chart.specs.Lists.{number_at}

@@ -5,12 +5,11 @@ ghost use Rattle.mp_names.specs.Outlines.{OutlineIsSound};
 ghost use Rattle.mp_names.specs.declared.locations.Loc.{Loc};
 ghost use Rattle.mp_machine.specs.Worlds.{start_of_machine};
 ghost use Rattle.mp_player_laws.specs.WorkLeft.{work_left};
-ghost use Rattle.mp_left_counts.specs.Left.{left_in};
+ghost use Rattle.mp_chart.specs.Left.{left_in};
 ghost use Rattle.mp_player.specs.Shows.{Shows};
 ghost use Rattle.mp_audit_player.specs.Starting.{IsAtStart};
 
-use mp_chart::Chart;
-use mp_left_counts::LeftCounts;
+use mp_chart::{Chart, LeftCounts};
 use mp_play_held::Held;
 use mp_play_mail::Mail;
 use mp_player::State;

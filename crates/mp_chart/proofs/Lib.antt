@@ -1,2 +1,5 @@
+pub mod Parts
+pub mod Taking
+pub mod Ending
 pub mod Deciding
 pub mod Changed

@@ -11,12 +11,12 @@ ghost use Rattle.mp_names.specs.declared.kinds.Kind.TheVariants.{Apply, SendCont
 ghost use Rattle.mp_player_laws.specs.Numbers.{StandsAt};
 ghost use Rattle.mp_player_laws.specs.Counted.{IsGivenWithin};
 ghost use Rattle.mp_player_laws.specs.WorkLeft.{work_left};
-ghost use Rattle.mp_left_counts.specs.Left.{work_at};
+ghost use Rattle.mp_chart.specs.Left.{work_at};
 ghost use Rattle.mp_chart.specs.Entries.{entries_of, records_given};
 ghost use Rattle.mp_chart.specs.Lists.{IsPaceOf, to_do};
 
 use crate::entry::Entry;
-use mp_left_counts::Work;
+use crate::work::Work;
 use mp_names::{Kind, Time};
 
 /// The outline of a job as lists. Workers and stages are numbers of the job.

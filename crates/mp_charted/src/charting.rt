@@ -1,9 +1,8 @@
 //! A chart made of lists.
 ghost use Rattle.std.specs.Prelude.{◌≡◌, IfOk};
 
-use mp_chart::{Chart, Entry};
+use mp_chart::{Chart, Entry, Work};
 use mp_group_lists::GroupLists;
-use mp_left_counts::Work;
 use mp_names::{Kind, Time};
 use mp_outline_lists::OutlineLists;
 use mp_rank_order::moments_by_stage;

@@ -17,7 +17,7 @@ use Rattle.mp_machine.specs.Worlds.{World}
 use Rattle.mp_machine.specs.Runs.{IsFinished}
 use Rattle.mp_player_laws.proofs.Remaining.{no_work_at_end, end_from_no_work}
 use Rattle.mp_player_laws.proofs.Places.{beginning_is, stands_next}
-use Rattle.mp_left_counts.specs.Left.{left_in}
+use Rattle.mp_chart.specs.Left.{left_in}
 use Rattle.mp_chart.specs.Entries.{entries_of, entry_of}
 use Rattle.mp_standing.proofs.Giving.{fresh}
 use Rattle.mp_standing.proofs.Advanced.{reached_right}

@@ -22,7 +22,7 @@ use Rattle.mp_stamps.specs.Seen.{seen_at}
 use Rattle.mp_player_laws.specs.WorkLeft.{work_left}
 use Rattle.mp_player_laws.proofs.Made.{leads_to_exchange}
 use Rattle.mp_player_laws.proofs.Exchanging.{work_moves, exchange_sees}
-use Rattle.mp_left_counts.specs.Left.{HasWork, left_in, work_at}
+use Rattle.mp_chart.specs.Left.{HasWork, left_in, work_at}
 use Rattle.mp_standing.specs.declared.standing.Standing.{Standing}
 use Rattle.mp_standing.specs.Standings.{Stands, AreHeld}
 use Rattle.mp_standing.specs.Numbers.{AreNumbers}

@@ -15,7 +15,7 @@ use Rattle.mp_machine.proofs.Puts.{put_here, put_other}
 use Rattle.mp_machine.proofs.Worlds.{after_more}
 use Rattle.mp_player_laws.specs.WorkLeft.{work_left}
 use Rattle.mp_player_laws.proofs.Made.{leads_to_step}
-use Rattle.mp_left_counts.specs.Left.{Left, left_in}
+use Rattle.mp_chart.specs.Left.{Left, left_in}
 use Rattle.mp_standing.specs.declared.standing.Standing.{Standing}
 use Rattle.mp_standing.specs.Standings.{Stands}
 use Rattle.mp_standing.specs.Advancing.{IsReached}

@@ -16,7 +16,7 @@ use Rattle.mp_stamps.specs.Seen.{seen_at}
 use Rattle.mp_stamps.specs.declared.seen.Seen.{Seen}
 use Rattle.mp_player_laws.specs.Numbers.{Numbers, numbers_of}
 use Rattle.mp_player_laws.proofs.Rising.{numbers_rise}
-use Rattle.mp_left_counts.specs.declared.work.Work.{Work}
+use Rattle.mp_chart.specs.declared.work.Work.{Work}
 use Rattle.mp_chart.specs.Entries.{entry_of}
 use Rattle.mp_play_held.specs.declared.held.Held.{Held}
 use Rattle.mp_play_mail.specs.declared.message.Message.{Message}

@@ -10,7 +10,7 @@ use Rattle.mp_machine.specs.Worlds.{World, posted_logs}
 use Rattle.mp_machine.specs.Steps.{CanStep, names_of, stepped}
 use Rattle.mp_player_laws.specs.WorkLeft.{work_left}
 use Rattle.mp_player_laws.specs.Numbers.{StandsAt}
-use Rattle.mp_left_counts.specs.Left.{left_in}
+use Rattle.mp_chart.specs.Left.{left_in}
 use Rattle.mp_chart.specs.declared.entry.Entry.{Entry}
 use Rattle.mp_chart.specs.Entries.{entry_of}
 use Rattle.mp_chart.specs.Lists.{to_do}

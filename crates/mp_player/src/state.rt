@@ -1,6 +1,6 @@
 //! What a player keeps of a world.
 
-use mp_left_counts::LeftCounts;
+use mp_chart::LeftCounts;
 use mp_play_mail::Mail;
 use mp_standing::Standing;
 

@@ -20,8 +20,8 @@ use Rattle.mp_player_laws.proofs.Doing.{does}
 use Rattle.mp_player_laws.specs.Numbers.{numbers_of, StandsAt}
 use Rattle.mp_player_laws.proofs.Rising.{numbers_rise}
 use Rattle.mp_player_laws.proofs.Changing.{log_changes}
-use Rattle.mp_left_counts.specs.declared.work.Work.{Work}
-use Rattle.mp_left_counts.specs.Left.{work_at}
+use Rattle.mp_chart.specs.declared.work.Work.{Work}
+use Rattle.mp_chart.specs.Left.{work_at}
 use Rattle.mp_chart.specs.declared.entry.Entry.{Entry}
 use Rattle.mp_chart.specs.Entries.{entry_of}
 use Rattle.mp_chart.specs.Lists.{goes_along, to_do}

@@ -8,9 +8,9 @@ use Rattle.mp_names.specs.declared.locations.Loc.{Loc}
 use Rattle.mp_names.specs.Outlines.{Outline, time_of}
 use Rattle.mp_names.specs.Logs.{Log}
 use Rattle.mp_player_laws.specs.WorkLeft.{left_at, work_of, WorkFalls}
-use Rattle.mp_left_counts.specs.declared.work.Work.{Work}
-use Rattle.mp_left_counts.specs.Left.{part_at, work_at}
-use Rattle.mp_left_counts.proofs.Parts.{is_there, there_is, is_here}
+use Rattle.mp_chart.specs.declared.work.Work.{Work}
+use Rattle.mp_chart.specs.Left.{part_at, work_at}
+use Rattle.mp_chart.proofs.Parts.{is_there, there_is, is_here}
 use Rattle.mp_standing.specs.Standings.{IsWorkDone}
 
 module _ (o : Outline) (w : ℕ) (log new : Log) (kind : Kind) (x : Name) (n : ℕ) (falls : WorkFalls o w log new kind x n) (work : Work) (is : IsWorkDone kind x (time_of o x) n work) where

@@ -14,8 +14,8 @@ use Rattle.mp_machine.specs.Worlds.{Worker}
 use Rattle.mp_stamps.specs.Seen.{seen_at}
 use Rattle.mp_player_laws.specs.Numbers.{numbers_of, StandsAt}
 use Rattle.mp_player_laws.specs.WorkLeft.{left_at, work_of}
-use Rattle.mp_left_counts.specs.declared.work.Work.{Work}
-use Rattle.mp_left_counts.specs.Left.{work_at}
+use Rattle.mp_chart.specs.declared.work.Work.{Work}
+use Rattle.mp_chart.specs.Left.{work_at}
 use Rattle.mp_chart.specs.Entries.{entries_of, records_given}
 use Rattle.mp_chart.specs.Lists.{to_do}
 use Rattle.mp_play_held.specs.Lists.{with_all}

@@ -13,8 +13,7 @@ ghost use Rattle.mp_standing.specs.Numbers.{done_at};
 ghost use Rattle.mp_standing.specs.Standings.{HasGiven, IsWorkDone};
 
 use crate::standing::Standing;
-use mp_chart::{Chart, Entry};
-use mp_left_counts::Work;
+use mp_chart::{Chart, Entry, Work};
 use mp_names::{Kind, Loc, Name};
 use std::alloc::AllocError;
 

@@ -5,8 +5,7 @@ ghost use Rattle.mp_play_held.specs.Lists.{with_all};
 ghost use Rattle.mp_standing.specs.Numbers.{IsCounted, done_at};
 
 use crate::done::Done;
-use mp_chart::Entry;
-use mp_left_counts::Work;
+use mp_chart::{Entry, Work};
 use mp_names::Kind;
 use mp_play_held::Held;
 use mp_stamps::Seen;

@@ -6,9 +6,9 @@ use Rattle.std.proofs.lemmas.List.Sums.{sum_by-set, sum_by_push, sum_by_more}
 use Rattle.mp_names.specs.declared.locations.Loc.{Loc}
 use Rattle.mp_names.specs.Locations.{IsLocation}
 use Rattle.mp_stamps.specs.Counts.{same_loc}
-use Rattle.mp_left_counts.specs.declared.work.Work.{Work}
-use Rattle.mp_left_counts.specs.Left.{part_at, work_at}
-use Rattle.mp_left_counts.proofs.Parts.{part_here, part_joined}
+use Rattle.mp_chart.specs.declared.work.Work.{Work}
+use Rattle.mp_chart.specs.Left.{part_at, work_at}
+use Rattle.mp_chart.proofs.Parts.{part_here, part_joined}
 use Rattle.mp_work_lists.specs.Parts.{HasMore, IsFit, times_at, work_of_times}
 
 pub no_more : (xs : List Work) → HasMore (λ a t. 0) xs xs

@@ -13,8 +13,8 @@ use Rattle.mp_names.specs.Names.{is_packet}
 use Rattle.mp_names.specs.Outlines.{Outline, OutlineIsSound, packets_of, groups_of, control_times}
 use Rattle.mp_stamps.specs.Counts.{same_loc}
 use Rattle.mp_player_laws.specs.WorkLeft.{work_left}
-use Rattle.mp_left_counts.specs.declared.work.Work.{Work}
-use Rattle.mp_left_counts.specs.Left.{part_at, work_at}
+use Rattle.mp_chart.specs.declared.work.Work.{Work}
+use Rattle.mp_chart.specs.Left.{part_at, work_at}
 use Rattle.mp_work_lists.specs.Parts.{HasMore, IsFit, times_at, names_at, controls_at, work_at_one, work_of_times, control_work, record_work, move_work, group_work, row_work, job_work}
 use Rattle.mp_work_lists.specs.Works.{IsAllWork}
 use Rattle.mp_work_lists.proofs.Growing.{no_more, more_and_more, as_much}

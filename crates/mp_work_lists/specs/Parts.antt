@@ -10,8 +10,8 @@ use Rattle.mp_names.specs.Names.{is_packet}
 use Rattle.mp_names.specs.Outlines.{Outline, packets_of, groups_of, control_times}
 use Rattle.mp_stamps.specs.Counts.{same_loc}
 use Rattle.mp_player_laws.specs.WorkLeft.{added_below}
-use Rattle.mp_left_counts.specs.declared.work.Work.{Work}
-use Rattle.mp_left_counts.specs.Left.{work_at}
+use Rattle.mp_chart.specs.declared.work.Work.{Work}
+use Rattle.mp_chart.specs.Left.{work_at}
 
 -- How many of a time there are
 

@@ -6,8 +6,8 @@ use Rattle.mp_names.specs.Locations.{IsLocation}
 use Rattle.mp_names.specs.Logs.{empty_log}
 use Rattle.mp_names.specs.Outlines.{Outline}
 use Rattle.mp_player_laws.specs.WorkLeft.{work_left}
-use Rattle.mp_left_counts.specs.declared.work.Work.{Work}
-use Rattle.mp_left_counts.specs.Left.{work_at}
+use Rattle.mp_chart.specs.declared.work.Work.{Work}
+use Rattle.mp_chart.specs.Left.{work_at}
 
 -- what contracts see of work that is listed
 pub record Listed : Type 0 where

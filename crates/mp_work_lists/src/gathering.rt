@@ -1,9 +1,9 @@
 //! Work added to a list.
 ghost use Rattle.std.specs.Prelude.{◌≡◌, ◌<◌, OnOk, false, true};
-ghost use Rattle.mp_left_counts.specs.Left.{part_at};
+ghost use Rattle.mp_chart.specs.Left.{part_at};
 ghost use Rattle.mp_work_lists.specs.Parts.{HasMore, work_of_times};
 
-use mp_left_counts::Work;
+use mp_chart::Work;
 use mp_names::{Loc, Time};
 use std::alloc::AllocError;
 

@@ -9,7 +9,7 @@ use crate::gathering::add_times;
 use crate::times::{
     times_of_controls, times_of_groups, times_of_names, times_of_packets, times_to_settle,
 };
-use mp_left_counts::Work;
+use mp_chart::Work;
 use mp_names::{Loc, Time};
 use mp_outline_lists::OutlineLists;
 use mp_rank_order::{Moment, moments_at};

@@ -2,7 +2,7 @@ use Rattle.std.proofs.Common.{◌≡◌, ℕ, Option, subst}
 use Rattle.std.specs.Prelude.{IsTrue, ◌↔◌}
 use Rattle.mp_names.specs.declared.locations.Loc.{Loc}
 use Rattle.mp_names.specs.Outlines.{IsBeforeStop}
-use Rattle.mp_left_counts.specs.Left.{left_in}
+use Rattle.mp_chart.specs.Left.{left_in}
 use Rattle.mp_player.proofs.Ended.{all_over}
 use Rattle.mp_player.proofs.ending.is_finished.Goals as goal
 

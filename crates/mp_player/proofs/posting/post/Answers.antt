@@ -5,8 +5,8 @@ use Rattle.mp_names.specs.declared.locations.Loc.{Loc}
 use Rattle.mp_names.specs.Frontiers.{IsFrontierOf}
 use Rattle.mp_names.specs.Locations.{IsLocation}
 use Rattle.mp_stamps.specs.Seen.{seen_at}
-use Rattle.mp_left_counts.specs.declared.work.Work.{Work}
-use Rattle.mp_left_counts.specs.Left.{HasWork, left_in, work_at}
+use Rattle.mp_chart.specs.declared.work.Work.{Work}
+use Rattle.mp_chart.specs.Left.{HasWork, left_in, work_at}
 use Rattle.mp_player.proofs.Exchanging.{enough, shows_exchanged}
 use Rattle.mp_player.proofs.posting.post.Goals as goal
 

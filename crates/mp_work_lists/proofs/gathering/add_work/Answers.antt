@@ -1,6 +1,6 @@
 use Rattle.std.proofs.Common.{◌∙◌, ◌++◌, ◌∷◌, [], List, ap, subst, sym}
-use Rattle.mp_left_counts.specs.declared.work.Work.{Work}
-use Rattle.mp_left_counts.specs.Left.{part_at}
+use Rattle.mp_chart.specs.declared.work.Work.{Work}
+use Rattle.mp_chart.specs.Left.{part_at}
 use Rattle.mp_work_lists.specs.Parts.{HasMore}
 use Rattle.mp_work_lists.proofs.Growing.{more_by_push}
 use Rattle.mp_work_lists.proofs.gathering.add_work.Goals as goal

@@ -1,6 +1,6 @@
 use Rattle.std.proofs.Common.{List, ◌<◌, subst, sym}
-use Rattle.mp_left_counts.specs.declared.work.Work.{Work}
-use Rattle.mp_left_counts.specs.Left.{work_at}
+use Rattle.mp_chart.specs.declared.work.Work.{Work}
+use Rattle.mp_chart.specs.Left.{work_at}
 use Rattle.mp_work_lists.proofs.Joining.{all_work}
 use Rattle.mp_work_lists.proofs.work_lists.WorkLists.of.Goals as goal
 

@@ -4,8 +4,8 @@ use Rattle.std.proofs.lemmas.Bool.{and_parts, and_from, eqb-true, eq-eqb}
 use Rattle.mp_names.specs.declared.locations.Loc.{Loc}
 use Rattle.mp_stamps.specs.Counts.{same_loc}
 use Rattle.mp_stamps.proofs.Places.{same_loc-true, same_loc-self}
-use Rattle.mp_left_counts.specs.declared.work.Work.{Work}
-use Rattle.mp_left_counts.specs.Left.{part_at}
+use Rattle.mp_chart.specs.declared.work.Work.{Work}
+use Rattle.mp_chart.specs.Left.{part_at}
 
 abbrev pub is_there : Loc → ℕ → Work → Bool
 is_there a t work = same_loc work.loc a && work.time == t

@@ -1,6 +1,6 @@
 use Rattle.std.proofs.Common.{arith}
-use Rattle.mp_left_counts.proofs.Parts.{part_joined}
-use Rattle.mp_left_counts.proofs.left.go_on.Goals as goal
+use Rattle.mp_chart.proofs.Parts.{part_joined}
+use Rattle.mp_chart.proofs.left.go_on.Goals as goal
 
 pub returns-in-Some-clause-work : goal.returns-in-Some-clause-work
 returns-in-Some-clause-work c = λ _ a t.

@@ -2,10 +2,10 @@ use Rattle.std.proofs.Common.{◌<◌, ◌≤◌, ap, length, get_or, arith}
 use Rattle.std.proofs.lemmas.List.{take_all}
 use Rattle.std.proofs.lemmas.List.Sums.{sum_by_more, sum_by_more_le}
 use Rattle.mp_names.specs.declared.locations.Loc.TheVariants.{Ctl}
-use Rattle.mp_left_counts.specs.declared.work.Work.{Work}
-use Rattle.mp_left_counts.specs.Left.{left_in, part_at, work_at}
-use Rattle.mp_left_counts.proofs.Parts.{part_here}
-use Rattle.mp_left_counts.proofs.left.take_all.Goals as goal
+use Rattle.mp_chart.specs.declared.work.Work.{Work}
+use Rattle.mp_chart.specs.Left.{left_in, part_at, work_at}
+use Rattle.mp_chart.proofs.Parts.{part_here}
+use Rattle.mp_chart.proofs.left.take_all.Goals as goal
 
 pub loop-work-preserved : goal.loop-work-preserved
 loop-work-preserved c =

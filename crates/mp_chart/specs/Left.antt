@@ -4,7 +4,7 @@ use Rattle.std.specs.List.{sum_by}
 use Rattle.mp_names.specs.declared.locations.Loc.{Loc}
 use Rattle.mp_names.specs.Locations.{IsLocation}
 use Rattle.mp_stamps.specs.Counts.{CountTable, same_loc, count_in, IsCounted}
-use Rattle.mp_left_counts.specs.declared.work.Work.{Work}
+use Rattle.mp_chart.specs.declared.work.Work.{Work}
 
 -- what contracts see of numbers of work left: of how many stages the job is, and the counts
 pub record Left : Type 0 where

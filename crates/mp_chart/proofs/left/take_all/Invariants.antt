@@ -1,8 +1,8 @@
 -- What is taken is all the work so far but the run.
 use Rattle.std.proofs.Common.{◌≡◌, ℕ, ◌+◌, take}
 use Rattle.mp_names.specs.declared.locations.Loc.{Loc}
-use Rattle.mp_left_counts.specs.Left.{AreLeft, HasWork, left_in, part_at, work_at}
-use Rattle.mp_left_counts.proofs.left.take_all.Given as goal
+use Rattle.mp_chart.specs.Left.{AreLeft, HasWork, left_in, part_at, work_at}
+use Rattle.mp_chart.proofs.left.take_all.Given as goal
 
 abbrev pub invariant-loop-work : goal.invariant-loop-work
 invariant-loop-work l =

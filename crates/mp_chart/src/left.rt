@@ -8,7 +8,7 @@ ghost use Rattle.mp_names.specs.Outlines.{IsBeforeStop};
 ghost use Rattle.mp_names.specs.declared.locations.Loc.{Loc};
 ghost use Rattle.mp_stamps.specs.Counts.{IsCounted, SamePlaces, count_in, low_of};
 ghost use Rattle.mp_stamps.specs.Seen.{seen_at};
-ghost use Rattle.mp_left_counts.specs.Left.{AreLeft, HasWork, IsWorkOf, left_in, part_at, work_at};
+ghost use Rattle.mp_chart.specs.Left.{AreLeft, HasWork, IsWorkOf, left_in, part_at, work_at};
 
 use crate::work::Work;
 use mp_names::{Frontier, Loc, Time};
@@ -24,13 +24,13 @@ pub struct LeftCounts {
 }
 
 impl Model for LeftCounts {
-    ghost use Rattle.mp_left_counts.specs.Left.{Left};
+    ghost use Rattle.mp_chart.specs.Left.{Left};
 
     ghost Value = { Left };
 
     ghost use Rattle.std.specs.Prelude.{◌≤◌};
     ghost use Rattle.mp_names.specs.Limits.{most_stages};
-    ghost use Rattle.mp_left_counts.specs.Left.{AreLeft};
+    ghost use Rattle.mp_chart.specs.Left.{AreLeft};
 
     ghost view = { λ c. record { stages = c.stages; counts = c.counts } };
 

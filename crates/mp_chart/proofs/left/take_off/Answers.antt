@@ -1,8 +1,8 @@
 use Rattle.std.proofs.Common.{◌≡◌, ◌<◌, ◌≤◌, ◌^◌, ◌-◌, ◌+◌, ◌+ℤ◌, ap, ◌∙◌, rules, arith}
 use Rattle.mp_stamps.specs.Counts.{count_in}
-use Rattle.mp_left_counts.specs.Left.{left_in}
-use Rattle.mp_left_counts.proofs.Taking.{less_is, still_left, taken_here, work_taken}
-use Rattle.mp_left_counts.proofs.left.take_off.Goals as goal
+use Rattle.mp_chart.specs.Left.{left_in}
+use Rattle.mp_chart.proofs.Taking.{less_is, still_left, taken_here, work_taken}
+use Rattle.mp_chart.proofs.left.take_off.Goals as goal
 
 pub returns-clause-left : goal.returns-clause-left
 returns-clause-left c =

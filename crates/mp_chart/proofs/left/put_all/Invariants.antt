@@ -1,8 +1,8 @@
 use Rattle.std.proofs.Common.{◌≡◌, ◌≤◌, ◌*◌, ◌^◌, ℕ, take}
 use Rattle.mp_names.specs.declared.locations.Loc.{Loc}
 use Rattle.mp_stamps.specs.Counts.{SamePlaces}
-use Rattle.mp_left_counts.specs.Left.{AreLeft, left_in, work_at}
-use Rattle.mp_left_counts.proofs.left.put_all.Given as goal
+use Rattle.mp_chart.specs.Left.{AreLeft, left_in, work_at}
+use Rattle.mp_chart.proofs.left.put_all.Given as goal
 
 abbrev pub invariant-loop-work : goal.invariant-loop-work
 invariant-loop-work l =

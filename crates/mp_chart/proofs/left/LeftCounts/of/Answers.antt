@@ -1,7 +1,7 @@
 use Rattle.std.proofs.Common.{ℕ, List, sym, subst}
-use Rattle.mp_left_counts.specs.Left.{IsWorkOf}
+use Rattle.mp_chart.specs.Left.{IsWorkOf}
 use Rattle.std.specs.Prelude.{All}
-use Rattle.mp_left_counts.proofs.left.LeftCounts.of.Goals as goal
+use Rattle.mp_chart.proofs.left.LeftCounts.of.Goals as goal
 
 pub put_all-requires-clause-there : goal.put_all-requires-clause-there
 put_all-requires-clause-there c =

@@ -1,9 +1,9 @@
 use Rattle.std.proofs.Common.{◌≡◌, ◌↔◌, ap, subst}
 use Rattle.mp_names.specs.Frontiers.{HasEnded}
 use Rattle.mp_stamps.specs.Counts.{CountTable}
-use Rattle.mp_left_counts.specs.Left.{Left}
-use Rattle.mp_left_counts.proofs.Ending.{NothingLeft, ended_is_done}
-use Rattle.mp_left_counts.proofs.left.LeftCounts.is_done.Goals as goal
+use Rattle.mp_chart.specs.Left.{Left}
+use Rattle.mp_chart.proofs.Ending.{NothingLeft, ended_is_done}
+use Rattle.mp_chart.proofs.left.LeftCounts.is_done.Goals as goal
 
 pub returns : goal.returns
 returns c =

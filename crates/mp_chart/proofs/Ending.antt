@@ -10,7 +10,7 @@ use Rattle.mp_names.specs.Locations.{reaches}
 use Rattle.mp_names.specs.Outlines.{IsBeforeStop}
 use Rattle.mp_names.proofs.Reach.{path_from_table}
 use Rattle.mp_stamps.specs.Counts.{CountTable, count_in}
-use Rattle.mp_left_counts.specs.Left.{AreLeft, left_in, whole}
+use Rattle.mp_chart.specs.Left.{AreLeft, left_in, whole}
 
 to_the_end : (a : Loc) → reaches a OutMail ≡ true
 to_the_end Ctl = refl

@@ -5,9 +5,9 @@ use Rattle.std.proofs.lemmas.Int.{ints, to_z-of_z}
 use Rattle.mp_names.specs.declared.locations.Loc.{Loc}
 use Rattle.mp_stamps.specs.Counts.{CountTable, IsCounted, SamePlaces, count_in}
 use Rattle.mp_stamps.proofs.Tables.{counted_or_not}
-use Rattle.mp_left_counts.specs.declared.work.Work.{Work}
-use Rattle.mp_left_counts.specs.Left.{AreLeft, left_in, part_at, whole}
-use Rattle.mp_left_counts.proofs.Parts.{is_there, there_is, is_here, part_here}
+use Rattle.mp_chart.specs.declared.work.Work.{Work}
+use Rattle.mp_chart.specs.Left.{AreLeft, left_in, part_at, whole}
+use Rattle.mp_chart.proofs.Parts.{is_there, there_is, is_here, part_here}
 
 counted_along : (a b : CountTable) (loc : Loc) (t : ℕ) → SamePlaces a b → IsCounted a loc t → IsCounted b loc t
 counted_along a b loc t s h = rw (s.stages, s.times, s.low) h

@@ -1,9 +1,9 @@
 use Rattle.std.proofs.Common.{◌<◌, ◌^◌, ◌+◌, ◌+ℤ◌, refl, ap, ◌∙◌, rules, arith}
 use Rattle.mp_stamps.specs.Counts.{count_in}
-use Rattle.mp_left_counts.specs.Left.{left_in}
-use Rattle.mp_left_counts.proofs.Parts.{part_most}
-use Rattle.mp_left_counts.proofs.Taking.{pos_more, small_is, still_left, work_put}
-use Rattle.mp_left_counts.proofs.left.put_on.Goals as goal
+use Rattle.mp_chart.specs.Left.{left_in}
+use Rattle.mp_chart.proofs.Parts.{part_most}
+use Rattle.mp_chart.proofs.Taking.{pos_more, small_is, still_left, work_put}
+use Rattle.mp_chart.proofs.left.put_on.Goals as goal
 
 pub returns-clause-left : goal.returns-clause-left
 returns-clause-left c =

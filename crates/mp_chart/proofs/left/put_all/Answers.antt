@@ -1,9 +1,9 @@
 use Rattle.std.proofs.Common.{◌<◌, ◌^◌, ◌∙◌, length, get_or, rules, arith}
 use Rattle.std.proofs.lemmas.List.Sums.{sum_by_more}
 use Rattle.mp_names.specs.declared.locations.Loc.TheVariants.{Ctl}
-use Rattle.mp_left_counts.specs.declared.work.Work.{Work}
-use Rattle.mp_left_counts.specs.Left.{part_at}
-use Rattle.mp_left_counts.proofs.left.put_all.Goals as goal
+use Rattle.mp_chart.specs.declared.work.Work.{Work}
+use Rattle.mp_chart.specs.Left.{part_at}
+use Rattle.mp_chart.proofs.left.put_all.Goals as goal
 
 pub put_on-requires-clause-few : goal.put_on-requires-clause-few
 put_on-requires-clause-few c =

@@ -1,3 +1,0 @@
-pub mod Parts
-pub mod Taking
-pub mod Ending
