@@ -34,9 +34,9 @@ use Rattle.mp_chart.proofs.Parts.{is_here}
 use Rattle.mp_chart.specs.declared.entry.Entry.{Entry}
 use Rattle.mp_chart.specs.Entries.{entries_of}
 use Rattle.mp_chart.specs.Lists.{number_at}
-use Rattle.mp_play_mail.specs.declared.message.Message.{Message}
-use Rattle.mp_play_mail.specs.Boxes.{box_of}
-use Rattle.mp_play_mail.specs.Messages.{AreMessagesOf}
+use Rattle.mp_standing.specs.declared.message.Message.{Message}
+use Rattle.mp_standing.specs.Boxes.{box_of}
+use Rattle.mp_standing.specs.Messages.{AreMessagesOf}
 use Rattle.mp_standing.specs.declared.standing.Standing.{Standing}
 use Rattle.mp_standing.specs.Standings.{Stands, AreHeld}
 use Rattle.mp_player.specs.declared.state.State.{State}

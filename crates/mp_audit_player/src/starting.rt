@@ -10,11 +10,9 @@ ghost use Rattle.mp_player.specs.Shows.{Shows};
 ghost use Rattle.mp_audit_player.specs.Starting.{IsAtStart};
 
 use mp_chart::{Chart, LeftCounts};
-use mp_play_held::Held;
-use mp_play_mail::Mail;
 use mp_player::State;
 use mp_stamps::Seen;
-use mp_standing::{Done, Standing};
+use mp_standing::{Done, Held, Mail, Standing};
 use std::alloc::{AllocError, Global};
 
 /// What a player keeps of the world in which nothing is done. `AllocError`: no memory.

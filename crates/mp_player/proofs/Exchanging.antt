@@ -27,8 +27,8 @@ use Rattle.mp_standing.specs.declared.standing.Standing.{Standing}
 use Rattle.mp_standing.specs.Standings.{Stands, AreHeld}
 use Rattle.mp_standing.specs.Numbers.{AreNumbers}
 use Rattle.mp_standing.specs.declared.done.Done.{Done}
-use Rattle.mp_play_held.specs.declared.held.Held.{Held}
-use Rattle.mp_play_mail.specs.declared.message.Message.{Message}
+use Rattle.mp_standing.specs.declared.held.Held.{Held}
+use Rattle.mp_standing.specs.declared.message.Message.{Message}
 use Rattle.mp_player_laws.specs.Numbers.{numbers_of}
 use Rattle.std.specs.declared.vec.Vec.{Vec}
 use Rattle.std.proofs.Common.{Global, ℤ}

@@ -13,9 +13,9 @@ use Rattle.mp_machine.specs.Steps.{IsDue, CanStep, MailAllows, names_of, mailed,
 use Rattle.mp_machine.proofs.Puts.{pushed_at, pushed_elsewhere}
 use Rattle.mp_chart.specs.Entries.{entry_of}
 use Rattle.mp_chart.specs.Lists.{goes_along}
-use Rattle.mp_play_mail.specs.declared.message.Message.{Message}
-use Rattle.mp_play_mail.specs.Boxes.{box_of, with_box}
-use Rattle.mp_play_mail.specs.Messages.{IsMessageOf, AreMessagesOf}
+use Rattle.mp_standing.specs.declared.message.Message.{Message}
+use Rattle.mp_standing.specs.Boxes.{box_of, with_box}
+use Rattle.mp_standing.specs.Messages.{IsMessageOf, AreMessagesOf}
 use Rattle.mp_standing.specs.Standings.{sends}
 use Rattle.mp_player.specs.Shows.{IsMailOf, mail_after}
 

@@ -15,7 +15,7 @@ use Rattle.mp_chart.specs.declared.entry.Entry.{Entry}
 use Rattle.mp_chart.specs.Entries.{entry_of, entries_of}
 use Rattle.mp_chart.specs.Lists.{to_do, goes_along, number_at, HasSeenEnough}
 use Rattle.mp_chart.proofs.Deciding.{is_decided}
-use Rattle.mp_play_mail.specs.Boxes.{box_of}
+use Rattle.mp_standing.specs.Boxes.{box_of}
 use Rattle.mp_standing.specs.declared.standing.Standing.{Standing}
 use Rattle.mp_standing.specs.Numbers.{done_at}
 use Rattle.mp_standing.specs.Standings.{Stands, sends}

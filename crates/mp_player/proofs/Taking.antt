@@ -18,10 +18,10 @@ use Rattle.mp_player_laws.specs.Numbers.{Numbers, numbers_of}
 use Rattle.mp_player_laws.proofs.Rising.{numbers_rise}
 use Rattle.mp_chart.specs.declared.work.Work.{Work}
 use Rattle.mp_chart.specs.Entries.{entry_of}
-use Rattle.mp_play_held.specs.declared.held.Held.{Held}
-use Rattle.mp_play_mail.specs.declared.message.Message.{Message}
-use Rattle.mp_play_mail.specs.Boxes.{box_of, with_box}
-use Rattle.mp_play_mail.specs.Messages.{AreMessagesOf}
+use Rattle.mp_standing.specs.declared.held.Held.{Held}
+use Rattle.mp_standing.specs.declared.message.Message.{Message}
+use Rattle.mp_standing.specs.Boxes.{box_of, with_box}
+use Rattle.mp_standing.specs.Messages.{AreMessagesOf}
 use Rattle.mp_standing.specs.declared.done.Done.{Done}
 use Rattle.mp_standing.specs.declared.standing.Standing.{Standing}
 use Rattle.mp_standing.specs.Numbers.{done_at, AreNumbers}

@@ -14,9 +14,9 @@ use Rattle.mp_chart.specs.Left.{left_in}
 use Rattle.mp_chart.specs.declared.entry.Entry.{Entry}
 use Rattle.mp_chart.specs.Entries.{entry_of}
 use Rattle.mp_chart.specs.Lists.{to_do}
-use Rattle.mp_play_mail.specs.declared.message.Message.{Message}
-use Rattle.mp_play_mail.specs.Boxes.{box_of, with_box}
-use Rattle.mp_play_mail.specs.Messages.{AreMessagesOf}
+use Rattle.mp_standing.specs.declared.message.Message.{Message}
+use Rattle.mp_standing.specs.Boxes.{box_of, with_box}
+use Rattle.mp_standing.specs.Messages.{AreMessagesOf}
 use Rattle.mp_standing.specs.declared.standing.Standing.{Standing}
 use Rattle.mp_standing.specs.Numbers.{done_at}
 use Rattle.mp_standing.specs.Standings.{Stands, sends}

@@ -5,15 +5,14 @@ ghost use Rattle.mp_names.specs.declared.names.Name.{Name};
 ghost use Rattle.mp_machine.specs.Steps.{CanStep, stepped};
 ghost use Rattle.mp_machine.specs.Worlds.{World};
 ghost use Rattle.mp_chart.specs.Lists.{goes_along};
-ghost use Rattle.mp_play_mail.specs.Boxes.{box_of};
+ghost use Rattle.mp_standing.specs.Boxes.{box_of};
 ghost use Rattle.mp_standing.specs.Standings.{sends as sends_of};
 ghost use Rattle.mp_player.specs.Shows.{CanBeNoted, IsNextAlong, Makes, Shows, mail_after};
 
 use crate::state::State;
 use mp_chart::{Chart, Entry};
 use mp_names::Kind;
-use mp_play_mail::{Mail, Message};
-use mp_standing::{advance, entry_at, fits, has_seen_enough, sends};
+use mp_standing::{Mail, Message, advance, entry_at, fits, has_seen_enough, sends};
 use std::alloc::AllocError;
 
 /// Makes a worker's step of a kind that goes along a list, where its condition is true: whether it did. Else nothing changes.

@@ -11,8 +11,7 @@ ghost use Rattle.mp_player.specs.Shows.{IsNextMessage, Makes, Shows};
 use crate::state::State;
 use mp_chart::Chart;
 use mp_names::Kind;
-use mp_play_mail::Message;
-use mp_standing::work_done;
+use mp_standing::{Message, work_done};
 use std::alloc::AllocError;
 
 /// Takes the oldest message from a worker to another, where one waits: whether it did. Else nothing changes. `AllocError`: no

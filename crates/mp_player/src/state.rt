@@ -1,8 +1,7 @@
 //! What a player keeps of a world.
 
 use mp_chart::LeftCounts;
-use mp_play_mail::Mail;
-use mp_standing::Standing;
+use mp_standing::{Mail, Standing};
 
 /// What a player keeps of a world.
 #[derive(Drop)]

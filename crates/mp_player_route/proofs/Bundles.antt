@@ -19,7 +19,7 @@ use Rattle.mp_machine.proofs.Candidates.{rec_into, rec_back}
 use Rattle.mp_player_laws.proofs.Held.{held_changes}
 use Rattle.mp_chart.specs.declared.entry.Entry.{Entry}
 use Rattle.mp_chart.specs.Entries.{entry_of, entries_of}
-use Rattle.mp_play_held.specs.Lists.{rank_of_record, rank_of_entry, IsLeastFirst}
+use Rattle.mp_standing.specs.Held.{rank_of_record, rank_of_entry, IsLeastFirst}
 use Rattle.mp_standing.specs.Standings.{AreHeld}
 use Rattle.mp_standing.proofs.Holding.{filter_alike, before_from}
 use Rattle.mp_standing.proofs.Giving.{all, all_records, to_worker}

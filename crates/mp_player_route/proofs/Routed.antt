@@ -24,9 +24,9 @@ use Rattle.mp_player_laws.proofs.Rising.{numbers_rise}
 use Rattle.mp_chart.specs.declared.work.Work.{Work}
 use Rattle.mp_chart.specs.declared.entry.Entry.{Entry}
 use Rattle.mp_chart.specs.Entries.{entry_of}
-use Rattle.mp_play_mail.specs.declared.message.Message.{Message}
-use Rattle.mp_play_mail.specs.Boxes.{box_of, with_box}
-use Rattle.mp_play_mail.specs.Messages.{IsMessageOf}
+use Rattle.mp_standing.specs.declared.message.Message.{Message}
+use Rattle.mp_standing.specs.Boxes.{box_of, with_box}
+use Rattle.mp_standing.specs.Messages.{IsMessageOf}
 use Rattle.mp_standing.specs.declared.done.Done.{Done}
 use Rattle.mp_standing.specs.declared.standing.Standing.{Standing}
 use Rattle.mp_standing.specs.Numbers.{done_at, AreNumbers}

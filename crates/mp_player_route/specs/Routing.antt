@@ -8,8 +8,8 @@ use Rattle.mp_machine.specs.Worlds.{World}
 use Rattle.mp_machine.specs.Steps.{CanStep, names_of}
 use Rattle.mp_chart.specs.declared.entry.Entry.{Entry}
 use Rattle.mp_chart.specs.Entries.{entry_of}
-use Rattle.mp_play_held.specs.Lists.{IsLeastFirst}
-use Rattle.mp_play_mail.specs.declared.message.Message.{Message}
+use Rattle.mp_standing.specs.Held.{IsLeastFirst}
+use Rattle.mp_standing.specs.declared.message.Message.{Message}
 
 -- the records of a receiver, of those that are held by receiver
 abbrev pub records_to : List (List Entry) → ℕ → List Entry

@@ -10,10 +10,9 @@ ghost use Rattle.mp_player_route.specs.Routing.{IsFirstBundle, IsNextBundle, rec
 
 use mp_chart::Chart;
 use mp_names::{Kind, Loc};
-use mp_play_mail::Message;
 use mp_player::State;
 use mp_stamps::passed;
-use mp_standing::{Standing, work_done};
+use mp_standing::{Message, Standing, work_done};
 use std::alloc::AllocError;
 
 /// Makes a worker's step that routes records of a stage, where its condition is true: whether it did. Else nothing changes.

@@ -22,7 +22,7 @@ use Rattle.mp_player_laws.proofs.Held.{held_changes}
 use Rattle.mp_chart.specs.declared.entry.Entry.{Entry}
 use Rattle.mp_chart.specs.Entries.{entry_of, entries_of, is_given_by, records_given}
 use Rattle.mp_chart.specs.Lists.{goes_along, to_do}
-use Rattle.mp_play_held.specs.Lists.{with_all}
+use Rattle.mp_standing.specs.Held.{with_all}
 use Rattle.mp_standing.specs.Standings.{AreHeld, HasGiven}
 use Rattle.mp_standing.proofs.Holding.{alike}
 use Rattle.mp_standing.proofs.Giving.{all, all_records, from_held, to_held, fresh, holds_same, holds_one, holds_all}

@@ -12,7 +12,7 @@ use Rattle.mp_names.proofs.Orders.{ascending_ascends, In_ascending}
 use Rattle.mp_names.proofs.Listed.{edges}
 use Rattle.mp_chart.specs.declared.entry.Entry.{Entry}
 use Rattle.mp_chart.specs.Entries.{entry_of, entries_of}
-use Rattle.mp_play_held.specs.Lists.{with_entry, with_all}
+use Rattle.mp_standing.specs.Held.{with_entry, with_all}
 use Rattle.mp_standing.specs.Standings.{AreHeld}
 use Rattle.mp_standing.proofs.Holding.{AreRecords, HoldsBy, holds_alike, holds_more}
 

@@ -11,7 +11,7 @@ use Rattle.mp_names.proofs.Orders.{before_is, less_connected, less_trans, is_bef
 use Rattle.mp_ordered.specs.InOrder.{put_in_order}
 use Rattle.mp_chart.specs.declared.entry.Entry.{Entry}
 use Rattle.mp_chart.specs.Entries.{entry_of, entries_of}
-use Rattle.mp_play_held.specs.Lists.{rank_of_record, rank_of_entry, with_entry}
+use Rattle.mp_standing.specs.Held.{rank_of_record, rank_of_entry, with_entry}
 
 -- filters that agree on the list
 pub filter_alike : (p q : Name → Bool) (xs : List Name) → ((x : Name) → In x xs → p x ≡ q x) → filter p xs ≡ filter q xs

@@ -1,3 +1,5 @@
+pub mod Least
+pub mod Putting
 pub mod Counting
 pub mod Working
 pub mod Holding

@@ -1,4 +1,7 @@
 -- What the contracts of this crate cite.
+pub mod Boxes
+pub mod Messages
+pub mod Held
 pub mod Numbers
 pub mod Seeing
 pub mod Standings

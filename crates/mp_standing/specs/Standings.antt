@@ -18,7 +18,7 @@ use Rattle.mp_chart.specs.declared.work.Work.{Work}
 use Rattle.mp_chart.specs.Left.{work_at}
 use Rattle.mp_chart.specs.Entries.{entries_of, records_given}
 use Rattle.mp_chart.specs.Lists.{to_do}
-use Rattle.mp_play_held.specs.Lists.{with_all}
+use Rattle.mp_standing.specs.Held.{with_all}
 use Rattle.mp_chart.specs.declared.entry.Entry.{Entry}
 use Rattle.mp_standing.specs.declared.standing.Standing.{Standing}
 use Rattle.mp_standing.specs.Numbers.{AreNumbers}

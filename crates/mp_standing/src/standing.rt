@@ -1,13 +1,13 @@
 //! Where a worker stands.
 ghost use Rattle.std.specs.Prelude.{◌≡◌, ◌++◌, ◌∷◌, ◌+◌, ◌<◌, ◌-◌, ◌^◌, [], OnOk, get_or, slice_set, true};
 ghost use Rattle.mp_names.specs.declared.kinds.Kind.{Kind};
-ghost use Rattle.mp_play_held.specs.Lists.{with_all};
+ghost use Rattle.mp_standing.specs.Held.{with_all};
 ghost use Rattle.mp_standing.specs.Numbers.{IsCounted, done_at};
 
 use crate::done::Done;
+use crate::held::Held;
 use mp_chart::{Entry, Work};
 use mp_names::Kind;
-use mp_play_held::Held;
 use mp_stamps::Seen;
 use std::alloc::AllocError;
 

@@ -4,7 +4,7 @@ use Rattle.std.proofs.lemmas.Option.{slice_get_read}
 use Rattle.mp_machine.specs.Steps.{stepped}
 use Rattle.mp_chart.specs.Entries.{entry_of}
 use Rattle.mp_chart.specs.declared.entry.Entry.{Entry}
-use Rattle.mp_play_mail.specs.declared.message.Message.{Message}
+use Rattle.mp_standing.specs.declared.message.Message.{Message}
 use Rattle.mp_player.specs.Shows.{IsMailOf, mail_after}
 use Rattle.mp_player.proofs.Mails.{Matches, along_matches}
 use Rattle.mp_player.proofs.Stepping.{shows_after}

@@ -5,8 +5,8 @@ use Rattle.mp_names.specs.declared.kinds.Kind.TheVariants.{Receive}
 use Rattle.mp_names.specs.Outlines.{time_of}
 use Rattle.mp_machine.specs.Steps.{rest_of, stepped}
 use Rattle.mp_chart.specs.declared.entry.Entry.{Entry}
-use Rattle.mp_play_mail.specs.declared.message.Message.{Message}
-use Rattle.mp_play_mail.specs.Boxes.{box_of}
+use Rattle.mp_standing.specs.declared.message.Message.{Message}
+use Rattle.mp_standing.specs.Boxes.{box_of}
 use Rattle.mp_standing.specs.Standings.{IsWorkDone}
 use Rattle.mp_player.specs.Shows.{IsMailOf}
 use Rattle.mp_player.proofs.Mails.{Matches, still_mail}

@@ -5,7 +5,7 @@ use Rattle.std.proofs.lemmas.Option.{slice_get_read}
 use Rattle.mp_names.specs.Frontiers.{HasPassed}
 use Rattle.mp_names.specs.declared.locations.Frontier.{Frontier}
 use Rattle.mp_names.specs.declared.locations.Loc.TheVariants.{CtlMail}
-use Rattle.mp_play_mail.specs.Boxes.{box_of}
+use Rattle.mp_standing.specs.Boxes.{box_of}
 use Rattle.mp_stamps.specs.Seen.{seen_at}
 use Rattle.mp_player_route.proofs.Routed.{none_first, none_passed, none_room, next_found}
 use Rattle.mp_player_route.proofs.routing.next_bundle.Goals as goal

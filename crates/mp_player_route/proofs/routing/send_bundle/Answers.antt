@@ -6,9 +6,9 @@ use Rattle.mp_names.specs.declared.kinds.Kind.TheVariants.{Route}
 use Rattle.mp_names.specs.Outlines.{receiver, time_of}
 use Rattle.mp_machine.specs.Steps.{stepped}
 use Rattle.mp_chart.specs.declared.entry.Entry.{Entry}
-use Rattle.mp_play_mail.specs.declared.message.Message.{Message}
+use Rattle.mp_standing.specs.declared.message.Message.{Message}
 use Rattle.mp_chart.specs.declared.work.Work.{Work}
-use Rattle.mp_play_held.specs.declared.held.Held.{Held}
+use Rattle.mp_standing.specs.declared.held.Held.{Held}
 use Rattle.mp_standing.specs.declared.done.Done.{Done}
 use Rattle.mp_standing.specs.Numbers.{done_at}
 use Rattle.mp_standing.specs.Standings.{IsWorkDone}

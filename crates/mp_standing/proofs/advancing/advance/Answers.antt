@@ -3,7 +3,7 @@ use Rattle.std.proofs.Common.{Global}
 use Rattle.std.specs.declared.vec.Vec.{Vec}
 use Rattle.mp_names.specs.Outlines.{time_of}
 use Rattle.mp_chart.specs.declared.work.Work.{Work}
-use Rattle.mp_play_held.specs.declared.held.Held.{Held}
+use Rattle.mp_standing.specs.declared.held.Held.{Held}
 use Rattle.mp_standing.specs.declared.done.Done.{Done}
 use Rattle.mp_chart.specs.declared.entry.Entry.{Entry}
 use Rattle.mp_chart.specs.Entries.{entry_of}

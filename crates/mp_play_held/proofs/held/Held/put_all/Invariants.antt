@@ -1,6 +1,0 @@
-use Rattle.std.proofs.Common.{◌≡◌, take}
-use Rattle.mp_play_held.specs.Lists.{with_all}
-use Rattle.mp_play_held.proofs.held.Held.put_all.Given as goal
-
-abbrev pub invariant-loop-entry : goal.invariant-loop-entry
-invariant-loop-entry l = l.self ≡ with_all l.initial.self (take l.entry-index l.entries)
