@@ -4,8 +4,7 @@ ghost use Rattle.mp_player.specs.Shows.{Shows};
 use mp_audit::{Kept, Play};
 use mp_chart::Chart;
 use mp_names::Kind;
-use mp_player::{State, exchange, go_along, is_finished, is_posted, receive};
-use mp_player_route::route;
+use mp_player::{State, exchange, go_along, is_finished, is_posted, receive, route};
 use std::alloc::AllocError;
 
 /// A player of the machine by counters, over a chart of a job.

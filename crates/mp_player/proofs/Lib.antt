@@ -5,3 +5,6 @@ pub mod Taking
 pub mod Exchanging
 pub mod Ended
 pub mod Idle
+pub mod Runs
+pub mod Bundles
+pub mod Routed

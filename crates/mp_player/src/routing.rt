@@ -6,11 +6,11 @@ ghost use Rattle.mp_names.specs.Outlines.{Outline};
 ghost use Rattle.mp_machine.specs.Steps.{CanStep, stepped};
 ghost use Rattle.mp_machine.specs.Worlds.{World};
 ghost use Rattle.mp_player.specs.Shows.{Makes, Shows};
-ghost use Rattle.mp_player_route.specs.Routing.{IsFirstBundle, IsNextBundle, records_to, without_first};
+ghost use Rattle.mp_player.specs.Routing.{IsFirstBundle, IsNextBundle, records_to, without_first};
 
+use crate::state::State;
 use mp_chart::Chart;
 use mp_names::{Kind, Loc};
-use mp_player::State;
 use mp_stamps::passed;
 use mp_standing::{Message, Standing, work_done};
 use std::alloc::AllocError;

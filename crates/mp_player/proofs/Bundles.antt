@@ -24,8 +24,8 @@ use Rattle.mp_standing.specs.Standings.{AreHeld}
 use Rattle.mp_standing.proofs.Holding.{filter_alike, before_from}
 use Rattle.mp_standing.proofs.Giving.{all, all_records, to_worker}
 use Rattle.mp_standing.proofs.After.{after}
-use Rattle.mp_player_route.specs.Routing.{records_to, run_of}
-use Rattle.mp_player_route.proofs.Runs.{filter_twice, take_twice, at_time, less_earlier, run_is, runs_alike, run_long}
+use Rattle.mp_player.specs.Routing.{records_to, run_of}
+use Rattle.mp_player.proofs.Runs.{filter_twice, take_twice, at_time, less_earlier, run_is, runs_alike, run_long}
 
 -- what stands first among entries is the entry of a name that stands first
 head_of : (o : Outline) (xs : List Name) (e : Entry) → slice_get (entries_of o xs) 0 ≡ Some e → (x : Name) × (rest : List Name) × (xs ≡ x ∷ rest) × (e ≡ entry_of o x)

@@ -37,8 +37,8 @@ use Rattle.mp_standing.proofs.Advanced.{reached_right, stands_there, work_since,
 use Rattle.mp_player.specs.Shows.{Shows, IsMailOf}
 use Rattle.mp_player.specs.declared.state.State.{State}
 use Rattle.mp_player.proofs.Mails.{Matches, as_long, sent_matches, still_mail}
-use Rattle.mp_player_route.specs.Routing.{IsFirstBundle, IsNextBundle, records_to, run_of, without_first}
-use Rattle.mp_player_route.proofs.Bundles.{least_held, none_held, counted, inside, routed_held}
+use Rattle.mp_player.specs.Routing.{IsFirstBundle, IsNextBundle, records_to, run_of, without_first}
+use Rattle.mp_player.proofs.Bundles.{least_held, none_held, counted, inside, routed_held}
 
 -- the numbers stay
 numbers_stay : (o : Outline) (j : ℕ) (old new : Done) (n : Numbers) → AreNumbers o old n → ((k : Kind) → (k ≡ Route j → ⊥) → done_at new k ≡ done_at old k) → AreNumbers o new n

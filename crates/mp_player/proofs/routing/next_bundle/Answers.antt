@@ -7,8 +7,8 @@ use Rattle.mp_names.specs.declared.locations.Frontier.{Frontier}
 use Rattle.mp_names.specs.declared.locations.Loc.TheVariants.{CtlMail}
 use Rattle.mp_standing.specs.Boxes.{box_of}
 use Rattle.mp_stamps.specs.Seen.{seen_at}
-use Rattle.mp_player_route.proofs.Routed.{none_first, none_passed, none_room, next_found}
-use Rattle.mp_player_route.proofs.routing.next_bundle.Goals as goal
+use Rattle.mp_player.proofs.Routed.{none_first, none_passed, none_room, next_found}
+use Rattle.mp_player.proofs.routing.next_bundle.Goals as goal
 
 pub returns-in_default-clause-none : goal.returns-in_default-clause-none
 returns-in_default-clause-none g c = λ world shows.

@@ -15,9 +15,9 @@ use Rattle.mp_standing.specs.Standings.{IsWorkDone}
 use Rattle.mp_player.specs.Shows.{IsMailOf}
 use Rattle.mp_player.proofs.Mails.{Matches}
 use Rattle.mp_player.proofs.Stepping.{shows_after}
-use Rattle.mp_player_route.specs.Routing.{without_first}
-use Rattle.mp_player_route.proofs.Routed.{HasRouted, stands_routed, routed_mail}
-use Rattle.mp_player_route.proofs.routing.send_bundle.Goals as goal
+use Rattle.mp_player.specs.Routing.{without_first}
+use Rattle.mp_player.proofs.Routed.{HasRouted, stands_routed, routed_mail}
+use Rattle.mp_player.proofs.routing.send_bundle.Goals as goal
 
 pub returns : goal.returns
 returns c = λ o depth world shows next.
