@@ -25,8 +25,8 @@ use Rattle.mp_parted.specs.Parted.{is_by, parted_by}
 use Rattle.mp_parted.specs.declared.parting.By.{By}
 use Rattle.mp_parted.specs.declared.parting.By.TheVariants.{Owner}
 use Rattle.mp_parted.proofs.Fitting.{All-from_In}
-use Rattle.mp_rank_order.proofs.InOrder.{contains_from_in}
-use Rattle.mp_rank_order.proofs.Gathered.{in_at}
+use Rattle.mp_outline_lists.proofs.InOrder.{contains_from_in}
+use Rattle.mp_outline_lists.proofs.Gathered.{in_at}
 use Rattle.mp_group_lists.specs.declared.moments.Moment.{Moment}
 use Rattle.mp_group_lists.specs.Moments.{AreByMoment, comes_before, is_at, moment_of}
 use Rattle.mp_group_lists.specs.Parts.{groups_in, next_records}

@@ -17,7 +17,7 @@ use Rattle.mp_player_laws.specs.Counted.{IsGivenWithin}
 use Rattle.mp_chart.specs.declared.entry.Entry.{Entry}
 use Rattle.mp_chart.specs.Entries.{entries_of, entry_of}
 use Rattle.mp_parted.proofs.Fitting.{In-get_or}
-use Rattle.mp_rank_order.proofs.InOrder.{contains_from_in}
+use Rattle.mp_outline_lists.proofs.InOrder.{contains_from_in}
 use Rattle.mp_group_lists.specs.declared.moments.Moment.{Moment}
 use Rattle.mp_group_lists.specs.Moments.{comes_before, moment_of}
 use Rattle.mp_group_lists.proofs.Runs.{never_before_itself}

@@ -7,15 +7,14 @@ ghost use Rattle.mp_player_laws.specs.Decisions.{rows_to_send};
 ghost use Rattle.mp_player_laws.specs.Numbers.{StandsAt};
 ghost use Rattle.mp_player_laws.specs.Counted.{IsGivenWithin};
 ghost use Rattle.mp_chart.specs.Entries.{entries_of, records_given};
-ghost use Rattle.mp_rank_order.specs.Moments.{AreMomentsOf};
+ghost use Rattle.mp_outline_lists.specs.Moments.{AreMomentsOf};
 ghost use Rattle.mp_group_lists.specs.Lists.{AreListsOf};
 ghost use Rattle.mp_group_lists.specs.Parts.{next_records};
 
 use crate::making::{groups_by_stage, records_by_stage, rows_by_worker};
 use crate::moments::{count_upto, entries_at, moment_of};
 use mp_chart::Entry;
-use mp_outline_lists::OutlineLists;
-use mp_rank_order::Moment;
+use mp_outline_lists::{Moment, OutlineLists};
 use std::alloc::{AllocError, Global};
 use std::cell::Cell;
 

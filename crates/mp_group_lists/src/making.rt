@@ -4,14 +4,13 @@ ghost use Rattle.std.specs.List.{range_with_len};
 ghost use Rattle.mp_names.specs.Names.{ascending};
 ghost use Rattle.mp_chart.specs.Entries.{entries_of};
 ghost use Rattle.mp_parted.specs.Fitting.{FitsShape};
-ghost use Rattle.mp_rank_order.specs.Moments.{AreMomentsOf};
+ghost use Rattle.mp_outline_lists.specs.Moments.{AreMomentsOf};
 ghost use Rattle.mp_group_lists.specs.Parts.{groups_in, next_records, rows_in};
 
 use mp_chart::Entry;
 use mp_names::Name;
-use mp_outline_lists::OutlineLists;
+use mp_outline_lists::{Moment, OutlineLists, due_groups, in_order, moments_at};
 use mp_parted::{By, entry_of, parted};
-use mp_rank_order::{Moment, due_groups, in_order, moments_at};
 use std::alloc::{AllocError, Global};
 
 /// Of each stage by worker the groups that it is to apply. `AllocError`: no memory.

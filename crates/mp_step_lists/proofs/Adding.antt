@@ -14,7 +14,7 @@ use Rattle.mp_chart.specs.declared.entry.Entry.{Entry}
 use Rattle.mp_chart.specs.Entries.{entries_of, entry_of}
 use Rattle.mp_parted.specs.declared.parting.By.TheVariants.{Sender}
 use Rattle.mp_parted.specs.Parted.{parted_by}
-use Rattle.mp_rank_order.proofs.Keys.{kept_are, numbers_in_order}
+use Rattle.mp_outline_lists.proofs.Keys.{kept_are, numbers_in_order}
 use Rattle.mp_step_lists.specs.Controls.{sent_to, sent_to_each}
 use Rattle.mp_step_lists.specs.Tables.{packets_by_worker}
 use Rattle.mp_step_lists.proofs.Filters.{filter_twice, map_agree}

@@ -21,7 +21,7 @@ use Rattle.mp_chart.specs.declared.entry.Entry.{Entry}
 use Rattle.mp_chart.specs.Entries.{entries_of, entry_of}
 use Rattle.mp_chart.specs.Lists.{IsPaceOf, to_do}
 use Rattle.mp_parted.proofs.Fitting.{In-get_or}
-use Rattle.mp_rank_order.proofs.InOrder.{contains_from_in}
+use Rattle.mp_outline_lists.proofs.InOrder.{contains_from_in}
 use Rattle.mp_step_lists.specs.Controls.{IsLatestBelow}
 use Rattle.mp_step_lists.specs.Tables.{StepTables, TellsSteps}
 use Rattle.mp_step_lists.proofs.InTurn.{none_to_send}

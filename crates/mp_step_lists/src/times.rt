@@ -9,9 +9,8 @@ ghost use Rattle.mp_step_lists.specs.Tables.{times_by_stage};
 
 use mp_chart::Entry;
 use mp_names::{Control, Name, Time};
-use mp_outline_lists::OutlineLists;
+use mp_outline_lists::{OutlineLists, put_in_order};
 use mp_parted::{entry_of, time_of};
-use mp_rank_order::put_in_order;
 use std::alloc::{AllocError, Global};
 
 /// By stage the times of its control records. `AllocError`: no memory.

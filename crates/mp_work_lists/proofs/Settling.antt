@@ -12,7 +12,7 @@ use Rattle.mp_names.specs.Names.{ascending, is_settled}
 use Rattle.mp_names.specs.Outlines.{Outline, control_times}
 use Rattle.mp_names.proofs.Lists.{In_filter, filter_In}
 use Rattle.mp_names.proofs.Orders.{ascending_In, In_ascending, ascending_ascends, ascending_unique, filter_ascends}
-use Rattle.mp_rank_order.proofs.Keys.{IsKeyOrder, count_map, kept_are, numbers_in_order}
+use Rattle.mp_outline_lists.proofs.Keys.{IsKeyOrder, count_map, kept_are, numbers_in_order}
 use Rattle.mp_work_lists.specs.Parts.{time_in, times_at, names_at}
 
 pub times_of_map : {X : Type 0} (f : X → ℕ) (t : ℕ) (xs : List X) → times_at t (map f xs) ≡ count_by (λ x. f x == t) xs

@@ -2,7 +2,7 @@
 ghost use Rattle.std.specs.Prelude.{◌≡◌, ◌+◌, ◌<◌, ◌==◌, OnOk, cond, map};
 ghost use Rattle.mp_names.specs.declared.locations.Loc.TheVariants.{Source};
 ghost use Rattle.mp_player_laws.specs.WorkLeft.{added_below};
-ghost use Rattle.mp_rank_order.specs.Moments.{AreMomentsOf};
+ghost use Rattle.mp_outline_lists.specs.Moments.{AreMomentsOf};
 ghost use Rattle.mp_work_lists.specs.Parts.{HasMore, control_work, group_work, job_work, move_work, record_work, row_work, stage_work, times_at, work_at_one};
 
 use crate::gathering::add_times;
@@ -11,8 +11,7 @@ use crate::times::{
 };
 use mp_chart::Work;
 use mp_names::{Loc, Time};
-use mp_outline_lists::OutlineLists;
-use mp_rank_order::{Moment, moments_at};
+use mp_outline_lists::{Moment, OutlineLists, moments_at};
 use std::alloc::{AllocError, Global};
 
 /// Adds all work of a job. `AllocError`: no memory.

@@ -2,12 +2,11 @@
 ghost use Rattle.std.specs.Prelude.{◌≡◌, ◌==◌, ℕ, IfOk, filter, map};
 ghost use Rattle.mp_names.specs.Names.{is_packet};
 ghost use Rattle.mp_names.specs.Outlines.{control_times};
-ghost use Rattle.mp_rank_order.specs.Moments.{group_at};
+ghost use Rattle.mp_outline_lists.specs.Moments.{group_at};
 ghost use Rattle.mp_work_lists.specs.Parts.{controls_at, names_at, time_in, times_at};
 
 use mp_names::{Control, Name, Time};
-use mp_outline_lists::OutlineLists;
-use mp_rank_order::Moment;
+use mp_outline_lists::{Moment, OutlineLists};
 use std::alloc::{AllocError, Global};
 
 /// The times of control records, ascending. `AllocError`: no memory.

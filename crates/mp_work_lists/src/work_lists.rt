@@ -3,14 +3,13 @@ ghost use Rattle.std.specs.Prelude.{◌≡◌, ◌<◌, ℕ, Contains, IfOk, map
 ghost use Rattle.std.specs.List.Sorted.{IsStrictlyIncreasing};
 ghost use Rattle.mp_names.specs.declared.locations.Loc.{Loc};
 ghost use Rattle.mp_chart.specs.Left.{work_at};
-ghost use Rattle.mp_rank_order.specs.Moments.{AreMomentsOf};
+ghost use Rattle.mp_outline_lists.specs.Moments.{AreMomentsOf};
 ghost use Rattle.mp_work_lists.specs.Works.{IsAllWork};
 
 use crate::parts::add_job;
 use mp_chart::Work;
 use mp_names::Time;
-use mp_outline_lists::OutlineLists;
-use mp_rank_order::Moment;
+use mp_outline_lists::{Moment, OutlineLists};
 use std::alloc::{AllocError, Global};
 use std::marker::Model;
 

@@ -3,7 +3,7 @@ use Rattle.std.proofs.Common.{◌∙◌, All, List, ap, map, subst, sym}
 use Rattle.mp_names.specs.declared.names.Name.{Name}
 use Rattle.mp_parted.specs.Fitting.{IsGroupInShape}
 use Rattle.mp_parted.proofs.Fitting.{due_groups_fit}
-use Rattle.mp_rank_order.specs.Moments.{group_at}
+use Rattle.mp_outline_lists.specs.Moments.{group_at}
 use Rattle.mp_group_lists.proofs.making.groups_of.Goals as goal
 
 pub due_groups-requires : goal.due_groups-requires

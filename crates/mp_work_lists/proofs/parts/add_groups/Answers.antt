@@ -1,6 +1,6 @@
 use Rattle.std.proofs.Common.{◌≡◌, ◌∙◌, ℕ, List, ap, map}
-use Rattle.mp_rank_order.specs.declared.moments.Moment.{Moment}
-use Rattle.mp_rank_order.specs.Moments.{group_at}
+use Rattle.mp_outline_lists.specs.declared.moments.Moment.{Moment}
+use Rattle.mp_outline_lists.specs.Moments.{group_at}
 use Rattle.mp_names.specs.declared.locations.Loc.TheVariants.{Host}
 use Rattle.mp_names.specs.Outlines.{groups_of}
 use Rattle.mp_work_lists.specs.Parts.{names_at, times_at}

@@ -1,7 +1,0 @@
--- The numbers so far tell the moments so far.
-use Rattle.std.proofs.Common.{◌≡◌, map, take}
-use Rattle.mp_rank_order.specs.Packed.{moment_in}
-use Rattle.mp_rank_order.proofs.once.numbers_of.Given as goal
-
-abbrev pub invariant-loop-moment : goal.invariant-loop-moment
-invariant-loop-moment l = map (moment_in l.width) l.numbers.items ≡ take l.moment-index l.moments
