@@ -9,8 +9,8 @@ ghost use Rattle.mp_job.specs.Runs.{IsRunOf};
 ghost use Rattle.mp_outline.specs.JobOutline.{outline_of};
 ghost use Rattle.mp_job_lists.specs.Listed.{IsWhole};
 
+use crate::charting::Charted;
 use mp_audit_player::{AuditStop, Kept, audit};
-use mp_charted::Charted;
 use mp_job::Job;
 use mp_job_lists::JobLists;
 use mp_model::{Naming, Query};

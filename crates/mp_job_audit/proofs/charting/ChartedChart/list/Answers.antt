@@ -2,8 +2,8 @@ use Rattle.std.proofs.Common.{◌∙◌, ap, subst}
 use Rattle.mp_names.specs.Outlines.{Outline, OutlineIsSound}
 use Rattle.mp_step_lists.specs.Tables.{TellsSteps}
 use Rattle.mp_step_lists.proofs.Told.{told_list}
-use Rattle.mp_charted.proofs.Telling.{told_but}
-use Rattle.mp_charted.proofs.charting.ChartedChart.list.Goals as goal
+use Rattle.mp_job_audit.proofs.Telling.{told_but}
+use Rattle.mp_job_audit.proofs.charting.ChartedChart.list.Goals as goal
 
 pub returns-in_default : goal.returns-in_default
 returns-in_default g c =

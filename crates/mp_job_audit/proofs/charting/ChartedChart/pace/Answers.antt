@@ -2,7 +2,7 @@ use Rattle.std.proofs.Common.{ap, subst}
 use Rattle.mp_names.specs.Outlines.{Outline, OutlineIsSound}
 use Rattle.mp_step_lists.specs.Tables.{TellsSteps}
 use Rattle.mp_step_lists.proofs.Paced.{told_pace}
-use Rattle.mp_charted.proofs.charting.ChartedChart.pace.Goals as goal
+use Rattle.mp_job_audit.proofs.charting.ChartedChart.pace.Goals as goal
 
 pub returns : goal.returns
 returns g c = λ x stands.

@@ -20,7 +20,7 @@ pub struct Charted<L: OutlineLists> {
 }
 
 impl<L: OutlineLists> Model for Charted<L> {
-    ghost use Rattle.mp_charted.specs.Charting.{AreChartOf};
+    ghost use Rattle.mp_job_audit.specs.Charting.{AreChartOf};
 
     ghost Value = { L };
 
