@@ -1,4 +1,5 @@
 -- The lemmas of this crate.
+pub mod Filled
 pub mod Lists
 pub mod Membership
 pub mod Ordered

@@ -33,14 +33,24 @@ pub is_ordered : (ws vs : List (ℕ × ℕ)) → IsAscending vs → ((t k : ℕ)
 is_ordered ws vs a same =
     same_wakes (ordered ws) vs (ordered-ascends ws) a (λ t k h. (same t k).0 ((has-ordered ws t k).0 h)) (λ t k h. (has-ordered ws t k).1 ((same t k).1 h))
 
--- wakes in another order are the same
-pub ordered-reordered : (ws vs : List (ℕ × ℕ)) → IsPermutation ws vs → ordered vs ≡ ordered ws
-ordered-reordered ws vs moved =
+-- both have the same wakes
+abbrev pub AreSame : List (ℕ × ℕ) → List (ℕ × ℕ) → Type 0
+AreSame ws vs = (t k : ℕ) → Has vs t k ↔ Has ws t k
+
+-- wakes in another order are the same ones
+pub reordered-same : (ws vs : List (ℕ × ℕ)) → IsPermutation ws vs → AreSame ws vs
+reordered-same ws vs moved t k = (λ h. Contains-permutation vs ws (t, k) (IsPermutation-sym ws vs moved) h, λ h. Contains-permutation ws vs (t, k) moved h)
+
+-- and so are those of a set that was filled with them
+pub filled-same : (ws vs us : List (ℕ × ℕ)) → IsPermutation ws vs → ((t k : ℕ) → Has us t k ↔ Has vs t k) → AreSame ws us
+filled-same ws vs us moved filled t k =
+    let same = reordered-same ws vs moved t k in (λ h. same.0 ((filled t k).0 h), λ h. (filled t k).1 (same.1 h))
+
+-- the same wakes are the same list, each once and ascending
+pub ordered-same : (ws vs : List (ℕ × ℕ)) → AreSame ws vs → ordered vs ≡ ordered ws
+ordered-same ws vs same =
     is_ordered vs (ordered ws) (ordered-ascends ws)
-    (λ t k. (
-      λ h. (has-ordered ws t k).1 (Contains-permutation vs ws (t, k) (IsPermutation-sym ws vs moved) h),
-      λ h. Contains-permutation ws vs (t, k) moved ((has-ordered ws t k).0 h),
-    ))
+    (λ t k. (λ h. (has-ordered ws t k).1 ((same t k).0 h), λ h. (same t k).1 ((has-ordered ws t k).0 h)))
 
 module _ (eq : ℕ × ℕ → ℕ × ℕ → Bool) (exact : (v w : ℕ × ℕ) → eq v w ≡ eq_by_cmp wake_cmp v w) where
   pub none_equal : (w : ℕ × ℕ) (ws : List (ℕ × ℕ)) → AllByRecursion (λ v. eq w v ≡ false) ws → list_any (eq_by_cmp wake_cmp w) ws ≡ false

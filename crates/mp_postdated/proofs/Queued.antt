@@ -11,7 +11,7 @@ use Rattle.std.specs.Ordering.{eq_by_cmp, is_lt}
 use Rattle.std.specs.declared.cmp.Ordering.TheVariants.{Less}
 use Rattle.std.specs.declared.cmp.Reverse.{Reverse}
 use Rattle.mp_postdated.proofs.Membership.{has-by_search}
-use Rattle.mp_postdated.proofs.Ordered.{Finds, has-ordered, has_found, has_in, has_out, is_ordered, none_equal, same_pair, same_pair-exact, same_parts}
+use Rattle.mp_postdated.proofs.Ordered.{AreSame, Finds, has-ordered, has_found, has_in, has_out, is_ordered, none_equal, same_pair, same_pair-exact, same_parts}
 use Rattle.mp_postdated.specs.Wakes.{AreQueued, BeginsLive, ComesNoLater, Has, IsAscending, IsQueueOf, IsWake, ordered, queue_cmp, reversed, wake_cmp}
 
 -- two neither of which comes later are the same
@@ -129,16 +129,16 @@ module _ (live : List (ℕ × ℕ)) where
       (λ (same : IsWake t k w). subst (λ (v : ℕ × ℕ). Contains (reversed (t, k) ∷ old) (reversed v)) (λ i. (sym same.0 i, sym same.1 i)) (0, omega arith, refl))
       ((has_in t k live more f w.0 w.1).0 there))
 
-  begins_reordered : (more : List (ℕ × ℕ)) (o : Option (Reverse (ℕ × ℕ))) → IsPermutation live more → IfSome o (λ r. Contains live r.0) → IfSome o (λ r. Contains more r.0)
-  begins_reordered more None moved begins = begins
-  begins_reordered more (Some r) moved begins = Contains-permutation live more r.0 moved begins
+  begins_same : (again : List (ℕ × ℕ)) (o : Option (Reverse (ℕ × ℕ))) → AreSame live again → IfSome o (λ r. Contains live r.0) → IfSome o (λ r. Contains again r.0)
+  begins_same again None same begins = begins
+  begins_same again (Some r) same begins = (same r.0.0 r.0.1).1 begins
 
-  -- a queue of live wakes is that of the same wakes in another order
-  pub queue-reordered : (more : List (ℕ × ℕ)) (queue : List (Reverse (ℕ × ℕ))) → IsPermutation live more → IsQueueOf live queue → IsQueueOf more queue
-  queue-reordered more queue moved is_queue = record {
+  -- a queue of live wakes is that of each list with the same wakes
+  pub queue-same : (again : List (ℕ × ℕ)) (queue : List (Reverse (ℕ × ℕ))) → AreSame live again → IsQueueOf live queue → IsQueueOf again queue
+  queue-same again queue same is_queue = record {
     heap = is_queue.heap;
-    all = λ w there. is_queue.all w (Contains-permutation more live w (IsPermutation-sym live more moved) there);
-    first = begins_reordered more (slice_get queue 0) moved is_queue.first;
+    all = λ w there. is_queue.all w ((same w.0 w.1).0 there);
+    first = begins_same again (slice_get queue 0) same is_queue.first;
   }
 
   no_later : (v w : ℕ × ℕ) → is_lt (wake_cmp w v) ≡ false → ComesNoLater v w

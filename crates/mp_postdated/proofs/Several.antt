@@ -18,16 +18,16 @@ same_wakes vs ws a b to from =
 nothing : (t : ℕ) → Contains {X = ℕ} [] t → ⊥
 nothing t h = let none : h.0 < 0 = h.1 in omega arith
 
--- the first times with one more
-longer : (ts : List ℕ) (i t : ℕ) → i < length ts → Contains (take (i + 1) ts) t ↔ (Contains (take i ts) t ⊎ (get_or ts i 0 ≡ t))
-longer ts i t l =
-    let one = take_more ts i 0 l in (
-      (λ h. Contains-push_cases (take i ts) (get_or ts i 0) t (subst (λ (us : List ℕ). Contains us t) one h)),
+-- the first items with one more
+pub longer : {X : Type 0} (xs : List X) (i : ℕ) (d x : X) → i < length xs → Contains (take (i + 1) xs) x ↔ (Contains (take i xs) x ⊎ (get_or xs i d ≡ x))
+longer xs i d x l =
+    let one = take_more xs i d l in (
+      (λ h. Contains-push_cases (take i xs) (get_or xs i d) x (subst (λ (ys : List _). Contains ys x) one h)),
       (λ h.
-          subst (λ (us : List ℕ). Contains us t) (sym one)
+          subst (λ (ys : List _). Contains ys x) (sym one)
           (⊎_elim
-          (λ (there : Contains (take i ts) t). Contains-append_left (take i ts) (get_or ts i 0 ∷ []) t there)
-          (λ (same : get_or ts i 0 ≡ t). subst (Contains (take i ts ++ get_or ts i 0 ∷ [])) same (Contains-push (take i ts) (get_or ts i 0)))
+          (λ (there : Contains (take i xs) x). Contains-append_left (take i xs) (get_or xs i d ∷ []) x there)
+          (λ (same : get_or xs i d ≡ x). subst (Contains (take i xs ++ get_or xs i d ∷ [])) same (Contains-push (take i xs) (get_or xs i d)))
           h)),
     )
 
@@ -47,7 +47,7 @@ module _ (ts : List ℕ) (key : ℕ) where
       → ((t k : ℕ) → Has us t k ↔ (Has vs t k ⊎ IsWake (get_or ts i 0) key (t, k))) → HasAdded ts key (i + 1) ws us
   one_added i ws vs us l h a one = record {
     exact = λ t k.
-        let more = longer ts i t l in (
+        let more = longer ts i 0 t l in (
           (λ there.
               ⊎_elim
               (λ (before : Has vs t k).

@@ -3,6 +3,7 @@
 //! Post-dated wakes: at which times which keys are to be woken, as Megaphone's post-dated records.
 #![tactic(auto)]
 
+mod live;
 mod queue;
 mod wakes;
 

@@ -4,17 +4,16 @@ ghost use Rattle.std.specs.Bool.{OnFalse, OnTrue};
 ghost use Rattle.std.specs.BinaryHeap.{IsHeap, heap_capacity, heap_items, heap_len};
 ghost use Rattle.mp_postdated.specs.Wakes.{AreQueued, BeginsLive, IsQueueOf, queue_cmp, reversed};
 
-use indexmap::IndexSet;
 use mp_model::Time;
 use std::cmp::Reverse;
-use std::collections::BinaryHeap;
+use std::collections::{BinaryHeap, HashSet};
 
 /// Wakes, the earliest first.
 pub type Queue = BinaryHeap<Reverse<(Time, u64)>>;
 
 /// Takes the wake of a key at a time, which isn't live any more, off the front of a queue, if it stands there, and what
 /// isn't live behind it. Takes no memory.
-pub fn drop_wake(queue: &mut Queue, live: &IndexSet<(Time, u64)>, time: Time, key: u64)
+pub fn drop_wake(queue: &mut Queue, live: &HashSet<(Time, u64)>, time: Time, key: u64)
     requires gone { ¬ Contains live.now.keys (time, key) }
     requires heap { IsHeap queue_cmp (heap_items queue.old) }
     requires all { AreQueued live.now.keys (heap_items queue.old) }
@@ -41,7 +40,7 @@ fn begins_with(queue: &Queue, time: Time, key: u64) -> bool
 }
 
 // Takes wakes that aren't live any more off the front of a queue.
-fn drop_taken(queue: &mut Queue, live: &IndexSet<(Time, u64)>)
+fn drop_taken(queue: &mut Queue, live: &HashSet<(Time, u64)>)
     requires heap { IsHeap queue_cmp (heap_items queue.old) }
     requires all { AreQueued live.now.keys (heap_items queue.old) }
     ensures queue { IsQueueOf live.now.keys (heap_items queue.new) }
@@ -54,7 +53,7 @@ fn drop_taken(queue: &mut Queue, live: &IndexSet<(Time, u64)>)
 }
 
 // Whether the first wake in a queue, if there is one, isn't live. A queue of no more wakes than are live has no others.
-fn begins_taken(queue: &Queue, live: &IndexSet<(Time, u64)>) -> bool
+fn begins_taken(queue: &Queue, live: &HashSet<(Time, u64)>) -> bool
     requires { AreQueued live.now.keys (heap_items queue.now) }
     ensures some { OnTrue result (0 < heap_len queue.now) }
     ensures taken { OnTrue result (IfSome (slice_get (heap_items queue.now) 0) (λ r. ¬ Contains live.now.keys r.0)) }

@@ -3,19 +3,21 @@ ghost use Rattle.std.specs.Prelude.{◌≡◌, ◌↔◌, ◌⊎◌, ◌<◌, �
 ghost use Rattle.std.specs.Bool.{OnFalse};
 ghost use Rattle.mp_postdated.specs.Wakes.{ComesNoLater, Has, IsAmongWakes, IsAscending, IsWake, with_wake, without_wake};
 
+use crate::live::fill;
 use crate::queue::{Queue, drop_wake};
-use indexmap::IndexSet;
 use mp_model::Time;
 use std::alloc::{AllocError, Global};
 use std::cmp::Reverse;
-use std::collections::BinaryHeap;
+use std::collections::{BinaryHeap, HashSet, hash_set};
 use std::marker::Model;
 
 /// The keys that are to be woken, each with a time, as Megaphone's post-dated records. Contracts see the pairs of a
 /// time and a key, each once, ascending by time and then by key.
 pub struct Wakes {
+    // For `sort`.
+    alloc: Global,
     // Those that are to come.
-    live: IndexSet<(Time, u64)>,
+    live: HashSet<(Time, u64)>,
     // Each of them, the earliest first, and some that were taken out behind it.
     queue: Queue,
 }
@@ -23,7 +25,11 @@ pub struct Wakes {
 // By hand, so that crates above call it and don't write out the drop of each field.
 impl Drop for Wakes {
     fn drop(self) {
-        let Wakes { live: _, queue: _ } = self;
+        let Wakes {
+            alloc: _,
+            live: _,
+            queue: _,
+        } = self;
     }
 }
 
@@ -46,7 +52,8 @@ impl Wakes {
         ensures { result.wakes ≡ [] }
     {
         Wakes {
-            live: IndexSet::new(alloc),
+            alloc,
+            live: HashSet::new(alloc),
             queue: BinaryHeap::new(alloc),
         }
     }
@@ -107,25 +114,29 @@ impl Wakes {
         }
     }
 
-    /// Sorts what `as_slice` gives, by time and then by key, for the sake of speed alone: no contract tells the order of
-    /// the slice. `AllocError`: no memory, and nothing changes.
+    /// Sorts what `iter` gives, by time and then by key, for the sake of speed alone: no contract tells its order.
+    /// `AllocError`: no memory, and nothing changes.
     pub fn sort(&mut self) -> Result<(), AllocError>
         ensures same { self.new.wakes ≡ self.old.wakes }
         ensures room { self.old.room ≤ self.new.room }
     {
-        if self.live.is_sorted() {
+        if self.live.iter().is_sorted() {
             return Ok(());
         }
-        self.live.sort_unstable()
+        let mut wakes: Vec<(Time, u64)> = self.live.iter().copied().collect(self.alloc)?;
+        wakes.sort_unstable();
+        self.live.clear();
+        fill(&mut self.live, &wakes);
+        Ok(())
     }
 
     /// The wakes, in no particular order.
-    pub fn as_slice(&self) -> &[(Time, u64)]
-        ensures wakes { IsPermutation self.now.wakes result.now }
+    pub fn iter(&self) -> hash_set::Iter<'_, (Time, u64)>
+        ensures wakes { IsPermutation self.now.wakes result }
         ensures ascending { IsAscending self.now.wakes }
-        ensures fits { length result.now < 2 ^ 63 }
+        ensures fits { length result < 2 ^ 63 }
     {
-        self.live.as_slice()
+        self.live.iter()
     }
 
     /// The first wake by time and then by key; `None` exactly where there is none.
@@ -150,7 +161,7 @@ impl Wakes {
         ensures room { self.old.room ≤ self.new.room }
         ensures ascending { IsAscending self.new.wakes }
     {
-        let was_there = self.live.swap_remove(&(time, key));
+        let was_there = self.live.remove(&(time, key));
         drop_wake(&mut self.queue, &self.live, time, key);
         was_there
     }

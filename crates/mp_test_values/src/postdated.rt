@@ -14,6 +14,7 @@ fn three_wakes(alloc: Global) -> Result<Wakes, AllocError> {
 #[test]
 fn wakes_come_by_time(rt: HostRuntime) -> Result<(), AllocError> {
     let wakes = three_wakes(rt.alloc())?;
-    assert!(rt; wakes.as_slice() == [(5, 9), (7, 1), (8, 9)].as_slice());
+    let came: Vec<(u64, u64)> = wakes.iter().copied().collect(rt.alloc())?;
+    assert!(rt; came.as_slice() == [(5, 9), (7, 1), (8, 9)].as_slice());
     Ok(())
 }
