@@ -1,5 +1,5 @@
 -- What a message holds is called by the names of one message.
-use Rattle.std.proofs.Common.{◌≡◌, ℕ, ◌<◌, List, [], ◌∷◌, All, map, Contains, sym, ap, ◌∙◌, subst, ⊎_elim, arith}
+use Rattle.std.proofs.Common.{◌≡◌, ◌<◌, List, [], ◌∷◌, sym, ap, ◌∙◌, subst, ⊎_elim, arith}
 use Rattle.std.proofs.lemmas.Bool.{false≢true}
 use Rattle.std.proofs.lemmas.List.Elements.{All-contains}
 use Rattle.mp_names.specs.declared.names.Name.{Name}
@@ -12,7 +12,6 @@ use Rattle.mp_model.specs.Facts.{JobFacts, QueryFacts}
 use Rattle.mp_outline.specs.JobOutline.{name_of_record, outline_of}
 use Rattle.mp_outline.proofs.Named.{In_named}
 use Rattle.mp_msg.specs.declared.message.Body.TheVariants.{Ctrl, Recs, Packet, Row}
-use Rattle.mp_msg.specs.Bodies.{IsContentOf}
 use Rattle.mp_msg.specs.Bundles.{Bundled, HasOneSender, IsBundle, names_in, receiver_of, sender_of}
 use Rattle.mp_msg.specs.Contents.{IsRecordOf}
 use Rattle.mp_msg.specs.Laws.{BodiesAreMessages}

@@ -1,9 +1,9 @@
 //! What a bin has.
 ghost use Rattle.std.specs.Prelude.{◌≡◌, [], IfOk};
 
-use indexmap::IndexMap;
 use mp_postdated::Wakes;
 use std::alloc::{AllocError, Global};
+use std::collections::HashMap;
 use std::marker::Model;
 
 /// The state of a bin of a stage: the cells of its keys and the wakes of its keys. A key that has no cell has a fresh one.
@@ -11,7 +11,7 @@ use std::marker::Model;
 #[derive(Drop)]
 pub struct BinState<C: Drop> {
     /// None of them is fresh.
-    pub cells: IndexMap<u64, C>,
+    pub cells: HashMap<u64, C>,
     /// The times at which its keys are to be woken.
     pub wakes: Wakes,
 }
@@ -33,7 +33,7 @@ impl<C: Drop> BinState<C> {
         ensures wakes { result.wakes ≡ [] }
     {
         BinState {
-            cells: IndexMap::new(alloc),
+            cells: HashMap::new(alloc),
             wakes: Wakes::new(alloc),
         }
     }
