@@ -1,10 +1,10 @@
 -- What a bin begins with, and the state that is made of it.
-use Rattle.std.proofs.Common.{◌≡◌, ◌≢◌, ◌↔◌, ◌⊎◌, ◌∙◌, ◌==◌, ◌+◌, ◌++◌, ℕ, nat_eq, true, false, All, Contains, IsSome, List, [], ◌∷◌, None, Option, Some, ap, cond, inl, inr, refl, subst, sym, ⊎_elim}
+use Rattle.std.proofs.Common.{◌≡◌, ◌≢◌, ◌↔◌, ◌⊎◌, ◌∙◌, ◌==◌, ◌++◌, ℕ, nat_eq, true, false, All, Contains, IsSome, List, [], ◌∷◌, None, Option, Some, ap, cond, inl, inr, refl, subst, sym, ⊎_elim}
 use Rattle.std.specs.Map.{lookup}
 use Rattle.std.specs.Option.{unwrap_or}
 use Rattle.std.proofs.lemmas.Bool.{both_ways, cases_Bool, eq-eqb, eqb-true, false≢true}
 use Rattle.std.proofs.lemmas.List.Elements.{All-cons, All-contains, All-nil, Contains-append_left, Contains-push, Contains-push_cases}
-use Rattle.indexmap.specs.IndexMap.{IndexMap, get}
+use Rattle.std.specs.HashMap.{HashMap, get}
 use Rattle.mp_bins.specs.Bins.{bin_of_key}
 use Rattle.mp_model.specs.Facts.{JobFacts, QueryFacts}
 use Rattle.mp_job.proofs.Members.{nothing_in_nil, Contains-here, Contains-later}
@@ -16,7 +16,7 @@ use Rattle.mp_job.specs.Openings.{AreOpeningCells, AreOpeningWakes}
 use Rattle.mp_host_states.proofs.Finding.{cell_is}
 
 -- the cells that are kept, with one more of them looked at
-module _ {Cell S : Type 0} (fresh : Cell) (cells : List (ℕ × Cell)) (k : ℕ) (c : Cell) (kept : IndexMap ℕ Cell S) (are : AreKept fresh cells kept) where
+module _ {Cell S : Type 0} (fresh : Cell) (cells : List (ℕ × Cell)) (k : ℕ) (c : Cell) (kept : HashMap ℕ Cell S) (are : AreKept fresh cells kept) where
   among_more : (l : ℕ) (d : Cell) → Contains cells (l, d) → Contains (cells ++ (k, c) ∷ []) (l, d)
   among_more l d i = Contains-append_left cells ((k, c) ∷ []) (l, d) i
 
@@ -32,7 +32,7 @@ module _ {Cell S : Type 0} (fresh : Cell) (cells : List (ℕ × Cell)) (k : ℕ)
   }
 
   -- another is kept
-  pub other_kept : c ≢ fresh → (new : IndexMap ℕ Cell S) → ((l : ℕ) → get nat_eq new l ≡ cond (k == l) (Some c) (get nat_eq kept l)) → AreKept fresh (cells ++ (k, c) ∷ []) new
+  pub other_kept : c ≢ fresh → (new : HashMap ℕ Cell S) → ((l : ℕ) → get nat_eq new l ≡ cond (k == l) (Some c) (get nat_eq kept l)) → AreKept fresh (cells ++ (k, c) ∷ []) new
   other_kept ne new is = record { own = own; all = all }
     where
       at_key : (l : ℕ) → (k == l) ≡ true → get nat_eq new l ≡ Some c
@@ -69,7 +69,7 @@ module _ {Cell S : Type 0} (fresh : Cell) (cells : List (ℕ × Cell)) (k : ℕ)
           inr (subst (λ (o : Option Cell). IsSome o) (sym (at_key l (eq-eqb k l key))) refl))
           (Contains-push_cases cells (k, c) (l, d) i)
 
-pub none_kept : {Cell S : Type 0} (fresh : Cell) (kept : IndexMap ℕ Cell S) → kept.entries ≡ [] → AreKept fresh [] kept
+pub none_kept : {Cell S : Type 0} (fresh : Cell) (kept : HashMap ℕ Cell S) → kept.entries ≡ [] → AreKept fresh [] kept
 none_kept {Cell = Cell} fresh kept e = record {
   own = λ k c f. absurd (none_there k c (subst (λ es. lookup (nat_eq k) es ≡ Some c) e f));
   all = λ k c i. absurd (nothing_in_nil (k, c) i);
@@ -92,7 +92,7 @@ module _ {Cell : Type 0} (k : ℕ) where
       (has_cell ps))
       (cases_Bool (p.0 == k))
 
-module _ {Cell S : Type 0} (q : QueryFacts Cell) (job : JobFacts) (j b : ℕ) (cells : List (ℕ × Cell)) (due : List (ℕ × ℕ)) (kept : IndexMap ℕ Cell S) (wakes : List (ℕ × ℕ))
+module _ {Cell S : Type 0} (q : QueryFacts Cell) (job : JobFacts) (j b : ℕ) (cells : List (ℕ × Cell)) (due : List (ℕ × ℕ)) (kept : HashMap ℕ Cell S) (wakes : List (ℕ × ℕ))
     (opens : AreOpeningCells q job.shape.bins j b cells) (woken : AreOpeningWakes q job.shape.bins j b due)
     (are : AreKept (q.fresh j) cells kept) (same : (u k : ℕ) → Has wakes u k ↔ Contains due (u, k)) (ascend : IsAscending wakes) where
   its_cell : (k : ℕ) (c : Cell) → Contains cells (k, c) → (bin_of_key k job.shape.bins ≡ b) × (c ≡ q.opening j k)

@@ -1,11 +1,11 @@
 //! The cells of keys.
 ghost use Rattle.std.specs.Prelude.{◌≡◌, ◌≢◌, ◌==◌, ◌⊎◌, ℕ, Some, nat_eq, true, cond, IfOk, OnErr, OnOk};
-ghost use Rattle.indexmap.specs.IndexMap.{get};
+ghost use Rattle.std.specs.HashMap.{get};
 ghost use Rattle.mp_host_states.specs.Cells.{cell_of};
 
-use indexmap::IndexMap;
 use mp_model::{Group, Query, Value};
 use std::alloc::{AllocError, Global};
+use std::collections::HashMap;
 
 /// Applies a group to the cell of its key, which is fresh where there is none: the outputs, in order. A cell that is fresh
 /// then isn't kept. `AllocError`: no memory, and each cell stays as it was.
@@ -13,7 +13,7 @@ pub fn step_in<Q: Query>(
     alloc: Global,
     query: &Q,
     stage: u32,
-    cells: &mut IndexMap<u64, Q::Cell>,
+    cells: &mut HashMap<u64, Q::Cell>,
     group: &Group,
 ) -> Result<Vec<Value>, AllocError>
     requires fits { let q = Q.facts (Q.values query.now) in
@@ -33,7 +33,7 @@ pub fn step_in<Q: Query>(
         Some(cell) => {
             let outputs = query.step(alloc, stage, cell, group)?;
             if query.is_fresh(stage, cell) {
-                cells.swap_remove(&key);
+                cells.remove(&key);
             }
             Ok(outputs)
         }
@@ -53,7 +53,7 @@ pub fn most_in<Q: Query>(
     alloc: Global,
     query: &Q,
     stage: u32,
-    cells: &IndexMap<u64, Q::Cell>,
+    cells: &HashMap<u64, Q::Cell>,
     group: &Group,
 ) -> u64
     requires fits { let q = Q.facts (Q.values query.now) in

@@ -4,12 +4,12 @@ ghost use Rattle.mp_model.specs.Tables.{table_of};
 ghost use Rattle.mp_msg.specs.States.{IsStateAtFirst};
 ghost use Rattle.mp_host_states.specs.Openings.{AreKept};
 
-use indexmap::IndexMap;
 use mp_host_steps::wakes_of;
 use mp_job::Job;
 use mp_model::Query;
 use mp_msg::BinState;
 use std::alloc::{AllocError, Global};
+use std::collections::HashMap;
 
 /// The state that a bin of a stage begins with: its cells but for those that are fresh, and its wakes. Of a job that doesn't
 /// go on from a checkpoint it has neither. `AllocError`: no memory.
@@ -33,10 +33,10 @@ fn kept_of<Q: Query>(
     query: &Q,
     stage: u32,
     cells: Vec<(u64, Q::Cell)>,
-) -> Result<IndexMap<u64, Q::Cell>, AllocError>
+) -> Result<HashMap<u64, Q::Cell>, AllocError>
     ensures { IfOk result (λ kept. AreKept ((Q.facts (Q.values query.now)).fresh stage) cells.items kept) }
 {
-    let mut kept = IndexMap::new(alloc);
+    let mut kept = HashMap::new(alloc);
     for (key, cell) in cells {
         if !query.is_fresh(stage, &cell) {
             kept.insert(key, cell)?;
