@@ -1,8 +1,8 @@
 -- Groups are told by numbers of their times.
-use Rattle.std.proofs.Common.{◌≡◌, ◌≢◌, ℕ, ◌+◌, ◌<◌, ◌≤◌, ◌==◌, nat_lt, Bool, true, false, cond, IsPermutation, List, [], ◌∷◌, ◌++◌, All, AllPairs, Contains, count_by, drop, filter, fold, get_or, length, take, sym, ap, ◌∙◌, subst, refl, append_assoc, arith}
+use Rattle.std.proofs.Common.{◌≡◌, ◌≢◌, ℕ, ◌+◌, ◌<◌, ◌≤◌, ◌==◌, nat_lt, Bool, true, false, cond, IsPermutation, List, [], ◌∷◌, ◌++◌, All, AllPairs, Contains, count_by, filter, fold, length, sym, ap, ◌∙◌, subst, refl, append_assoc, arith}
 use Rattle.std.specs.List.{sum_by}
 use Rattle.std.proofs.lemmas.Bool.{eqb-true}
-use Rattle.std.proofs.lemmas.List.{append-nil, length-map, length_push, length-take, take_more, take-append-drop}
+use Rattle.std.proofs.lemmas.List.{append-nil, length-map, length_push}
 use Rattle.std.proofs.lemmas.List.Elements.{All-cons, All-head, All-nil, All-tail, All-weaker, Contains-append_left, filter-append}
 use Rattle.std.proofs.lemmas.List.Sorted.{Contains-permutation, IsPermutation-sym, sum_by-IsPermutation}
 use Rattle.std.proofs.lemmas.List.Sums.{fold_push, length-filter, sum_by-cons, sum_by_push}
@@ -156,32 +156,19 @@ numbers_below p ws top l =
     All-weaker (λ (n : ℕ × ℕ). n.1 ≤ length (filter p ws)) (λ (n : ℕ × ℕ). n.1 < top) (λ n few. omega arith) (numbers_of (filter p ws)) told.few
 
 module _ (p : ℕ × ℕ → Bool) where
-  filter_more : (ws : List (ℕ × ℕ)) (i : ℕ) (w d : ℕ × ℕ) → i < length ws → w ≡ get_or ws i d → filter p (take (i + 1) ws) ≡ filter p (take i ws) ++ cond (p w) (w ∷ []) []
-  filter_more ws i w d l is =
-      ap (filter p) (take_more ws i d l ∙ ap (λ (v : ℕ × ℕ). take i ws ++ v ∷ []) (sym is)) ∙ filter-append p (take i ws) (w ∷ [])
-
-  -- one more group that passes is told, and one that doesn't isn't
-  pub passing_told : (ws : List (ℕ × ℕ)) (i : ℕ) (w d : ℕ × ℕ) → i < length ws → w ≡ get_or ws i d → p w ≡ true → numbers_of (filter p (take (i + 1) ws)) ≡ with_one (numbers_of (filter p (take i ws))) w.0
-  passing_told ws i w d l is e =
-      ap numbers_of (filter_more ws i w d l is ∙ ap (λ b. filter p (take i ws) ++ cond b (w ∷ []) []) e) ∙ numbers_push (filter p (take i ws)) w
-
-  pub failing_told : (ws : List (ℕ × ℕ)) (i : ℕ) (w d : ℕ × ℕ) → i < length ws → w ≡ get_or ws i d → p w ≡ false → numbers_of (filter p (take (i + 1) ws)) ≡ numbers_of (filter p (take i ws))
-  failing_told ws i w d l is e =
-      ap numbers_of (filter_more ws i w d l is ∙ (ap (λ b. filter p (take i ws) ++ cond b (w ∷ []) []) e ∙ append-nil (filter p (take i ws))))
+  -- one more group that passes is told
+  passing_told : (ws : List (ℕ × ℕ)) (w : ℕ × ℕ) → p w ≡ true → numbers_of (filter p (ws ++ w ∷ [])) ≡ with_one (numbers_of (filter p ws)) w.0
+  passing_told ws w e = ap numbers_of (filter-append p ws (w ∷ []) ∙ ap (λ b. filter p ws ++ cond b (w ∷ []) []) e) ∙ numbers_push (filter p ws) w
 
   -- where there is room for a number for each time of wakes there is room for the next one
-  pub room_for_one : (all ws : List (ℕ × ℕ)) (i : ℕ) (w d : ℕ × ℕ) → IsPermutation all ws → i < length ws → w ≡ get_or ws i d → p w ≡ true
-      → length (with_one (numbers_of (filter p (take i ws))) w.0) ≤ length (ascending (times all))
-  room_for_one all ws i w d same l is e =
-      let among : (v : ℕ × ℕ) → Contains (filter p (take (i + 1) ws)) v → Contains all v = λ v j.
-      Contains-permutation ws all v (IsPermutation-sym all ws same) (subst (λ (vs : List (ℕ × ℕ)). Contains vs v) (take-append-drop (i + 1) ws) (Contains-append_left (take (i + 1) ws) (drop (i + 1) ws) v (Contains-filter p (take (i + 1) ws) v j).0)) in
-      let within = numbers_within (filter p (take (i + 1) ws)) all among in
-      let told = ap (λ (ns : List (ℕ × ℕ)). length ns) (passing_told ws i w d l is e) in
+  pub room_for_one : (all ws rest : List (ℕ × ℕ)) (w : ℕ × ℕ) → IsPermutation all (ws ++ w ∷ rest) → p w ≡ true → length (with_one (numbers_of (filter p ws)) w.0) ≤ length (ascending (times all))
+  room_for_one all ws rest w same e =
+      let more = ws ++ w ∷ [] in
+      let among : (v : ℕ × ℕ) → Contains (filter p more) v → Contains all v = λ v j.
+      Contains-permutation (ws ++ w ∷ rest) all v (IsPermutation-sym all (ws ++ w ∷ rest) same) (subst (λ (vs : List (ℕ × ℕ)). Contains vs v) (append_assoc ws (w ∷ []) rest) (Contains-append_left more rest v (Contains-filter p more v j).0)) in
+      let within = numbers_within (filter p more) all among in
+      let told = ap (λ (ns : List (ℕ × ℕ)). length ns) (passing_told ws w e) in
       omega arith
-
-  -- of the first of fewer groups than a number each number is less than it
-  pub first_below : (ws : List (ℕ × ℕ)) (i top : ℕ) → length ws < top → All (λ n. n.1 < top) (numbers_of (filter p (take i ws)))
-  first_below ws i top l = let few = length-take i ws in numbers_below p (take i ws) top (omega arith)
 
   count_filtered : (q : ℕ × ℕ → Bool) (ws : List (ℕ × ℕ)) → count_by q (filter p ws) ≡ sum_by (λ w. cond (p w) (cond (q w) 1 0) 0) ws
   count_filtered q [] = refl

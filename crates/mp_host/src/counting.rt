@@ -55,7 +55,7 @@ impl<'a, Q: Query, J: Naming> Host<'a, Q, J> {
         ensures { result ≡ length (new_keys time one.now (drop next self.now.held)) }
     {
         let mut count = 0;
-        for wake in one.state.wakes.as_slice() {
+        for wake in one.state.wakes.iter() {
             if self.is_new(wake, next, time) {
                 count += 1;
             }

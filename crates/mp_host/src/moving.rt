@@ -132,7 +132,7 @@ impl<'a, Q: Query, J: Naming> Host<'a, Q, J> {
         ensures few { OnOk result (All (λ n. n.1 < 2 ^ 63) numbers.new.items) }
         ensures never_refused_with_room { length (ascending (map (λ w. w.0) wakes.now.wakes)) ≤ vec_capacity numbers.old → IsOk result }
     {
-        for wake in wakes.as_slice() {
+        for wake in wakes.iter() {
             if !self.waits_beside(from, to, wake.0, wake.1) {
                 add_one(numbers, wake.0)?;
             }
