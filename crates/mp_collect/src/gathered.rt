@@ -4,11 +4,11 @@ ghost use Rattle.std.specs.List.{flat_map};
 ghost use Rattle.mp_msg.specs.States.{by_key};
 ghost use Rattle.mp_collect.specs.Gathered.{as_cell, as_wake, cells_of, wakes_of};
 
-use indexmap::IndexMap;
 use mp_msg::BinState;
 use mp_opening::{KeyCell, KeyWake};
 use mp_postdated::Wakes;
 use std::alloc::{AllocError, Global};
+use std::collections::HashMap;
 
 /// The cells of the states of all workers, and their wakes, in no order. `AllocError`: no memory.
 pub fn gather<C: Drop>(
@@ -63,7 +63,7 @@ fn add_state<C: Drop>(
 fn add_cells<C: Drop>(
     cells: &mut Vec<KeyCell<C>>,
     stage: u32,
-    own: IndexMap<u64, C>,
+    own: HashMap<u64, C>,
 ) -> Result<(), AllocError>
     ensures { OnOk result (IsPermutation (cells.old.items ++ map (as_cell stage) (by_key own.entries)) cells.new.items) }
 {
@@ -77,7 +77,7 @@ fn add_cells<C: Drop>(
 fn add_wakes(wakes: &mut Vec<KeyWake>, stage: u32, due: &Wakes) -> Result<(), AllocError>
     ensures { OnOk result (IsPermutation (wakes.old.items ++ map (as_wake stage) due.now.wakes) wakes.new.items) }
 {
-    for (time, key) in due.as_slice() {
+    for (time, key) in due.iter() {
         wakes.push(KeyWake {
             stage,
             key: *key,
