@@ -1,5 +1,5 @@
 //! How a thread drives its worker.
-ghost use Rattle.std.specs.Prelude.{◌≡◌, ℕ, IfErr, List, Ok, OnOk, Option, false, true};
+ghost use Rattle.std.specs.Prelude.{◌≡◌, ◌<◌, ℕ, IfErr, List, Ok, OnOk, Option, false, true};
 ghost use Rattle.mp_outside.specs.Sink.{grown};
 ghost use Rattle.mp_model.specs.Answers.{one_thread_answer};
 ghost use Rattle.mp_model.specs.Tables.{table_of};
@@ -25,6 +25,9 @@ use std::sync::Wait;
 // How many steps of one kind a round has at most. So the frontiers of a round serve many groups, and a mailbox is emptied
 // before more is sent.
 const STEPS_OF_A_KIND: u32 = 64;
+
+// How many records a round takes in at most. These are fewer than the groups that it may apply, so that few records wait.
+const RECORDS_TAKEN_IN: u32 = 32;
 
 /// What a round of a worker came to, in which it tried each kind of step.
 #[derive(Clone, Copy)]
@@ -72,7 +75,8 @@ impl<'a, Q: Query, J: Naming, R: Wait + Drop> Member<'a, Q, J, R> {
     }
 
     /// One round: tries each kind of step in their order, each again as long as its steps are made, up to 64 times, but an
-    /// exchange once. Before it writes it receives a second time. `Over`: the worker then knows that all is over, and its log
+    /// exchange once. It takes in up to 32 records, and one where the last round applied as many groups of a stage as it might.
+    /// Before it writes it receives a second time. `Over`: the worker then knows that all is over, and its log
     /// is full. `Made`: it has come further. `Idle`: it is as it was, and each kind of step was tried in vain. Where a step
     /// answers `Write` or `Memory` it tells the others why; that waits while another holds the board. `Other`: another worker
     /// stopped before, by the cause that the seat sees.
@@ -183,8 +187,8 @@ impl<'a, Q: Query, J: Naming, R: Wait + Drop> Member<'a, Q, J, R> {
         }
     }
 
-    // Makes steps of a kind, until one isn't made, an exchange was, or there were as many as a round has of a kind: whether
-    // a step was made.
+    // Makes steps of a kind, until one isn't made, an exchange was, or there were as many as this round has of the kind:
+    // whether a step was made.
     #[inline(always)]
     fn repeat_kind<G: Gate, S: Sink>(
         &mut self,
@@ -198,7 +202,7 @@ impl<'a, Q: Query, J: Naming, R: Wait + Drop> Member<'a, Q, J, R> {
         ensures idle { result ≡ Ok false
             → WasHindered (outline_of (table_of Q.facts J.job) J.job) kind self.old self.new }
     {
-        for number in 0..STEPS_OF_A_KIND {
+        for number in 0..most_steps(kind, self.is_behind) {
             match self.step(kind, gate, sink) {
                 Ok(Turn::Did(..)) => {}
                 Ok(Turn::Seen(_)) => return Ok(true),
@@ -206,6 +210,7 @@ impl<'a, Q: Query, J: Naming, R: Wait + Drop> Member<'a, Q, J, R> {
                 Err(why) => return Err(why),
             }
         }
+        self.is_behind = is_behind_after(kind, self.is_behind);
         Ok(true)
     }
 
@@ -237,5 +242,25 @@ impl<'a, Q: Query, J: Naming, R: Wait + Drop> Member<'a, Q, J, R> {
             Stop::Memory => self.hub.stop(rt, Cause::Memory),
             Stop::Other(_) => {}
         }
+    }
+}
+
+// How many steps of a kind a round has at most.
+fn most_steps(kind: Kind, is_behind: bool) -> u32
+    ensures { 0 < result }
+{
+    match kind {
+        Kind::Ingest if is_behind => 1,
+        Kind::Ingest => RECORDS_TAKEN_IN,
+        _ => STEPS_OF_A_KIND,
+    }
+}
+
+// Whether a worker is behind with its groups, once a round made as many steps of a kind as it might.
+fn is_behind_after(kind: Kind, before: bool) -> bool {
+    match kind {
+        Kind::Apply(_) => true,
+        Kind::Ingest => false,
+        _ => before,
     }
 }

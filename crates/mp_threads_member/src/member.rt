@@ -20,6 +20,8 @@ pub struct Member<'a, Q: Query, J: Naming, R> {
     pub(crate) worker: Worker<'a, Q, J>,
     pub(crate) post: RuledPost<Msg<Q, J>, R>,
     pub(crate) hub: SeatHub<OutlineOf<Q, J>>,
+    // Whether the worker applied as many groups of a stage as a round may, and has taken in no more records since.
+    pub(crate) is_behind: bool,
 }
 
 // By hand, so that crates above call it and don't write out the drop of each field.
@@ -29,6 +31,7 @@ impl<'a, Q: Query, J: Naming, R: Drop> Drop for Member<'a, Q, J, R> {
             worker: _,
             post: _,
             hub: _,
+            is_behind: _,
         } = self;
     }
 }
@@ -64,7 +67,12 @@ impl<'a, Q: Query, J: Naming, R> Member<'a, Q, J, R> {
         ensures post { result.post ≡ post }
         ensures hub { result.hub ≡ hub }
     {
-        Member { worker, post, hub }
+        Member {
+            worker,
+            post,
+            hub,
+            is_behind: false,
+        }
     }
 
     /// The worker's number.
@@ -100,6 +108,7 @@ impl<'a, Q: Query, J: Naming, R> Member<'a, Q, J, R> {
             worker,
             post: _,
             hub: _,
+            is_behind: _,
         } = self;
         worker
     }
