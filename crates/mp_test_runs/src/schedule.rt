@@ -4,11 +4,11 @@ ghost use Rattle.mp_job.specs.Runs.{IsRunOf};
 
 use crate::handing::one_move;
 use mp_board::Cause;
-use mp_drive::{Draws, RunPlan, replay, replay_with_tallies};
-use mp_gate::{Gate, OpenGate};
+use mp_drive::{Draws, RunPlan, replay};
+use mp_gate::Gate;
 use mp_job::Job;
 use mp_model::Naming;
-use mp_names::{Kept, Kind};
+use mp_names::Kind;
 use mp_outside::MemSink;
 use mp_q_auction::Q4;
 use std::alloc::{AllocError, Global};
@@ -183,69 +183,5 @@ fn the_schedule_of_seed_0(rt: HostRuntime) -> Result<(), Cause> {
     let mut sink = MemSink::new(rt.alloc());
     seed_makes_the_steps::<Brand>(&rt, rt.alloc(), &job, &gate, &mut sink)?;
     all_passed(&rt, &gate);
-    Ok(())
-}
-
-// How many steps the schedule of a seed has.
-fn steps_of_seed<J: Naming>(alloc: Global, job: &Job<Q4>, seed: u64) -> Result<u64, Cause>
-    requires job { IsRunOf job.now J.job }
-    requires pace { J.job.paced ≡ false }
-{
-    let mut sink = MemSink::new(alloc);
-    replay::<Q4, J, _, _>(alloc, job, PLAN, seed, &OpenGate, &mut sink)
-}
-
-#[test]
-fn other_seeds_make_other_steps(rt: HostRuntime) -> Result<(), Cause> {
-    let job = one_move(rt.alloc())?;
-    for (seed, steps) in [(1, 46), (7, 50), (281_474_976_710_656, 46)] {
-        let made = steps_of_seed::<Brand>(rt.alloc(), &job, seed)?;
-        assert!(rt; made == steps, "seed {seed}");
-    }
-    Ok(())
-}
-
-// What each worker keeps of the steps of seed 0.
-fn kept_of_seed<J: Naming>(alloc: Global, job: &Job<Q4>) -> Result<Vec<Vec<Kept>>, Cause>
-    requires job { IsRunOf job.now J.job }
-    requires pace { J.job.paced ≡ false }
-{
-    let mut sink = MemSink::new(alloc);
-    let run = replay_with_tallies::<Q4, J, _, _>(alloc, job, PLAN, 0, &OpenGate, &mut sink)?;
-    Ok(run.kept)
-}
-
-// The kinds of the steps of seed 0 that this worker makes, in order.
-fn kinds_of(alloc: Global, worker: u32) -> Result<Vec<Kind>, AllocError> {
-    STEPS
-        .iter()
-        .filter(|step| step.0 == worker)
-        .map(|step| step.1)
-        .collect(alloc)
-}
-
-// The steps are of these kinds, in their order, and the versions of exchanges ascend.
-fn are_of_kinds(rt: &impl Abort, kept: &[Kept], kinds: &[Kind]) {
-    assert!(rt; kept.len() == kinds.len());
-    let mut version = 0;
-    for (step, kind) in kept.iter().zip(kinds) {
-        assert!(rt; step.kind == *kind);
-        if *kind == Kind::Exchange {
-            assert!(rt; version < step.version);
-            version = step.version;
-        } else {
-            assert!(rt; step.version == 0);
-        }
-    }
-}
-
-#[test]
-fn workers_keep_their_steps(rt: HostRuntime) -> Result<(), Cause> {
-    let job = one_move(rt.alloc())?;
-    let kept = kept_of_seed::<Brand>(rt.alloc(), &job)?;
-    assert!(rt; kept.len() == 2);
-    for (worker, steps) in (0..2).zip(&kept) {
-        are_of_kinds(&rt, steps, &kinds_of(rt.alloc(), worker)?);
-    }
     Ok(())
 }

@@ -215,39 +215,6 @@ fn shares_by_index(rt: HostRuntime) -> Result<(), Cause> {
     follows::<Q1, Brand>(&rt, rt.alloc(), &job, 64, &SHARES_BY_INDEX)
 }
 
-// Workers, a stage and a sender that the job hasn't.
-const OUTSIDE: [Line; 4] = [
-    (3, Kind::Ingest, Turn::NotNow),
-    (u32::MAX, Kind::Exchange, Turn::NotNow),
-    (0, Kind::Route(1), Turn::NotNow),
-    (1, Kind::Receive(3), Turn::NotNow),
-];
-
-// Places that the job hasn't have no step, before and after others.
-const NOT_THERE: [Part<'static>; 3] = [
-    Part {
-        lines: &OUTSIDE,
-        at: Loc::Mail(0),
-        frontier: Frontier::At(5),
-    },
-    Part {
-        lines: &BOTH_ON_THE_WAY,
-        at: Loc::Mail(0),
-        frontier: Frontier::At(5),
-    },
-    Part {
-        lines: &OUTSIDE,
-        at: Loc::Mail(0),
-        frontier: Frontier::At(5),
-    },
-];
-
-#[test]
-fn places_that_the_job_lacks(rt: HostRuntime) -> Result<(), Cause> {
-    let job = job_of(rt.alloc(), &TWO_BIDS)?;
-    follows::<Q1, Brand>(&rt, rt.alloc(), &job, 64, &NOT_THERE)
-}
-
 // The kinds of step of three workers and one stage, in the order in which they are tried.
 const KINDS: [Kind; 12] = [
     Kind::Ingest,
