@@ -138,11 +138,12 @@ impl<'a, Q: Query, J: Naming> Host<'a, Q, J> {
     fn not_waiting(&self, alloc: Global, key: u64, times: &[Time]) -> Result<Vec<Time>, AllocError>
         ensures { IfOk result (λ v. v.items ≡ ascending (filter (λ u. not (waits_at self.now u key)) times.now)) }
     {
-        let mut list = times
-            .iter()
-            .copied()
-            .filter(|time| !self.waits_at_post(*time, key))
-            .collect(alloc)?;
+        let mut list = Vec::with_capacity(alloc, times.len())?;
+        for time in times {
+            if !self.waits_at_post(*time, key) {
+                list.push_reserved(*time);
+            }
+        }
         put_in_order(&mut list);
         Ok(list)
     }
