@@ -1,1 +1,2 @@
 mod GivingRows
+mod WakingRows

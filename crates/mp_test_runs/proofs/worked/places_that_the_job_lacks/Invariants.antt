@@ -1,6 +1,0 @@
--- The name that is picked is that of the job.
-use Rattle.std.specs.Prelude.{false}
-use Rattle.mp_test_runs.proofs.worked.places_that_the_job_lacks.Given as goal
-
-abbrev pub ghosts-follows : goal.ghosts-follows
-ghosts-follows g a = record { job = record a.job.now { paced = false } }
