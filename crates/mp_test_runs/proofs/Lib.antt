@@ -1,2 +1,1 @@
 mod GivingRows
-mod WakingRows

@@ -1,5 +1,5 @@
-use Rattle.mp_test_runs.proofs.WakingRows.{waking_gives_rows}
-use Rattle.mp_test_runs.proofs.threads.stops.Goals as goal
+use Rattle.mp_test_threads.proofs.GivingRows.{waking_gives_rows}
+use Rattle.mp_test_threads.proofs.threads.stops.Goals as goal
 
 pub open-requires-clause-run : goal.open-requires-clause-run
 open-requires-clause-run g c κs within = record { run = c.requires.job; pace = c.requires.pace; rows = waking_gives_rows g.J.Naming.job }
