@@ -23,13 +23,8 @@ use Rattle.mp_answer_laws.specs.Runs.{RunLeaves}
 use Rattle.mp_tally.specs.declared.tally.Tally.{Tally}
 use Rattle.mp_tally.specs.Tallies.{AreTalliesOf}
 use Rattle.mp_tally.proofs.Lists.{some_at}
-use Rattle.mp_worker.specs.Below.{no_steps}
-use Rattle.mp_worker.proofs.Paced.{tally_of_job}
-use Rattle.mp_plain.specs.Driven.{AllKnowTheEnd, AreAfter, Driven, lines_of}
-use Rattle.mp_plain.specs.Driving.{DriveLeaves}
-use Rattle.mp_plain.specs.Journals.{journal_at, with_more}
-use Rattle.mp_plain.proofs.Ended.{finished}
-use Rattle.mp_plain.proofs.Journaled.{at_mapped, journals_begin, steps_at}
+use Rattle.mp_schedule.specs.Below.{AllKnowTheEnd, AreAfter, DriveLeaves, Driven, at_mapped, finished, journal_at, journals_begin}
+use Rattle.mp_schedule.specs.Below.{lines_of, no_steps, steps_at, tally_of_job, with_more}
 use Rattle.mp_schedule.specs.Schedule.{AreFinished, AreScheduled, EndsAfter, FollowsSchedule, FollowsToEnd, IsKeptBySchedule}
 
 -- where nothing was written before it, a schedule leaves what a whole run leaves

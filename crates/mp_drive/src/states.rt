@@ -6,7 +6,7 @@ ghost use Rattle.mp_outline.specs.JobOutline.{outline_of};
 ghost use Rattle.mp_answer_laws.specs.Runs.{RunLeaves};
 ghost use Rattle.mp_schedule.specs.Schedule.{EndsAfter};
 ghost use Rattle.mp_tally.specs.Tallies.{AreTalliesOf};
-ghost use Rattle.mp_worker.specs.Plans.{MayRun};
+ghost use Rattle.mp_schedule.specs.Below.{MayRun};
 
 use mp_board::Cause;
 use mp_gate::Gate;

@@ -1,4 +1,5 @@
 -- What the contracts of this crate cite.
+pub mod Below
 pub mod Journals
 pub mod Driven
 pub mod Driving

@@ -12,7 +12,7 @@ use Rattle.mp_machine.specs.Runs.{Turn, is_made, run_of_machine, turn_of_machine
 use Rattle.mp_machine.specs.Worlds.{World}
 use Rattle.mp_worker_refinement.specs.SystemState.{SystemState}
 use Rattle.mp_draws.specs.Draws.{draw_of}
-use Rattle.mp_worker.proofs.Numbered.{behind, in_front}
+use Rattle.mp_plain.specs.Below.{behind, in_front}
 use Rattle.mp_plain.specs.Driven.{AreAfter}
 use Rattle.mp_schedule.specs.Schedule.{AreFinished, AreScheduled, IsTried, can_make, pick, places_from}
 use Rattle.mp_tally.proofs.Lists.{push_all}

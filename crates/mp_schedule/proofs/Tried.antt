@@ -26,8 +26,8 @@ use Rattle.mp_plain.specs.declared.places.Place.{Place}
 use Rattle.mp_plain.specs.Places.{IsPlaceIn, kind_count, place_number}
 use Rattle.mp_schedule.specs.Schedule.{AreFinished}
 use Rattle.mp_plain.proofs.Numbered.{goes_round, kind_within, place_below, stands}
-use Rattle.mp_worker.specs.Below.{Turn as Answered}
-use Rattle.mp_worker.specs.Below.turn as worker
+use Rattle.mp_plain.specs.Below.{Turn as Answered}
+use Rattle.mp_plain.specs.Below.turn as worker
 use Rattle.mp_plain.proofs.Leading.{was_not_now}
 
 -- what a worker answers of a step that was made, and of one that was not

@@ -5,7 +5,7 @@ ghost use Rattle.mp_outline.specs.JobOutline.{outline_of};
 ghost use Rattle.mp_tally.specs.Tallies.{AreTalliesOf};
 ghost use Rattle.mp_threads_crew.specs.Journals.{TellFullLogs};
 ghost use Rattle.mp_answer_laws.specs.Runs.{RunLeaves};
-ghost use Rattle.mp_worker.specs.Plans.{MayRun};
+ghost use Rattle.mp_threads_member.specs.Below.{MayRun};
 
 use crate::run_workers;
 use mp_board::Cause;

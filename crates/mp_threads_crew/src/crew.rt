@@ -2,7 +2,7 @@
 ghost use Rattle.std.specs.Prelude.{◌≡◌, ◌<◌, All, IfOk, false, length, true};
 ghost use Rattle.mp_model.specs.Tables.{table_of};
 ghost use Rattle.mp_outline.specs.JobOutline.{outline_of};
-ghost use Rattle.mp_worker.specs.Plans.{MayRun};
+ghost use Rattle.mp_threads_member.specs.Below.{MayRun};
 ghost use Rattle.mp_threads_member.specs.Members.{HasDoneNothing};
 ghost use Rattle.mp_threads_crew.specs.Crews.{AreByNumber, ArePartsOf, IsMadeOf, IsNewCrew};
 

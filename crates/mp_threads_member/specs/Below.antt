@@ -5,3 +5,4 @@ pub use Rattle.mp_worker.specs.Below.{no_steps}
 pub use Rattle.mp_worker.specs.Below.{Stop}
 pub use Rattle.mp_worker.specs.Below.stop.{Memory, Other, Write}
 pub use Rattle.mp_worker.specs.Below.stop as TheVariants
+pub use Rattle.mp_worker.specs.Plans.{MayRun}

@@ -2,7 +2,7 @@
 use Rattle.std.proofs.Common.{Ok, Err, map, refl}
 use Rattle.std.proofs.lemmas.Result.{err_from_is_err_and}
 use Rattle.mp_model.specs.Tables.{table_of}
-use Rattle.mp_worker.proofs.LastStates.{states_of_job}
+use Rattle.mp_schedule.specs.Below.{states_of_job}
 use Rattle.mp_outline.specs.JobOutline.{outline_of}
 use Rattle.mp_answer_laws.proofs.Runs.{handed_on, nothing_begun, told, untold}
 use Rattle.mp_drive.proofs.Whole.{ends_after, seed_leaves, tallies_of_job}
