@@ -28,20 +28,24 @@ pub struct FoundName<'a> {
 }
 
 /// The number that a text begins with, if it has few digits, this byte ends it and it is at most `greatest`.
+// The loop's bound is fixed, so that the compiler writes it out.
 pub fn number_before<'a>(text: &'a [u8], end: u8, greatest: u64) -> Option<FoundNumber<'a>>
     ensures { IfSome result (λ found. BeginsWithNumber text.now end greatest found.value found.rest.now) }
 {
     let mut value = 0u64;
-    for (place, byte) in text.iter().enumerate() {
-        if byte.is_ascii_digit() {
-            value = value.wrapping_mul(10).wrapping_add(u64::from(*byte - b'0'));
-            continue;
+    for place in 0..=MOST_DIGITS {
+        if place == text.len() {
+            return None;
         }
-        if *byte == end && 0 < place && place <= MOST_DIGITS && value <= greatest {
+        let byte = text[place];
+        if byte.is_ascii_digit() {
+            value = value.wrapping_mul(10).wrapping_add(u64::from(byte - b'0'));
+        } else if byte == end && 0 < place && value <= greatest {
             let rest = &text[place + 1..];
             return Some(FoundNumber { value, rest });
+        } else {
+            return None;
         }
-        return None;
     }
     None
 }
