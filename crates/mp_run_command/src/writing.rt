@@ -1,4 +1,5 @@
-//! What a run writes: the answer, and then the report, what is saved and the journal.
+//! What a run writes: the answer, and then the report, what is saved and the journal. The process ends with its command, so it leaves
+//! the memory of the job to the system: to give back one event after the other would take a tenth of a short run.
 ghost use Rattle.std.specs.Prelude.{◌≡◌, ◌≤◌, ℕ, List, [], IfOk, length};
 ghost use Rattle.mp_control.specs.Settings.{settings_in};
 ghost use Rattle.mp_model.specs.Legal.{EventsAreLegal};
@@ -37,6 +38,7 @@ use mp_q_simple::{Q1, Q2};
 use mp_q_window::{Q5, Q7};
 use mp_saved::Saved;
 use mp_words::{QueryName, RunOptions, Span};
+use std::mem;
 use std::sync::Wait;
 use std::thread::Threads;
 
@@ -139,12 +141,16 @@ fn write_saved<
         Span::Until { time, save } => {
             let (workers, bins) = (options.workers, options.bins);
             let job = job_until(rt.alloc(), given, workers, bins, parts, time)?;
-            write_stopped(rt, depot, options, &job, SavePlan { time, save }, gate)
+            let ended = write_stopped(rt, depot, options, &job, SavePlan { time, save }, gate);
+            mem::forget(job);
+            ended
         }
         Span::From(name) => {
             let (workers, bins) = (options.workers, options.bins);
             let job = job_after(rt.alloc(), given, workers, bins, parts, name)?;
-            write_rest(rt, depot, options, &job, name, gate)
+            let ended = write_rest(rt, depot, options, &job, name, gate);
+            mem::forget(job);
+            ended
         }
     }
 }
@@ -176,7 +182,9 @@ fn run_asked<'a, D: Depot, Q: Query + Send, G: Gate + Sync, R: Threads + Wait + 
         Writes D.files D.write_faults IsText asked result depot.old depot.new }
 {
     let job = job_for(rt.alloc(), given, options.workers, options.bins, parts)?;
-    write_all(rt, depot, options, &job, gate)
+    let ran = write_all(rt, depot, options, &job, gate);
+    mem::forget(job);
+    ran
 }
 
 /// Runs a job, and makes the files hold its answer, its report and its journal: what the run came to.

@@ -13,13 +13,13 @@ use Rattle.mp_run_command.specs.Wrote.{Writes}
 use Rattle.mp_run_command.proofs.Ended.{short_writes}
 use Rattle.mp_run_command.proofs.writing.run_asked.Goals as goal
 
-pub write_all-requires-clause-rows : goal.write_all-requires-clause-rows
-write_all-requires-clause-rows g c κs within =
+pub write_all-ran-requires-clause-rows : goal.write_all-ran-requires-clause-rows
+write_all-ran-requires-clause-rows g c κs within =
     let numbers = numbers_with (g.Q.Query.rules c.args.given) (g.Q.Query.values c.args.given) c.args.parts.settings.values in
     subst (λ (q : QueryFacts _). GivesRows q) (sym c.in_ok-job.ensures.table) (c.requires.rows numbers)
 
-pub write_all-requires-clause-size : goal.write_all-requires-clause-size
-write_all-requires-clause-size g c κs within = ap (λ (j : JobFacts). j.shape.workers) c.in_ok-job.ensures.job
+pub write_all-ran-requires-clause-size : goal.write_all-ran-requires-clause-size
+write_all-ran-requires-clause-size g c κs within = ap (λ (j : JobFacts). j.shape.workers) c.in_ok-job.ensures.job
 
 pub returns-in_err-job-clause-writes : goal.returns-in_err-job-clause-writes
 returns-in_err-job-clause-writes g c =
@@ -29,10 +29,10 @@ returns-in_err-job-clause-writes g c =
 pub returns-clause-tells : goal.returns-clause-tells
 returns-clause-tells g c =
     let asked = options_in c.args.options.now in
-    of_own (λ (q : QueryFacts _) (j : JobFacts). IfOk c.write_all.result (λ run. TellsRun q j asked run)) _ _ _ _ c.in_ok-job.ensures.table c.in_ok-job.ensures.job c.write_all.ensures.tells
+    of_own (λ (q : QueryFacts _) (j : JobFacts). IfOk c.write_all-ran.result (λ run. TellsRun q j asked run)) _ _ _ _ c.in_ok-job.ensures.table c.in_ok-job.ensures.job c.write_all-ran.ensures.tells
 
 pub returns-clause-writes : goal.returns-clause-writes
 returns-clause-writes g c =
     let asked = options_in c.args.options.now in
-    of_own (λ (q : QueryFacts _) (j : JobFacts). Writes g.D.Depot.files g.D.Depot.write_faults (IsTextOfJob q j (IsKeptOf q j asked)) asked c.write_all.result c.args.depot.now c.write_all.new.depot)
-    _ _ _ _ c.in_ok-job.ensures.table c.in_ok-job.ensures.job c.write_all.ensures.writes
+    of_own (λ (q : QueryFacts _) (j : JobFacts). Writes g.D.Depot.files g.D.Depot.write_faults (IsTextOfJob q j (IsKeptOf q j asked)) asked c.write_all-ran.result c.args.depot.now c.write_all-ran.new.depot)
+    _ _ _ _ c.in_ok-job.ensures.table c.in_ok-job.ensures.job c.write_all-ran.ensures.writes

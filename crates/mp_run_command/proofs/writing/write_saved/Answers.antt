@@ -40,8 +40,8 @@ pub returns-in_ok-job-in-Until : goal.returns-in_ok-job-in-Until
 returns-in_ok-job-in-Until g c =
     let asked = options_in c.args.options.now in
     let job = job_by g.Q.Query.facts (g.Q.Query.rules c.args.given) (g.Q.Query.values c.args.given) asked c.args.parts.events.items (settings_in c.args.parts.settings) in
-    stop_ends g.D.Depot.files g.D.Depot.write_faults g.Q.Saved.NUMBER g.Q.Query.text_of g.Q.Query.facts job.values c.args.parts.checkpoint.items job asked _ _ c.write_stopped.result _ _ (ap span_in c.in-Until.is) refl
-    c.in_ok-job-in-Until.job c.in_ok-job-in-Until.ensures c.write_stopped.ensures
+    stop_ends g.D.Depot.files g.D.Depot.write_faults g.Q.Saved.NUMBER g.Q.Query.text_of g.Q.Query.facts job.values c.args.parts.checkpoint.items job asked _ _ c.write_stopped-ended.result _ _ (ap span_in c.in-Until.is) refl
+    c.in_ok-job-in-Until.job c.in_ok-job-in-Until.ensures c.write_stopped-ended.ensures
 
 pub returns-in_err-job-in-From : goal.returns-in_err-job-in-From
 returns-in_err-job-in-From g c =
@@ -55,5 +55,5 @@ returns-in_ok-job-in-From g c =
     let asked = options_in c.args.options.now in
     let job = job_by g.Q.Query.facts (g.Q.Query.rules c.args.given) (g.Q.Query.values c.args.given) asked c.args.parts.events.items (settings_in c.args.parts.settings) in
     let made = c.in_ok-job-in-From.ensures.job in
-    rest_ends g.D.Depot.files g.D.Depot.write_faults g.Q.Saved.NUMBER g.Q.Query.text_of g.Q.Query.facts job.values c.args.parts.checkpoint.items job asked _ _ c.write_rest.result _ (ap span_in c.in-From.is) made.0 made.1
-    c.in_ok-job-in-From.job made.2 c.write_rest.ensures
+    rest_ends g.D.Depot.files g.D.Depot.write_faults g.Q.Saved.NUMBER g.Q.Query.text_of g.Q.Query.facts job.values c.args.parts.checkpoint.items job asked _ _ c.write_rest-ended.result _ (ap span_in c.in-From.is) made.0 made.1
+    c.in_ok-job-in-From.job made.2 c.write_rest-ended.ensures
