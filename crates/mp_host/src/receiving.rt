@@ -1,5 +1,5 @@
 //! How a host receives bundles of records.
-ghost use Rattle.std.specs.Prelude.{◌≡◌, ◌≤◌, ◌<◌, ◌+◌, All, IfErr, IsOk, OnErr, OnOk, length, reverse, slice_index_or, take};
+ghost use Rattle.std.specs.Prelude.{◌≡◌, ◌≤◌, ◌<◌, ◌+◌, [], All, IfErr, IfOk, IsOk, OnErr, OnOk, length, reverse, slice_index_or, take};
 ghost use Rattle.std.specs.List.{list_any};
 ghost use Rattle.mp_names.specs.Logs.{Log, LogIsLegal};
 ghost use Rattle.mp_model.specs.declared.record.Rec.{Rec};
@@ -19,12 +19,13 @@ use std::alloc::AllocError;
 
 impl<'a, Q: Query, J: Naming> Host<'a, Q, J> {
     /// Keeps the records of a bundle of the stage until their groups are applied. Each is moved to its place; those of the
-    /// first group come to stand in one slice. `AllocError`: no memory, never where there is room; the bundle is handed
-    /// back, and nothing is held that wasn't.
-    pub fn receive(&mut self, bundle: Bundle) -> Result<(), (Bundle, AllocError)>
+    /// first group come to stand in one slice. The list in which they came is handed back empty. `AllocError`: no memory, never where
+    /// there is room; the bundle is handed back, and nothing is held that wasn't.
+    pub fn receive(&mut self, bundle: Bundle) -> Result<Vec<Rec>, (Bundle, AllocError)>
         requires stage { bundle.stage ≡ self.old.stage }
         requires content { All (IsRecordOf (table_of Q.facts J.job) J.job self.old.stage) bundle.recs }
         ensures held { OnOk result (TakesRecords (table_of Q.facts J.job) J.job bundle.recs self.old self.new) }
+        ensures emptied { IfOk result (λ list. list.items ≡ []) }
         ensures room { OnOk result (self.old.room ≤ self.new.room + length bundle.recs) }
         ensures for_bins { self.new.room_for_bins ≡ self.old.room_for_bins }
         ensures stage { self.new.stage ≡ self.old.stage }
@@ -40,7 +41,7 @@ impl<'a, Q: Query, J: Naming> Host<'a, Q, J> {
         let mut recs = bundle.into_recs();
         recs.reverse();
         self.keep_all(&mut recs, count);
-        Ok(())
+        Ok(recs)
     }
 
     // Keeps so many records, the last one first.
@@ -49,6 +50,7 @@ impl<'a, Q: Query, J: Naming> Host<'a, Q, J> {
         requires content { All (IsRecordOf (table_of Q.facts J.job) J.job self.old.stage) (reverse recs.old.items) }
         requires room { count ≤ self.old.room }
         ensures held { TakesRecords (table_of Q.facts J.job) J.job (reverse recs.old.items) self.old self.new }
+        ensures emptied { recs.new.items ≡ [] }
         ensures room { self.old.room ≤ self.new.room + count }
         ensures for_bins { self.new.room_for_bins ≡ self.old.room_for_bins }
         ensures stage { self.new.stage ≡ self.old.stage }

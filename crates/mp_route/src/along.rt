@@ -125,22 +125,24 @@ fn count_in(block: &VecDeque<Rec>, owners: &Owners, along: Along, before: usize)
     }
 }
 
-/// Takes out the first records of the time that go to the owner, as many as travel in one message. The first of all does. The
-/// others stay, and those that are gone leave their room. `AllocError`: no memory, and nothing changes.
+/// Takes out the first records of the time that go to the owner, as many as travel in one message, into a list that is empty. The
+/// first of all does. The others stay, and those that are gone leave their room. `AllocError`: no memory, and nothing changes.
 pub fn take_along(
     held: &mut OrderedBlocks<Rec, ByTag>,
     alloc: Global,
+    mut gone: Vec<Rec>,
     owners: &Owners,
     along: Along,
 ) -> Result<Vec<Rec>, AllocError>
     requires first { FirstGoes owners.now along held.old.items }
     requires stage { along.stage < owners.now.layout.shape.stages }
     requires bins { IsBinCount along.bins × (along.bins ≡ owners.now.layout.shape.bins) }
+    requires none { gone.items ≡ [] }
     ensures taken { IfOk result (λ v. TakesAlong owners.now along 64 held.old v.items held.new) }
     ensures unchanged { OnErr result (held.new ≡ held.old) }
 {
     let count = count_along(held, owners, along);
-    let mut gone = Vec::with_capacity(alloc, count.chosen)?;
+    gone.reserve(count.chosen)?;
     if count.chosen == count.looked {
         take_all(held, count.looked, &mut gone);
         return Ok(gone);

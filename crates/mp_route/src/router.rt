@@ -22,6 +22,7 @@ use mp_ordered::OrderedBlocks;
 use mp_stamps::{Seen, passed};
 use std::alloc::{AllocError, Global};
 use std::marker::{Model, PhantomData};
+use std::mem;
 
 /// The records of a stage of the job J that a worker has and hasn't sent. As in Megaphone, a record is held until the
 /// frontier of control records has passed its time: from then on it is known who owns its key. Contracts see a
@@ -29,6 +30,8 @@ use std::marker::{Model, PhantomData};
 pub struct Router<Q: Query, J: Naming> {
     stage: u32,
     held: OrderedBlocks<Rec, ByTag>,
+    // For the records of the next bundle, so that one list serves many.
+    spare: Vec<Rec>,
     of: PhantomData<(Q, J)>,
 }
 
@@ -38,6 +41,7 @@ impl<Q: Query, J: Naming> Drop for Router<Q, J> {
         let Router {
             stage: _,
             held: _,
+            spare: _,
             of: _,
         } = self;
     }
@@ -68,6 +72,7 @@ impl<Q: Query, J: Naming> Router<Q, J> {
         Router {
             stage,
             held: OrderedBlocks::new(alloc),
+            spare: Vec::new(alloc),
             of: PhantomData,
         }
     }
@@ -165,8 +170,16 @@ impl<Q: Query, J: Naming> Router<Q, J> {
             unreachable!()
         };
         let along = along_with(first, self.stage, owners, bins);
-        let recs = take_along(&mut self.held, alloc, owners, along)?;
+        let list = taken_empty(&mut self.spare, alloc);
+        let recs = take_along(&mut self.held, alloc, list, owners, along)?;
         Ok(Some(Bundle::new(self.stage, recs)))
+    }
+
+    /// Keeps a list whose records nobody needs any longer for those of the next bundle. Takes no memory.
+    pub fn keep_list(&mut self, list: Vec<Rec>)
+        ensures { self.new ≡ self.old }
+    {
+        self.spare = list;
     }
 
     /// Takes back a bundle that this router gave up, for which it has room. Takes no memory.
@@ -186,4 +199,13 @@ impl<Q: Query, J: Naming> Router<Q, J> {
             };
         }
     }
+}
+
+// A list out of its place, without the records that it has.
+fn taken_empty(spare: &mut Vec<Rec>, alloc: Global) -> Vec<Rec>
+    ensures { result.items ≡ [] }
+{
+    let mut list = mem::replace(spare, Vec::new(alloc));
+    list.clear();
+    list
 }

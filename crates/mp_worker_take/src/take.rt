@@ -65,7 +65,7 @@ fn take_control<'a, Q: Query, J: Naming>(parts: &mut Parts<'a, Q, J>, index: u32
     };
 }
 
-// Records go to the host of their stage.
+// Records go to the host of their stage, and the list in which they came to the router of that stage.
 fn take_records<'a, Q: Query, J: Naming>(parts: &mut Parts<'a, Q, J>, bundle: Bundle)
     requires bundle { IsBundle (table_of Q.facts J.job) J.job bundle }
     requires new { AreOwedAndNew (outline_of (table_of Q.facts J.job) J.job) parts.old.worker.number parts.old.worker.log (names_in bundle) }
@@ -89,9 +89,10 @@ fn take_records<'a, Q: Query, J: Naming>(parts: &mut Parts<'a, Q, J>, bundle: Bu
     else {
         unreachable!()
     };
-    let Ok(()) = host.receive(bundle) else {
+    let Ok(list) = host.receive(bundle) else {
         unreachable!()
     };
+    parts.routers[stage as usize].keep_list(list);
 }
 
 // The state of a bin is in hand from now on.

@@ -2,6 +2,7 @@ use Rattle.std.proofs.Common.{◌≡◌, ◌==◌, ◌≤◌, ◌∙◌, arith, 
 use Rattle.std.proofs.lemmas.Bool.{cond-false, cond-true, eq-eqb, eqb-true, false_from_ne_true}
 use Rattle.mp_names.specs.Limits.{most_in_bundle}
 use Rattle.mp_host_laws.specs.Hosted.{Hosted}
+use Rattle.mp_worker_invariant.proofs.Items.{again_there}
 use Rattle.mp_worker_invariant.proofs.Standing.{host_at}
 use Rattle.mp_worker_take.proofs.Received.{few_records, records_changes, records_held, records_taken_here, stage_below}
 use Rattle.mp_worker_parts.proofs.Keeping.{kept_as, not_refused}
@@ -50,11 +51,16 @@ invariant_of-parts g c =
     let at = host_at kept.parts b.stage (stage_below _ _ b c.requires.bundle) c.index_mut-host.result.now (rw c.stage-stage.ensures at c.index_mut-host.ensures.value) in
     let new = rw (← c.parts.view_is) at c.requires.new in
     let held = records_held _ _ b c.requires.bundle _ _ new kept.parts.legal _ at c.receive.new.self c.receive.ensures.stage c.receive.ensures.worker c.in-Ok-receive.ensures.held in
-    rw (c.in-Ok.ensures.pushed, c.recs-recs.ensures, c.stage-stage.ensures) (kept_as kept (records_taken_here kept.sound kept.parts b c.requires.bundle new c.receive.new.self held))
+    let same = again_there c.parts.inside.routers.items b.stage c.index_mut.result.now c.keep_list.new.self (rw c.stage-stage.ensures at c.index_mut.ensures.value) c.keep_list.ensures in
+    rw (c.in-Ok.ensures.pushed, c.recs-recs.ensures, c.stage-stage.ensures, same) (kept_as kept (records_taken_here kept.sound kept.parts b c.requires.bundle new c.receive.new.self held))
 
 pub index_mut-host-requires : goal.index_mut-host-requires
 index_mut-host-requires g c =
     omega (arith, stage_below _ _ c.args.bundle c.requires.bundle, c.stage-stage.ensures, c.parts.invariant.parts.all_hosts, c.parts.inside.hosts.ok.0)
+
+pub index_mut-requires : goal.index_mut-requires
+index_mut-requires g c =
+    omega (arith, stage_below _ _ c.args.bundle c.requires.bundle, c.stage-stage.ensures, c.parts.invariant.parts.all_routers, c.parts.inside.routers.ok.0)
 
 pub returns : goal.returns
 returns g c = rw (← c.parts.view_is, c.in-Ok.ensures.pushed, c.recs-recs.ensures, c.stage-stage.ensures) refl

@@ -1,5 +1,5 @@
 use Rattle.std.proofs.Common.{◌≡◌, ◌<◌, ◌∙◌, ℕ, false, List, ap, arith, length, map, reverse, subst, sym, take}
-use Rattle.std.proofs.lemmas.List.{length-reverse, take_all}
+use Rattle.std.proofs.lemmas.List.{drop_all, length-reverse, take_all}
 use Rattle.mp_names.specs.Logs.{Log, LogIsLegal, with_took}
 use Rattle.mp_names.specs.Names.{has}
 use Rattle.mp_model.specs.declared.record.Rec.{Rec}
@@ -61,3 +61,8 @@ returns-clause-held g c = λ log host good come.
     let rs = reverse c.args.recs.now.items in
     let all = take_all c.loop-kept._kept rs (omega (arith, c.loop-kept-test.false, c.requires.count, length-reverse c.args.recs.now.items)) in
     subst (λ (ys : List Rec). IsHostOf q job (with_all_taken log (map (name_of_record j) ys)) c.loop-kept.self) all (c.loop-kept.invariant.held log host good come).0
+
+pub returns-clause-emptied : goal.returns-clause-emptied
+returns-clause-emptied g c =
+    let rs = reverse c.args.recs.now.items in
+    c.loop-kept.invariant.left ∙ ap reverse (drop_all c.loop-kept._kept rs (omega (arith, c.loop-kept-test.false, c.requires.count, length-reverse c.args.recs.now.items)))
