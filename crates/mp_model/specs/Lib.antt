@@ -12,4 +12,5 @@ pub mod QueryLaws
 pub mod Rules
 pub mod Stages
 pub mod Tables
+pub mod Texts
 pub mod TableLaws
