@@ -142,7 +142,7 @@ pub fn take_along(
     ensures unchanged { OnErr result (held.new ≡ held.old) }
 {
     let count = count_along(held, owners, along);
-    gone.reserve(count.chosen)?;
+    gone.reserve_exact(count.chosen)?;
     if count.chosen == count.looked {
         take_all(held, count.looked, &mut gone);
         return Ok(gone);

@@ -22,7 +22,9 @@ use mp_ordered::OrderedBlocks;
 use mp_stamps::{Seen, passed};
 use std::alloc::{AllocError, Global};
 use std::marker::{Model, PhantomData};
-use std::mem;
+
+// As many bundles as a round of a worker makes.
+const MOST_SPARE: usize = 64;
 
 /// The records of a stage of the job J that a worker has and hasn't sent. As in Megaphone, a record is held until the
 /// frontier of control records has passed its time: from then on it is known who owns its key. Contracts see a
@@ -30,8 +32,8 @@ use std::mem;
 pub struct Router<Q: Query, J: Naming> {
     stage: u32,
     held: OrderedBlocks<Rec, ByTag>,
-    // For the records of the next bundle, so that one list serves many.
-    spare: Vec<Rec>,
+    // Lists for the records of the next bundles: a round makes many before it takes one in.
+    spare: Vec<Vec<Rec>>,
     of: PhantomData<(Q, J)>,
 }
 
@@ -170,16 +172,18 @@ impl<Q: Query, J: Naming> Router<Q, J> {
             unreachable!()
         };
         let along = along_with(first, self.stage, owners, bins);
-        let list = taken_empty(&mut self.spare, alloc);
+        let list = empty_list(&mut self.spare, alloc);
         let recs = take_along(&mut self.held, alloc, list, owners, along)?;
         Ok(Some(Bundle::new(self.stage, recs)))
     }
 
-    /// Keeps a list whose records nobody needs any longer for those of the next bundle. Takes no memory.
+    /// Keeps a list whose records nobody needs any longer for those of a later bundle, where there is room among 64 of them.
     pub fn keep_list(&mut self, list: Vec<Rec>)
         ensures { self.new ≡ self.old }
     {
-        self.spare = list;
+        if self.spare.len() < MOST_SPARE {
+            let _ = self.spare.push(list);
+        }
     }
 
     /// Takes back a bundle that this router gave up, for which it has room. Takes no memory.
@@ -201,11 +205,15 @@ impl<Q: Query, J: Naming> Router<Q, J> {
     }
 }
 
-// A list out of its place, without the records that it has.
-fn taken_empty(spare: &mut Vec<Rec>, alloc: Global) -> Vec<Rec>
+// A list without records: one that is kept, if there is one.
+fn empty_list(spare: &mut Vec<Vec<Rec>>, alloc: Global) -> Vec<Rec>
     ensures { result.items ≡ [] }
 {
-    let mut list = mem::replace(spare, Vec::new(alloc));
-    list.clear();
-    list
+    match spare.pop() {
+        Some(mut list) => {
+            list.clear();
+            list
+        }
+        None => Vec::new(alloc),
+    }
 }
