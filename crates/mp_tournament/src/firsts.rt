@@ -1,5 +1,5 @@
 //! A tournament among wakes: the first of them is one look, and a change goes up from its place to the top.
-ghost use Rattle.std.specs.Prelude.{◌≡◌, ◌<◌, ◌^◌, IfOk, drop, length, replicate, slice_set};
+ghost use Rattle.std.specs.Prelude.{◌≡◌, ◌<◌, ◌^◌, IfOk, Some, drop, length, replicate, slice_set};
 ghost use Rattle.mp_tournament.specs.Firsts.{IsTournamentBut, earlier_of, first_among};
 
 use mp_model::Time;
@@ -90,11 +90,17 @@ fn renew(tree: &mut [Option<(Time, u64)>], count: usize, from: usize)
 pub fn earlier_of(one: Option<(Time, u64)>, other: Option<(Time, u64)>) -> Option<(Time, u64)>
     ensures { result ≡ earlier_of one other }
 {
-    let Some(first) = one else {
-        return other;
-    };
-    match other {
-        Some(second) if second.0 < first.0 || second.0 == first.0 && second.1 < first.1 => other,
-        _ => one,
+    match (one, other) {
+        (Some(first), Some(second)) => Some(earlier(first, second)),
+        (None, _) => other,
+        (Some(_), None) => one,
     }
+}
+
+// Of two groups the first by time and then by key. Without a branch, which would be taken in no order.
+fn earlier(one: (Time, u64), other: (Time, u64)) -> (Time, u64)
+    ensures { Some result ≡ earlier_of (Some one) (Some other) }
+{
+    let is_other = (other.0 < one.0) | ((other.0 == one.0) & (other.1 < one.1));
+    if is_other { other } else { one }
 }
