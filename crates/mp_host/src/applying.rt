@@ -1,5 +1,5 @@
 //! The application of the group that is ready.
-ghost use Rattle.std.specs.Prelude.{◌≡◌, ℕ, Some, true, filter, not, IfNone, IfOk, IsSome, OnErr, OnOk};
+ghost use Rattle.std.specs.Prelude.{◌≡◌, ℕ, [], Some, true, filter, not, IfNone, IfOk, IsSome, OnErr, OnOk};
 ghost use Rattle.mp_names.specs.Logs.{Log};
 ghost use Rattle.mp_names.specs.Outlines.{IsBeforeStop};
 ghost use Rattle.mp_stamps.specs.declared.seen.Seen.{Seen as SeenFacts};
@@ -20,11 +20,12 @@ ghost use Rattle.mp_host.specs.Telling.{AppliesGroup, IfDid};
 use crate::groups::first_records;
 use crate::{Applied, Host, ReadyGroup};
 use mp_bins::Owners;
-use mp_host_states::{posts_of, step_group};
+use mp_host_states::{add_posts, step_group};
 use mp_job::put_in_order;
 use mp_model::{Group, Naming, Query, Time, Value};
 use mp_stamps::Seen;
 use std::alloc::{AllocError, Global};
+use std::mem;
 
 impl<'a, Q: Query, J: Naming> Host<'a, Q, J> {
     /// Applies the group that may be applied, which is before the job's stop time (`ready`); `None` exactly where there is
@@ -114,9 +115,11 @@ impl<'a, Q: Query, J: Naming> Host<'a, Q, J> {
         ensures woke { IfOk result (λ a. a.woke.items ≡ woken_by (table_of Q.facts J.job) self.old time key) }
         ensures unchanged { OnErr result (self.new ≡ self.old) }
     {
-        let posts = self.posts(alloc, time, key)?;
+        let mut posts = taken_empty(&mut self.posts, alloc);
+        self.add_posts(time, key, &mut posts)?;
         let woke = self.not_waiting(alloc, key, posts.as_slice())?;
         let outputs = self.step(alloc, time, key, posts.as_slice())?;
+        self.posts = posts;
         Ok(Applied {
             time,
             key,
@@ -125,22 +128,24 @@ impl<'a, Q: Query, J: Naming> Host<'a, Q, J> {
         })
     }
 
-    // The times that the records of the first group post.
-    fn posts(&self, alloc: Global, time: Time, key: u64) -> Result<Vec<Time>, AllocError>
-        requires { first_group self.now ≡ Some (time, key) }
-        ensures { IfOk result (λ v. v.items ≡ posts_here (table_of Q.facts J.job) self.now time key) }
+    // Adds the times that the records of the first group post to a list without any.
+    fn add_posts(&self, time: Time, key: u64, posts: &mut Vec<Time>) -> Result<(), AllocError>
+        requires first { first_group self.now ≡ Some (time, key) }
+        requires none { posts.old.items ≡ [] }
+        ensures { OnOk result (posts.new.items ≡ posts_here (table_of Q.facts J.job) self.now time key) }
     {
         let recs = first_records(&self.records, time, key);
-        posts_of(alloc, self.job.query(), self.stage, recs)
+        add_posts(self.job.query(), self.stage, recs, posts)
     }
 
     // Those of the times at which a key doesn't wait, ascending and each once.
     fn not_waiting(&self, alloc: Global, key: u64, times: &[Time]) -> Result<Vec<Time>, AllocError>
         ensures { IfOk result (λ v. v.items ≡ ascending (filter (λ u. not (waits_at self.now u key)) times.now)) }
     {
-        let mut list = Vec::with_capacity(alloc, times.len())?;
+        let mut list = Vec::new(alloc);
         for time in times {
             if !self.waits_at_post(*time, key) {
+                list.reserve_exact(times.len() - list.len())?;
                 list.push_reserved(*time);
             }
         }
@@ -177,4 +182,13 @@ impl<'a, Q: Query, J: Naming> Host<'a, Q, J> {
         self.records.drop_first(count);
         Ok(outputs)
     }
+}
+
+// A list out of its place, without the times that it has.
+fn taken_empty(list: &mut Vec<Time>, alloc: Global) -> Vec<Time>
+    ensures { result.items ≡ [] }
+{
+    let mut taken = mem::replace(list, Vec::new(alloc));
+    taken.clear();
+    taken
 }

@@ -16,7 +16,7 @@ use crate::order::ByGroup;
 use mp_host_laws::Held;
 use mp_host_states::{InHand, opening_state};
 use mp_job::Job;
-use mp_model::{Naming, Query, Rec};
+use mp_model::{Naming, Query, Rec, Time};
 use mp_ordered_runs::OrderedRuns;
 use std::alloc::{AllocError, Global};
 use std::marker::{Model, PhantomData};
@@ -29,6 +29,8 @@ pub struct Host<'a, Q: Query, J: Naming> {
     // Those whose group isn't applied.
     pub(crate) records: OrderedRuns<Rec, ByGroup>,
     pub(crate) states: InHand<Q::Cell>,
+    // For the times that the records of a group post: one list serves each group.
+    pub(crate) posts: Vec<Time>,
     pub(crate) of: PhantomData<J>,
     ghost each_bin: { states.bins ≡ job.now.shape.bins },
 }
@@ -42,6 +44,7 @@ impl<'a, Q: Query, J: Naming> Drop for Host<'a, Q, J> {
             worker: _,
             records: _,
             states: _,
+            posts: _,
             of: _,
         } = self;
     }
@@ -85,6 +88,7 @@ impl<'a, Q: Query, J: Naming> Host<'a, Q, J> {
             worker,
             records: OrderedRuns::new(alloc),
             states,
+            posts: Vec::new(alloc),
             of: PhantomData,
         })
     }
@@ -134,6 +138,7 @@ impl<'a, Q: Query, J: Naming> Host<'a, Q, J> {
             worker: _,
             records: _,
             states,
+            posts: _,
             of: _,
         } = self;
         states.into_states()

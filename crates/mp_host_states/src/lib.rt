@@ -18,4 +18,4 @@ pub use mp_host_steps::{Seen, all_has_come};
 pub use mp_model::{Group, Query, Rec, Time, Value};
 pub use numbers::add_one;
 pub use opening::opening_state;
-pub use posts::{count_posts, posts_of};
+pub use posts::{add_posts, count_posts};

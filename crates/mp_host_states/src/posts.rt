@@ -1,26 +1,25 @@
 //! The times at which the records of a group wake their key.
-ghost use Rattle.std.specs.Prelude.{◌≡◌, ◌≤◌, ◌-◌, ◌^◌, All, IfOk, length, min};
+ghost use Rattle.std.specs.Prelude.{◌≡◌, ◌≤◌, ◌-◌, ◌^◌, ◌++◌, All, OnOk, length, min};
 ghost use Rattle.std.specs.List.{flat_map};
 ghost use Rattle.mp_names.specs.Limits.{last_time};
 
 use mp_model::{Query, Rec, Time};
-use std::alloc::{AllocError, Global};
+use std::alloc::AllocError;
 
-/// The times that records post, one record after the other. `AllocError`: no memory.
-pub fn posts_of<Q: Query>(
-    alloc: Global,
+/// Adds the times that records post, one record after the other. `AllocError`: no memory.
+pub fn add_posts<Q: Query>(
     query: &Q,
     stage: u32,
     recs: &[Rec],
-) -> Result<Vec<Time>, AllocError>
+    times: &mut Vec<Time>,
+) -> Result<(), AllocError>
     requires { All (λ r. r.time ≤ last_time) recs.now }
-    ensures { IfOk result (λ v. v.items ≡ flat_map ((Q.facts (Q.values query.now)).posts stage) recs.now) }
+    ensures { OnOk result (times.new.items ≡ times.old.items ++ flat_map ((Q.facts (Q.values query.now)).posts stage) recs.now) }
 {
-    let mut times = Vec::new(alloc);
     for rec in recs {
         times.extend_from_slice(query.posts(stage, rec).as_slice())?;
     }
-    Ok(times)
+    Ok(())
 }
 
 /// How many times records post, each time of each of them counted; 2^64 - 1 where there are more.
