@@ -203,6 +203,9 @@ fn rows_of<R: RowOf>(rule: &R, alloc: Global, recs: &[Rec]) -> Result<Vec<Value>
     let mut rows = Vec::new(alloc);
     for rec in recs {
         if let Some(row) = rule.row_of(alloc, &rec.value)? {
+            if rows.is_empty() {
+                rows.reserve_exact(recs.len())?;
+            }
             rows.push(row)?;
         }
     }

@@ -7,6 +7,7 @@
 mod best;
 mod counts;
 mod laws;
+mod outputs;
 mod q5;
 mod q7;
 mod recent;

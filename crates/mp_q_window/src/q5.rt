@@ -4,6 +4,7 @@ ghost use Rattle.mp_names.specs.Limits.{last_time};
 ghost use Rattle.mp_model.specs.Rules.{given_values};
 ghost use Rattle.mp_q_window.specs.Q5.{key_of, posts_of, q5_rules};
 
+use crate::outputs::list_of;
 use crate::{Recent, counts, windows};
 use mp_model::{Group, PostList, Query, Rec, Rule, RuleList, Time, Value};
 use mp_saved::{Saved, ValueList};
@@ -116,7 +117,7 @@ impl Query for Q5 {
         if stage == 0 {
             let length = self.slide * self.slides;
             let kept = self.slide * (self.slides - 1);
-            let outputs = cell.count(length, group).into_iter().collect(alloc)?;
+            let outputs = list_of(alloc, cell.count(length, group))?;
             cell.apply(kept, group)?;
             Ok(outputs)
         } else {

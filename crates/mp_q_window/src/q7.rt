@@ -4,6 +4,7 @@ ghost use Rattle.mp_names.specs.Limits.{last_time};
 ghost use Rattle.mp_model.specs.Rules.{given_values};
 ghost use Rattle.mp_q_window.specs.Q7.{key_of, posts_of, q7_rules};
 
+use crate::outputs::list_of;
 use crate::{Best, windows};
 use mp_model::{Group, PostList, Query, Rec, Rule, RuleList, Time, Value};
 use mp_saved::{Saved, ValueList};
@@ -90,7 +91,7 @@ impl Query for Q7 {
         cell: &mut Best,
         group: &Group,
     ) -> Result<Vec<Value>, AllocError> {
-        let outputs = cell.row(alloc, group)?.into_iter().collect(alloc)?;
+        let outputs = list_of(alloc, cell.row(alloc, group)?)?;
         cell.apply(group);
         Ok(outputs)
     }
