@@ -3,9 +3,11 @@ use Rattle.std.proofs.Common.{◌≡◌, ℕ, zero, suc, ◌+◌, ◌<◌, List,
 use Rattle.std.proofs.lemmas.List.{length-replicate}
 use Rattle.std.proofs.lemmas.Option.{same_Some, none-some, slice_get_within}
 use Rattle.mp_mailbox.specs.Names.{names_of}
+use Rattle.mp_mailbox.proofs.NameLists.{Distinct-nil}
 use Rattle.mp_ruled.specs.Ends.{EndState, IsNewEnd}
+use Rattle.mp_ruled.specs.Own.{OwnState}
 use Rattle.mp_ruled.specs.Posts.{PostState, AreNewPosts, AreLinked, StandForNone}
-use Rattle.mp_ruled.specs.Dealing.{AreEnds, DealsRow, AreDealt, FitWorkers, HaveEnds}
+use Rattle.mp_ruled.specs.Dealing.{AreEnds, DealsRow, AreDealt, FitWorkers, HasItsEnds, HaveEnds}
 use Rattle.mp_ruled.proofs.Places.{there_is, set_here, set_else, push_cases, push_old, push_new}
 
 of_empty : {A : Type 0} (n k : ℕ) (a : List A) → slice_get (replicate n []) k ≡ Some a → length a ≡ 0
@@ -103,33 +105,36 @@ module _ {M : Type 0} where
     pops = λ from receiver is. let e = back workers depth rows columns h from k column receiver at' is in (e.from_is, e.to_is);
   }
 
-  pub new_posts : (workers depth : ℕ) (rows columns : List (List (EndState M))) (posts : List (PostState M)) → AreDealt workers depth rows columns → length rows ≡ workers → HaveEnds rows columns posts → AreNewPosts workers depth posts
+  pub new_posts : (workers depth : ℕ) (rows columns : List (List (EndState M))) (posts : List (PostState M)) → AreDealt workers depth rows columns → length rows ≡ workers → HaveEnds depth rows columns posts → AreNewPosts workers depth posts
   new_posts workers depth rows columns posts h all have k p at = let e = have k p at in record {
-    worker_is = e.0;
-    to_all = h.wide k p.senders e.1;
-    from_all = h.high k p.receivers e.2 ∙ all;
-    pushes = λ to sender is. (h.joint k to p.senders sender e.1 is).4.sender_is;
-    pops = λ from receiver is. back workers depth rows columns h from k p.receivers receiver e.2 is;
+    worker_is = e.worker_is;
+    to_all = h.wide k p.senders e.row;
+    from_all = h.high k p.receivers e.column ∙ all;
+    pushes = λ to sender is. (h.joint k to p.senders sender e.row is).4.sender_is;
+    pops = λ from receiver is. back workers depth rows columns h from k p.receivers receiver e.column is;
+    own_is = e.own_is;
   }
 
-  pub linked : (workers depth : ℕ) (rows columns : List (List (EndState M))) (posts : List (PostState M)) → AreDealt workers depth rows columns → HaveEnds rows columns posts → AreLinked posts
+  pub linked : (workers depth : ℕ) (rows columns : List (List (EndState M))) (posts : List (PostState M)) → AreDealt workers depth rows columns → HaveEnds depth rows columns posts → AreLinked posts
   linked workers depth rows columns posts h have from to p q sender receiver at at' is is' =
-      let j = h.joint from to p.senders sender (have from p at).1 is in
-      let same_column = same_Some j.0 q.receivers (sym j.2 ∙ (have to q at').2) in
+      let j = h.joint from to p.senders sender (have from p at).row is in
+      let same_column = same_Some j.0 q.receivers (sym j.2 ∙ (have to q at').column) in
       let same_end = same_Some j.1 receiver (sym j.3 ∙ (ap (λ l. slice_get l from) same_column ∙ is')) in
       j.4.one_queue ∙ ap (λ (e : EndState M). e.queue) same_end
 
   pub stand_for_none : {N : Type 0} (names : M → List N) (workers depth : ℕ) (posts : List (PostState M)) → AreNewPosts workers depth posts → StandForNone names posts
-  stand_for_none names workers depth posts new k p at from to = (
-    (λ sender _ is. sym (ap (names_of names) ((new k p at).pushes to sender is).sent_is)),
-    λ receiver _ is. sym (ap (names_of names) ((new k p at).pops from receiver is).got_is),
-  )
+  stand_for_none names workers depth posts new k p at from to =
+      let is_new = new k p at in record {
+        sent = λ sender _ _ is. sym (ap (names_of names) (is_new.pushes to sender is).sent_is);
+        got = λ receiver _ _ is. sym (ap (names_of names) (is_new.pops from receiver is).got_is);
+        own = λ _ _. record { whole = sym (ap (λ (o : OwnState M). names_of names o.waiting) is_new.own_is); once = Distinct-nil };
+      }
 
-  pub one_more_post : (rows columns : List (List (EndState M))) (posts : List (PostState M)) (p : PostState M) (k : ℕ) → HaveEnds rows columns posts → length posts ≡ k → p.worker ≡ k → slice_get rows k ≡ Some p.senders → slice_get columns k ≡ Some p.receivers
-      → HaveEnds rows columns (posts ++ p ∷ [])
-  one_more_post rows columns posts p k have place worker row column j q at = ⊎_elim
+  pub one_more_post : (depth : ℕ) (rows columns : List (List (EndState M))) (posts : List (PostState M)) (p : PostState M) (k : ℕ) → HaveEnds depth rows columns posts → length posts ≡ k → HasItsEnds depth rows columns k p
+      → HaveEnds depth rows columns (posts ++ p ∷ [])
+  one_more_post depth rows columns posts p k have place its j q at = ⊎_elim
       (λ (before : slice_get posts j ≡ Some q). have j q before)
       (λ (now : (j ≡ length posts) × (p ≡ q)).
       let is : j ≡ k = now.0 ∙ place in
-      subst (λ (y : ℕ × PostState M). (y.1.worker ≡ y.0) × (slice_get rows y.0 ≡ Some y.1.senders) × (slice_get columns y.0 ≡ Some y.1.receivers)) (λ i. (sym is i, now.1 i)) (worker, row, column))
+      subst (λ (y : ℕ × PostState M). HasItsEnds depth rows columns y.0 y.1) (λ i. (sym is i, now.1 i)) its)
       (push_cases posts p q j at)

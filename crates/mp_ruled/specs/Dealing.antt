@@ -34,6 +34,13 @@ module _ {M : Type 0} where
   abbrev pub FitWorkers : List (List (EndState M)) → List (List (EndState M)) → Type 0
   FitWorkers rows columns = (k : ℕ) (row column : List (EndState M)) → slice_get rows k ≡ Some row → slice_get columns k ≡ Some column → HasEnds k row column
 
-  -- each post has its worker's row and column
-  abbrev pub HaveEnds : List (List (EndState M)) → List (List (EndState M)) → List (PostState M) → Type 0
-  HaveEnds rows columns posts = (k : ℕ) (p : PostState M) → slice_get posts k ≡ Some p → (p.worker ≡ k) × (slice_get rows k ≡ Some p.senders) × (slice_get columns k ≡ Some p.receivers)
+  -- the post of a worker has the worker's row and column, and no messages to itself, of which so many may wait
+  pub record HasItsEnds (depth : ℕ) (rows columns : List (List (EndState M))) (k : ℕ) (p : PostState M) : Type 0 where
+    pub worker_is : p.worker ≡ k
+    pub row : slice_get rows k ≡ Some p.senders
+    pub column : slice_get columns k ≡ Some p.receivers
+    pub own_is : p.own ≡ record { depth = depth; waiting = [] }
+
+  -- each post has those of the worker at its place
+  abbrev pub HaveEnds : ℕ → List (List (EndState M)) → List (List (EndState M)) → List (PostState M) → Type 0
+  HaveEnds depth rows columns posts = (k : ℕ) (p : PostState M) → slice_get posts k ≡ Some p → HasItsEnds depth rows columns k p

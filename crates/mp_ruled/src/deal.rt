@@ -4,6 +4,7 @@ ghost use Rattle.mp_ruled.specs.Posts.{AreNewPosts, AreLinked, StandForNone};
 ghost use Rattle.mp_ruled.specs.Dealing.{lists_of, DealsRow, FitWorkers, HaveEnds};
 
 use crate::ends::ends_between;
+use crate::own::OwnQueue;
 use crate::post::RuledPost;
 use crate::receiver::ReceiverEnd;
 use crate::sender::SenderEnd;
@@ -31,7 +32,7 @@ pub fn ruled_posts<M: Named + Drop, R: Copy + Drop>(
         let row = deal_row(alloc, from, workers, depth, &mut columns)?;
         rows.push_reserved(row);
     }
-    gather(rt, alloc, rows, columns)
+    gather(rt, alloc, depth, rows, columns)
 }
 
 // A list for each worker, with no ends.
@@ -74,13 +75,14 @@ fn deal_row<M: Named + Drop>(
 fn gather<M: Named + Drop, R: Copy + Drop>(
     rt: R,
     alloc: Global,
+    depth: u32,
     rows: Vec<Vec<SenderEnd<M>>>,
     columns: Vec<Vec<ReceiverEnd<M>>>,
 ) -> Result<Vec<RuledPost<M, R>>, AllocError>
     requires many { (length rows.items ≡ length columns.items) × (length rows.items < 2 ^ 32) }
     requires fit { FitWorkers (lists_of rows.items) (lists_of columns.items) }
     ensures many { IfOk result (λ posts. length posts.items ≡ length rows.items) }
-    ensures ends { IfOk result (λ posts. HaveEnds (lists_of rows.items) (lists_of columns.items) posts.items) }
+    ensures ends { IfOk result (λ posts. HaveEnds depth (lists_of rows.items) (lists_of columns.items) posts.items) }
 {
     let workers = rows.len() as u32;
     let mut posts = Vec::with_capacity(alloc, rows.len())?;
@@ -93,7 +95,8 @@ fn gather<M: Named + Drop, R: Copy + Drop>(
         let Some(receivers) = columns.pop_front() else {
             unreachable!()
         };
-        posts.push_reserved(RuledPost::new(rt, worker, senders, receivers));
+        let own = OwnQueue::new(alloc, depth)?;
+        posts.push_reserved(RuledPost::new(rt, worker, senders, receivers, own));
     }
     Ok(posts)
 }

@@ -6,6 +6,7 @@
 mod deal;
 mod ends;
 mod note;
+mod own;
 mod post;
 mod receiver;
 mod rule;
@@ -15,6 +16,7 @@ mod view;
 pub use deal::ruled_posts;
 pub use ends::ends_between;
 pub use note::Note;
+pub use own::OwnQueue;
 pub use post::RuledPost;
 pub use receiver::ReceiverEnd;
 pub use sender::SenderEnd;

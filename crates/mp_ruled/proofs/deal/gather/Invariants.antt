@@ -9,5 +9,5 @@ invariant-loop-worker g l = record {
   workers : l.workers ≡ length l.fn.rows.items;
   rows : l.rows.items ≡ drop l.worker l.fn.rows.items;
   columns : l.columns.items ≡ drop l.worker l.fn.columns.items;
-  ends : HaveEnds (lists_of l.fn.rows.items) (lists_of l.fn.columns.items) l.posts.items;
+  ends : HaveEnds l.fn.depth (lists_of l.fn.rows.items) (lists_of l.fn.columns.items) l.posts.items;
 }
