@@ -1,5 +1,5 @@
 -- What changes add to counts.
-use Rattle.std.proofs.Common.{◌≡◌, ℕ, ◌+◌, ◌<◌, ◌≤◌, Bool, true, false, cond, List, [], ◌∷◌, length, get_or, take, ℤ, pos, ◌+ℤ◌, SFits, w64, refl, sym, ap, subst, ◌∙◌, ⊎_elim, arith}
+use Rattle.std.proofs.Common.{◌≡◌, ℕ, ◌+◌, ◌<◌, ◌≤◌, Bool, true, false, cond, List, [], ◌∷◌, ◌++◌, length, get_or, take, ℤ, pos, ◌+ℤ◌, SFits, w64, refl, sym, ap, subst, ◌∙◌, ⊎_elim, arith}
 use Rattle.std.proofs.lemmas.Int.{ints}
 use Rattle.std.proofs.lemmas.List.{take_more}
 use Rattle.mp_names.specs.declared.locations.Loc.{Loc}
@@ -75,7 +75,7 @@ module _ (old new : CountTable) (change : Change) (others : (at : Loc) (t : ℕ)
 
 -- One more change of a list
 
-more_parts : (new old start so_far here next : ℤ) → new ≡ old +ℤ here → old ≡ start +ℤ so_far → next ≡ so_far +ℤ here → new ≡ start +ℤ next
+pub more_parts : (new old start so_far here next : ℤ) → new ≡ old +ℤ here → old ≡ start +ℤ so_far → next ≡ so_far +ℤ here → new ≡ start +ℤ next
 more_parts new old start so_far here next e f g = omega (arith, ints)
 
 pub more_counted : (changes : List Change) (i : ℕ) (d : Change) (loc : Loc) (t : ℕ) (start old new : ℤ) → i < length changes → new ≡ old +ℤ sum_at (get_or changes i d ∷ []) loc t → old ≡ start +ℤ sum_at (take i changes) loc t → new ≡ start +ℤ sum_at (take (i + 1) changes) loc t
@@ -93,3 +93,22 @@ room_less counts m k h loc t = let e : (1 + m) + k ≡ 1 + (m + k) = omega arith
 
 pub room_none : (counts : CountTable) (k : ℕ) → HasRoomFor (0 + k) counts → HasRoomFor k counts
 room_none counts k h loc t = let e : 0 + k ≡ k = omega arith in subst (λ (n : ℕ). FitsMore n (count_in counts loc t)) e (h loc t)
+
+-- Lists of changes, one after the other
+
+-- so many changes were added, where counts are kept
+pub record Adds (number : ℕ) (changes : List Change) (old new : CountTable) : Type 0 where
+  pub counted : (loc : Loc) (t : ℕ) → IsCounted old loc t → count_in new loc t ≡ count_in old loc t +ℤ sum_at changes loc t
+  pub dropped : (loc : Loc) (t : ℕ) → (IsCounted old loc t → ⊥) → count_in new loc t ≡ count_in old loc t
+  pub same : SamePlaces old new
+  pub room : (k : ℕ) → HasRoomFor (number + k) old → HasRoomFor k new
+
+pub both_added : (m n : ℕ) (first then : List Change) (a b c : CountTable) → Adds m first a b → Adds n then b c → Adds (m + n) (first ++ then) a c
+both_added m n first then a b c one two = record {
+  counted = λ loc t h.
+      more_parts (count_in c loc t) (count_in b loc t) (count_in a loc t) (sum_at first loc t) (sum_at then loc t) (sum_at (first ++ then) loc t)
+      (two.counted loc t (counted_on a b loc t one.same h)) (one.counted loc t h) (sum_at-append first then loc t);
+  dropped = λ loc t h. two.dropped loc t (λ k. h (counted_along a b loc t one.same k)) ∙ one.dropped loc t h;
+  same = record { stages = two.same.stages ∙ one.same.stages; times = two.same.times ∙ one.same.times; low = two.same.low ∙ one.same.low };
+  room = λ k h. two.room k (one.room (n + k) (let e : (m + n) + k ≡ m + (n + k) = omega arith in subst (λ (i : ℕ). HasRoomFor i a) e h));
+}

@@ -1,5 +1,5 @@
 -- The empty logs of all workers are counted, and make a board that is sound.
-use Rattle.std.proofs.Common.{◌≡◌, ℕ, zero, suc, ◌+◌, ◌^◌, ◌≤◌, List, length, get_or, ℤ, ◌+ℤ◌, refl, sym, ap, subst, ◌∙◌, ⊎_elim, arith}
+use Rattle.std.proofs.Common.{◌≡◌, ℕ, zero, suc, ◌+◌, ◌^◌, ◌≤◌, List, get_or, ℤ, ◌+ℤ◌, refl, sym, ap, subst, ◌∙◌, ⊎_elim, arith}
 use Rattle.std.specs.Prelude.{replicate}
 use Rattle.std.proofs.lemmas.Int.{ints}
 use Rattle.std.proofs.lemmas.List.{length-replicate}
@@ -13,7 +13,7 @@ use Rattle.mp_names.specs.Logs.{Log, LogIsLegal, LogsAreLegal, empty_log}
 use Rattle.mp_names.specs.Outlines.{Outline, OutlineIsSound}
 use Rattle.mp_names.proofs.Keeps.{empty_is_legal}
 use Rattle.mp_stamps.specs.declared.seen.Seen.{Seen}
-use Rattle.mp_stamps.specs.Counts.{CountTable, IsCounted, SamePlaces, count_in}
+use Rattle.mp_stamps.specs.Counts.{CountTable, IsCounted, count_in}
 use Rattle.mp_stamps.specs.Places.{place_of}
 use Rattle.mp_stamps.specs.Seen.{seen_at}
 use Rattle.mp_stamps.proofs.Tables.{counted_or_not}
@@ -21,8 +21,7 @@ use Rattle.mp_rows.specs.Entries.{AreContributions, sum_at}
 use Rattle.mp_rows.specs.WorkerLog.{most_names}
 use Rattle.mp_board.specs.Opening.{AreOpened}
 use Rattle.mp_board.specs.Soundness.{BoardIsSound, HoldsAllTimes}
-use Rattle.mp_board.specs.Totals.{HasRoomFor}
-use Rattle.mp_board.proofs.Adding.{counted_along, counted_on}
+use Rattle.mp_board.proofs.Adding.{Adds, counted_along, counted_on}
 use Rattle.mp_board.proofs.Elsewhere.{nothing_elsewhere}
 use Rattle.mp_board.proofs.Recounted.{frontier_of_equal}
 
@@ -31,15 +30,15 @@ next_sum new old more before here e f g = omega (arith, ints)
 
 -- the empty log of one more worker
 
-module _ (o : Outline) (n : ℕ) (counts next : CountTable) (entries : List Change) (few : length entries ≤ 2 ^ 40) (are : AreContributions o n empty_log entries) (h : AreOpened o n counts) (counted : (loc : Loc) (t : ℕ) → IsCounted counts loc t → count_in next loc t ≡ count_in counts loc t +ℤ sum_at entries loc t) (dropped : (loc : Loc) (t : ℕ) → (IsCounted counts loc t → ⊥) → count_in next loc t ≡ count_in counts loc t) (same : SamePlaces counts next) (room : (k : ℕ) → HasRoomFor (length entries + k) counts → HasRoomFor k next) where
+module _ (o : Outline) (n : ℕ) (counts next : CountTable) (number : ℕ) (entries : List Change) (few : number ≤ 2 ^ 40) (are : AreContributions o n empty_log entries) (h : AreOpened o n counts) (adds : Adds number entries counts next) where
   one_opened : AreOpened o (suc n) next
   one_opened = record {
     counted = λ loc t c.
-        let own = counted_along counts next loc t same c in
-        next_sum (count_in next loc t) (count_in counts loc t) (sum_at entries loc t) (sum_below n (λ w. contribution o w empty_log loc t)) (contribution o n empty_log loc t) (counted loc t own) (h.counted loc t own) (are loc t);
-    kept = λ loc. ap (λ (ns : List ℕ). get_or ns (place_of loc) 0) same.low ∙ h.kept loc;
-    not_counted = λ loc t m. let other = λ (c : IsCounted counts loc t). m (counted_on counts next loc t same c) in dropped loc t other ∙ h.not_counted loc t other;
-    room = λ k m. room k (h.room (length entries + k) (omega (arith, m, few)));
+        let own = counted_along counts next loc t adds.same c in
+        next_sum (count_in next loc t) (count_in counts loc t) (sum_at entries loc t) (sum_below n (λ w. contribution o w empty_log loc t)) (contribution o n empty_log loc t) (adds.counted loc t own) (h.counted loc t own) (are loc t);
+    kept = λ loc. ap (λ (ns : List ℕ). get_or ns (place_of loc) 0) adds.same.low ∙ h.kept loc;
+    not_counted = λ loc t m. let other = λ (c : IsCounted counts loc t). m (counted_on counts next loc t adds.same c) in adds.dropped loc t other ∙ h.not_counted loc t other;
+    room = λ k m. adds.room k (h.room (number + k) (omega (arith, m, few)));
   }
 
   pub opened_next : AreOpened o (n + 1) next

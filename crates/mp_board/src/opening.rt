@@ -1,5 +1,5 @@
 //! What stands on a board at first.
-ghost use Rattle.std.specs.Prelude.{◌≡◌, ◌≤◌, ◌^◌, IfOk, length, map, replicate};
+ghost use Rattle.std.specs.Prelude.{◌≡◌, ◌≤◌, ◌+◌, ◌^◌, IfOk, OnOk, map, replicate};
 ghost use Rattle.mp_names.specs.Logs.{empty_log};
 ghost use Rattle.mp_rows.specs.Below.{IsRunOf};
 ghost use Rattle.mp_rows.specs.Below.{times_of};
@@ -7,13 +7,13 @@ ghost use Rattle.mp_rows.specs.Below.{outline_of};
 ghost use Rattle.mp_board.specs.Opening.{AreOpened};
 ghost use Rattle.mp_model.specs.Tables.{table_of};
 
-use crate::totals::add_all;
-use mp_rows::{Change, Job, Log, Naming, Outlined, Query, opening_entries};
+use crate::totals::{add_all, add_records};
+use mp_rows::{Job, Log, Naming, Outlined, Query, opening_entries};
 use mp_stamps::Counts;
 use std::alloc::{AllocError, Global};
 use std::snapshot::Snapshot;
 
-// How many entries the empty log of a worker may have. No memory holds so many.
+// How many entries and records the empty log of a worker may have. No memory holds so many.
 const MOST_ENTRIES: u64 = 1 << 40;
 
 /// The counts of the empty logs of all workers of a run of the job, over the times of the job. `AllocError`: no memory.
@@ -29,21 +29,23 @@ pub(crate) fn opening_counts<Q: Query, J: Naming>(
     let shape = job.shape();
     let mut counts = Counts::over(alloc, shape.stages, job.times())?;
     for worker in 0..shape.workers {
-        let entries = few_entries(opening_entries(alloc, job, worker)?)?;
+        let entries = opening_entries(alloc, job, worker)?;
+        let share = job.share(worker);
+        check_number(entries.len(), share.len())?;
         add_all(&mut counts, &entries);
+        add_records(&mut counts, job.events(), share);
     }
     Ok(counts)
 }
 
-// These entries, where they are not too many.
-fn few_entries(entries: Vec<Change>) -> Result<Vec<Change>, AllocError>
-    ensures same { IfOk result (λ few. few ≡ entries) }
-    ensures few { IfOk result (λ few. length few.items ≤ 2 ^ 40) }
+// `AllocError`: there are too many entries and records.
+fn check_number(entries: usize, records: usize) -> Result<(), AllocError>
+    ensures { OnOk result (entries + records ≤ 2 ^ 40) }
 {
-    if entries.len() as u64 > MOST_ENTRIES {
+    if entries.saturating_add(records) as u64 > MOST_ENTRIES {
         return Err(AllocError);
     }
-    Ok(entries)
+    Ok(())
 }
 
 /// The empty logs of so many workers. `AllocError`: no memory.

@@ -31,7 +31,7 @@ use Rattle.mp_rows.proofs.Sums.{sum_at-append, sum_elsewhere, sum_here}
 use Rattle.mp_rows.proofs.Waiting.{wakes_elsewhere, wakes_here}
 use Rattle.mp_rows.proofs.Wakes.{Below}
 
-three_parts : (x y z cs ss ws a b c : ℤ) → x ≡ y +ℤ ws → y ≡ cs +ℤ ss → cs ≡ a → ss ≡ b → ws ≡ c → a +ℤ b +ℤ c ≡ z → x ≡ z
+three_parts : (x y z cs ss ws a b c : ℤ) → x ≡ y +ℤ ss → y ≡ cs +ℤ ws → cs ≡ a → ss ≡ b → ws ≡ c → a +ℤ b +ℤ c ≡ z → x ≡ z
 three_parts x y z cs ss ws a b c d e f g h i = omega (arith, ints)
 
 first_alone : (a : ℤ) → a +ℤ pos 0 +ℤ pos 0 ≡ a
@@ -92,20 +92,20 @@ module _ {Cell : Type 0} (q : QueryFacts Cell) (job : JobFacts) (w : ℕ) where
     sources_elsewhere : (loc : Loc) (t : ℕ) → same_loc Source loc ≡ false → sum_at (source_entries job.events (share_of q job.events job.shape.workers w)) loc t ≡ pos 0
     sources_elsewhere loc t e = sum_elsewhere Source loc (time_at job.events) 1 t e (share_of q job.events job.shape.workers w)
 
-    -- the entries of control records and of records
-    sent : List Change
-    sent = control_entries job.shape.workers w job.controls ++ source_entries job.events (share_of q job.events job.shape.workers w)
+    -- the entries of records
+    records : List Change
+    records = source_entries job.events (share_of q job.events job.shape.workers w)
 
     Adds : Loc → ℕ → Type 0
-    Adds loc t = sum_at (sent ++ wake_entries wakes) loc t ≡ contribution (outline_of q job) w empty_log loc t
+    Adds loc t = sum_at ((control_entries job.shape.workers w job.controls ++ wake_entries wakes) ++ records) loc t ≡ contribution (outline_of q job) w empty_log loc t
 
     parts : (loc : Loc) (t : ℕ) (a b c : ℤ) → sum_at (control_entries job.shape.workers w job.controls) loc t ≡ a → sum_at (source_entries job.events (share_of q job.events job.shape.workers w)) loc t ≡ b → sum_at (wake_entries wakes) loc t ≡ c → a +ℤ b +ℤ c ≡ contribution (outline_of q job) w empty_log loc t → Adds loc t
-    unfolding Adds sent
+    unfolding Adds records
     parts loc t a b c e f g h =
         let cs = control_entries job.shape.workers w job.controls in
         let ss = source_entries job.events (share_of q job.events job.shape.workers w) in
         let ws = wake_entries wakes in
-        three_parts (sum_at ((cs ++ ss) ++ ws) loc t) (sum_at (cs ++ ss) loc t) (contribution (outline_of q job) w empty_log loc t) (sum_at cs loc t) (sum_at ss loc t) (sum_at ws loc t) a b c (sum_at-append (cs ++ ss) ws loc t) (sum_at-append cs ss loc t) e f g h
+        three_parts (sum_at ((cs ++ ws) ++ ss) loc t) (sum_at (cs ++ ws) loc t) (contribution (outline_of q job) w empty_log loc t) (sum_at cs loc t) (sum_at ss loc t) (sum_at ws loc t) a b c (sum_at-append (cs ++ ws) ss loc t) (sum_at-append cs ws loc t) e f g h
 
     -- wakes are of the first stage
     no_wakes : (j : ℕ) (x : Name) → In x ((outline_of q job).opening (suc j)) → ⊥
@@ -134,7 +134,7 @@ module _ {Cell : Type 0} (q : QueryFacts Cell) (job : JobFacts) (w : ℕ) where
     each OutRoute t = elsewhere OutRoute t refl refl refl
     each OutMail t = elsewhere OutMail t refl refl refl
 
-    -- so these entries, made of what a job gives, are the contributions
-    pub opening_sums : (workers : ℕ) (controls : List Control) (events : List Event) (share : List ℕ) (none some more all : List Change) → workers ≡ job.shape.workers → controls ≡ job.controls → events ≡ job.events → share ≡ share_of q job.events job.shape.workers w → none ≡ [] → some ≡ none ++ control_entries workers w controls → more ≡ some ++ source_entries events share → all ≡ more ++ wake_entries wakes → AreContributions (outline_of q job) w empty_log all
-    unfolding Adds sent
-    opening_sums workers controls events share none some more all ws cs es is n s m a = λ loc t. rw (a, m, s, n, ws, cs, es, is) (each loc t)
+    -- so these entries, made of what a job gives, are the contributions together with those of its records
+    pub opening_sums : (workers : ℕ) (controls : List Control) (none some all : List Change) → workers ≡ job.shape.workers → controls ≡ job.controls → none ≡ [] → some ≡ none ++ control_entries workers w controls → all ≡ some ++ wake_entries wakes → AreContributions (outline_of q job) w empty_log (all ++ source_entries job.events (share_of q job.events job.shape.workers w))
+    unfolding Adds records
+    opening_sums workers controls none some all ws cs n s a = λ loc t. rw (a, s, n, ws, cs) (each loc t)

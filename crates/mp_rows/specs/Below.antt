@@ -5,6 +5,7 @@ pub use Rattle.mp_job.proofs.Members.{map-Contains}
 pub use Rattle.mp_job.proofs.Runs.{run_is_legal, run_shape}
 pub use Rattle.mp_job.specs.Laws.{HasTime}
 pub use Rattle.mp_job.specs.Legal.{JobIsLegal}
+pub use Rattle.mp_job.specs.Records.{share_of}
 pub use Rattle.mp_job.specs.Runs.{IsRunOf}
 pub use Rattle.mp_job.specs.Times.{control_times, times_of, wake_times}
 pub use Rattle.mp_outline.proofs.Found.{found_there}

@@ -1,6 +1,7 @@
 //! What the empty log of a worker adds to the counts.
-ghost use Rattle.std.specs.Prelude.{◌≡◌, ◌++◌, ◌<◌, All, IfOk, OnOk, length};
+ghost use Rattle.std.specs.Prelude.{◌≡◌, ◌++◌, ◌<◌, IfOk, OnOk};
 ghost use Rattle.mp_names.specs.Logs.{empty_log};
+ghost use Rattle.mp_job.specs.Records.{share_of};
 ghost use Rattle.mp_job.specs.Runs.{IsRunOf};
 ghost use Rattle.mp_model.specs.Facts.{JobFacts};
 ghost use Rattle.mp_outline.specs.JobOutline.{outline_of};
@@ -10,13 +11,13 @@ ghost use Rattle.mp_model.specs.Tables.{table_of};
 
 use crate::waking::add_wakes;
 use crate::{Change, Pointstamp};
-use mp_job::{Control, Event, Job, Query};
+use mp_job::{Control, Job, Query};
 use mp_names::Loc;
 use std::alloc::{AllocError, Global};
 
-/// The contributions of the empty log of a worker, whether the job runs paced or not: on worker 0 the control records that
-/// it has to send to each worker; the records of the worker's share; and the wakes that the job begins with, of the bins
-/// whose first owner the worker is. `AllocError`: no memory.
+/// The contributions of the empty log of a worker, whether the job runs paced or not, but for the records of its share, of
+/// which each counts once at its time: on worker 0 the control records that it has to send to each worker; and the wakes that
+/// the job begins with, of the bins whose first owner the worker is. `AllocError`: no memory.
 pub fn opening_entries<Q: Query>(
     alloc: Global,
     job: &Job<Q>,
@@ -24,12 +25,12 @@ pub fn opening_entries<Q: Query>(
 ) -> Result<Vec<Change>, AllocError>
     requires { worker < job.now.shape.workers }
     ensures { (run : JobFacts) → IsRunOf job.now run → let o = outline_of (table_of Q.facts run) run in
-        IfOk result (λ v. AreContributions o worker empty_log v.items) }
+        let share = share_of (table_of Q.facts run) run.events run.shape.workers worker in
+        IfOk result (λ v. AreContributions o worker empty_log (v.items ++ source_entries run.events share)) }
 {
     let shape = job.shape();
     let mut entries = Vec::new(alloc);
     add_controls(job.controls(), shape.workers, worker, &mut entries)?;
-    add_records(job.events(), job.share(worker), &mut entries)?;
     add_wakes(job, worker, &mut entries)?;
     Ok(entries)
 }
@@ -54,24 +55,6 @@ fn add_controls(
                 time: control.time,
             },
             by: receivers,
-        })?;
-    }
-    Ok(())
-}
-
-// Adds the records of the events of these indices.
-fn add_records(events: &[Event], share: &[u32], entries: &mut Vec<Change>) -> Result<(), AllocError>
-    requires { All (λ i. i < length events.now) share.now }
-    ensures { OnOk result (entries.new.items ≡ entries.old.items ++ source_entries events.now share.now) }
-{
-    for index in share {
-        let event = &events[*index as usize];
-        entries.push(Change {
-            at: Pointstamp {
-                loc: Loc::Source,
-                time: event.time,
-            },
-            by: 1,
         })?;
     }
     Ok(())

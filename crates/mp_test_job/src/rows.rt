@@ -48,14 +48,9 @@ fn opens_with(
 #[test]
 fn opening_contributions(rt: HostRuntime) -> Result<(), AllocError> {
     let job = small_job(rt.alloc())?;
-    let entries = [
-        change(Loc::Ctl, 100, 3),
-        change(Loc::Ctl, 15, 3),
-        change(Loc::Source, 30, 1),
-        change(Loc::Source, 20, 1),
-    ];
+    let entries = [change(Loc::Ctl, 100, 3), change(Loc::Ctl, 15, 3)];
     opens_with(&rt, rt.alloc(), &job, 0, &entries)?;
-    opens_with(&rt, rt.alloc(), &job, 1, &[change(Loc::Source, 5, 1)])
+    opens_with(&rt, rt.alloc(), &job, 1, &[])
 }
 
 // Takes the first answer row of auction 7 at a time.

@@ -1,16 +1,11 @@
 use Rattle.std.proofs.Common.{ap, ◌∙◌}
 use Rattle.mp_names.specs.declared.controls.Shape.{Shape}
-use Rattle.mp_model.specs.Facts.{JobFacts}
 use Rattle.mp_model.specs.Tables.{table_of}
-use Rattle.mp_job.specs.Records.{share_of}
 use Rattle.mp_job.proofs.Runs.{run_controls, run_is_legal, run_shape}
 use Rattle.mp_outline.proofs.Soundness.{outline_is_sound}
-use Rattle.mp_rows.proofs.EmptyLog.{opening_sums, share_inside}
+use Rattle.mp_rows.proofs.EmptyLog.{opening_sums}
 use Rattle.mp_rows.proofs.Wakes.{run_wakes}
 use Rattle.mp_rows.proofs.opening.opening_entries.Goals as goal
-
-pub add_records-requires : goal.add_records-requires
-add_records-requires g c = share_inside (table_of g.Q.Query.facts c.args.job.now) c.args.job.now c.args.worker c.events.result.now c.share.result.now c.events.ensures c.share.ensures
 
 pub returns : goal.returns
 returns g c = λ run of.
@@ -21,7 +16,6 @@ returns g c = λ run of.
     let legal = run_is_legal its run of facts c.shape-shape.ensures.legal in
     let sound = outline_is_sound q (laws.has_stages run.values) (laws.posts_are_later run.values) (laws.later_stages_post_nothing run.values) run legal in
     let workers = ap (λ (s : Shape). s.workers) (c.shape-shape.ensures.shape ∙ run_shape its run of) in
-    let share = c.share.ensures ∙ ap (λ (f : JobFacts). share_of (table_of facts f) f.events f.shape.workers c.args.worker) of in
     let added = c.in_ok-add_wakes.ensures in
     let own = run_wakes facts its run of c.args.worker added.0 added.1 in
-    opening_sums q run c.args.worker sound legal added.0 own _ _ _ _ _ _ _ _ workers (c.controls.ensures ∙ run_controls its run of) (c.events.ensures ∙ ap (λ (f : JobFacts). f.events) of) share c.new-entries.ensures.items c.in_ok-add_controls.ensures c.in_ok-add_records.ensures added.2
+    opening_sums q run c.args.worker sound legal added.0 own _ _ _ _ _ workers (c.controls.ensures ∙ run_controls its run of) c.new-entries.ensures.items c.in_ok-add_controls.ensures added.2
