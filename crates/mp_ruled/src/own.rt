@@ -1,5 +1,5 @@
 //! The messages of a worker to itself.
-ghost use Rattle.std.specs.Prelude.{◌≡◌, ◌<◌, ◌∷◌, [], ◌++◌, true, length, IfErr, IfNone, IfOk, IfSome, OnErr, OnOk};
+ghost use Rattle.std.specs.Prelude.{◌≡◌, ◌↔◌, ◌<◌, ◌∷◌, [], ◌++◌, IsTrue, length, IfErr, IfNone, IfOk, IfSome, OnErr, OnOk};
 
 use mp_mailbox::Full;
 use std::alloc::{AllocError, Global};
@@ -46,7 +46,7 @@ impl<M: Drop> OwnQueue<M> {
 
     /// Whether no message waits.
     pub(crate) fn is_empty(&self) -> bool
-        ensures { result ≡ true → self.now.waiting ≡ [] }
+        ensures { IsTrue result ↔ (self.now.waiting ≡ []) }
     {
         self.waiting.is_empty()
     }
